@@ -5,4 +5,5 @@ pub mod Outcomes
 pub mod Texts
 pub mod ReadBack
 pub mod Designs
+pub mod Stops
 pub mod Words
