@@ -34,5 +34,9 @@ pub(crate) fn copy_within(bytes: &[u8], most: usize, into: &mut Vec<u8>) -> Resu
     if into.extend_from_slice(part).is_err() {
         return Err(ShelfStop::OutOfMemory);
     }
-    if is_long { Err(ShelfStop::TooLong) } else { Ok(()) }
+    if is_long {
+        Err(ShelfStop::TooLong)
+    } else {
+        Ok(())
+    }
 }

@@ -51,7 +51,12 @@ impl<R: Files> Shelf for FileShelf<R> {
 }
 
 /// Reads the file at a path, or the first `most + 1` bytes of it where it has more than `most`.
-fn read_file<R: Files>(files: &R, path: &str, most: usize, into: &mut Vec<u8>) -> Result<(), ShelfStop>
+fn read_file<R: Files>(
+    files: &R,
+    path: &str,
+    most: usize,
+    into: &mut Vec<u8>,
+) -> Result<(), ShelfStop>
     requires empty { into.old.items ≡ [] }
     requires most { most < 2 ^ 31 }
     ensures within { OnOk result (vec_len into.new ≤ most) }

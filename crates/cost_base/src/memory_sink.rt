@@ -28,7 +28,11 @@ impl MemorySink {
     /// # Errors
     ///
     /// `OutOfMemory` where the room got no memory.
-    pub fn new(alloc: Global, room: usize, fail: Vec<(u64, usize)>) -> Result<MemorySink, OutOfMemory>
+    pub fn new(
+        alloc: Global,
+        room: usize,
+        fail: Vec<(u64, usize)>,
+    ) -> Result<MemorySink, OutOfMemory>
         ensures got { IfOk result (λ sink. ⟦<MemorySink as Sink>⟧.got sink ≡ Some []) }
         ensures faults { IfOk result (λ sink. ⟦<MemorySink as Sink>⟧.faults sink ≡ 0) }
         ensures room { IfOk result (λ sink. sink.room ≡ room) }
