@@ -36,7 +36,15 @@ impl<R: Files> Shelf for FileShelf<R> {
 
     ghost faults = { λ shelf name. times shelf.failed.names.items name };
 
-    fn take(&mut self, name: &str, most: usize, into: &mut Vec<u8>) -> Result<(), ShelfStop> {
+    #[tactic(auto, using(crate::proofs::Shelves::noted))]
+    fn take(&mut self, name: &str, most: usize, into: &mut Vec<u8>) -> Result<(), ShelfStop>
+        requires empty { into.old.items ≡ [] }
+        requires most { most < 2 ^ 31 }
+        ensures within { OnOk result (vec_len into.new ≤ most) }
+        ensures cut { IsErrOf result ShelfStop.TooLong → vec_len into.new ≡ most + 1 }
+        ensures refused { OnErr result (vec_len into.new ≤ most + 1) }
+        ensures faults { CountsFaults (times self.old.failed.names.items) (times self.new.failed.names.items) name.now result }
+    {
         let Ok(copy) = self.failed.make_room(name.as_bytes()) else {
             return Err(ShelfStop::OutOfMemory);
         };

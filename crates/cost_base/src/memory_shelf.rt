@@ -69,6 +69,7 @@ impl Shelf for MemoryShelf {
 
     ghost faults = { λ shelf name. times shelf.failed.names.items name };
 
+    #[tactic(auto, using(crate::proofs::Shelves::noted))]
     fn take(&mut self, name: &str, most: usize, into: &mut Vec<u8>) -> Result<(), ShelfStop>
         requires empty { into.old.items ≡ [] }
         requires most { most < 2 ^ 31 }

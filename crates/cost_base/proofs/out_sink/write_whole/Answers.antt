@@ -1,4 +1,4 @@
-use Rattle.std.proofs.Common.{arith, ◌≡◌, ◌≤◌, ◌+◌, ◌-◌, length, take, drop}
+use Rattle.std.proofs.Common.{arith, ◌≡◌, ◌-◌, length, take, drop}
 use Rattle.std.proofs.lemmas.Grind.{common_steps}
 use Rattle.cost_base.proofs.Writes.{appends_more}
 use Rattle.cost_base.proofs.out_sink.write_whole.Goals as goal

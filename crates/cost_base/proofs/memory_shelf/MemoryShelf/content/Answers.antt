@@ -1,4 +1,4 @@
-use Rattle.std.proofs.Common.{◌≡◌, sym, ◌∙◌, inl}
+use Rattle.std.proofs.Common.{sym, ◌∙◌, inl}
 use Rattle.cost_base.proofs.memory_shelf.MemoryShelf.content.Goals as goal
 
 pub returns-then-contains-clause-none : goal.returns-then-contains-clause-none
