@@ -13,7 +13,7 @@ line_end false = []
 -- a text is its first line, that line's end and the rest; only the last line may lack an LF
 pub record IsFirstLine (bytes line : List ℕ) (ended : Bool) (left : List ℕ) : Type 0 where
   pub first : lines bytes ≡ line ∷ lines left
-  pub parts : bytes ≡ line ++ line_end ended ++ left
+  pub parts : bytes ≡ line ++ (line_end ended ++ left)
   pub last : ended ≡ false → left ≡ []
   pub shorter : length line + length left ≤ length bytes
   pub smaller : length left < length bytes

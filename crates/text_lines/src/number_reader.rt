@@ -1,5 +1,5 @@
 //! Numbers and addresses in words.
-ghost use Rattle.std.specs.Prelude.{◌≡◌, ◌∷◌, [], ◌<◌, ◌≤◌, ◌≢◌, ◌==◌, ℕ, length, MatchOption, true, false};
+ghost use Rattle.std.specs.Prelude.{◌≡◌, ◌∷◌, [], ◌<◌, ◌≤◌, ◌≢◌, ◌==◌, ℕ, length, MatchOption, IfSome, ◌++◌, true, false};
 ghost use Rattle.std.specs.List.{list_all};
 ghost use Rattle.cost_base.specs.Decimal.{is_digit, decimal_value};
 ghost use Rattle.text_lines.specs.Numbers as definition;
@@ -33,7 +33,7 @@ fn digits_value(text: &[u8]) -> Option<u64>
 {
     let mut value = 0;
     for byte in text {
-        if !(b'0'..=b'9').contains(byte) {
+        if !byte.is_ascii_digit() {
             return None;
         }
         value = value * 10 + u64::from(*byte - b'0');
@@ -67,9 +67,9 @@ pub fn quad(text: &[u8]) -> Option<u32>
     let (first, rest) = cut(text, b'.')?;
     let (second, rest) = cut(rest, b'.')?;
     let (third, fourth) = cut(rest, b'.')?;
-    if cut(fourth, b'.').is_some() {
+    let None = cut(fourth, b'.') else {
         return None;
-    }
+    };
     let bytes = [octet(first)?, octet(second)?, octet(third)?, octet(fourth)?];
     Some(u32::from_be_bytes(bytes))
 }
@@ -79,9 +79,9 @@ pub fn prefix(text: &[u8]) -> Option<(u32, u8)>
     ensures { result ≡ prefix_pair (definition.prefix text.now) }
 {
     let (address, length) = cut(text, b'/')?;
-    if cut(length, b'/').is_some() {
+    let None = cut(length, b'/') else {
         return None;
-    }
+    };
     let address = quad(address)?;
     let length = number_within(length, 2, 32)?;
     Some((address, length as u8))
