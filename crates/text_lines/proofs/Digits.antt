@@ -1,12 +1,12 @@
 -- Decimal digits.
-use Rattle.std.proofs.Common.{◌≡◌, ◌≢◌, ℕ, zero, suc, ◌+◌, ◌-◌, ◌*◌, ◌/◌, ◌%◌, ◌^◌, ◌<◌, ◌≤◌, List, [], ◌∷◌, ◌++◌, length, map, get_or, take, set, eqb, leb, ◌&&◌, true, false, refl, sym, ap, ◌∙◌, arith, add-one, length-append}
+use Rattle.std.proofs.Common.{◌≡◌, ◌≢◌, ℕ, zero, suc, ◌+◌, ◌-◌, ◌*◌, ◌/◌, ◌%◌, ◌^◌, ◌<◌, ◌≤◌, List, [], ◌∷◌, ◌++◌, length, map, get_or, take, drop, take-append-drop, set, eqb, leb, ◌&&◌, true, false, refl, sym, ap, ◌∙◌, arith, add-one, length-append}
 use Rattle.std.proofs.Math.Nat.{pow-suc}
 use Rattle.std.proofs.lemmas.Bool.{ne_eqb, and_parts, leb-true, and_from}
 use Rattle.std.proofs.lemmas.List.{map-append, length-map, take_more, take_more_set}
 use Rattle.std.proofs.lemmas.List.Folds.{list_all-append}
-use Rattle.std.proofs.lemmas.Int.Digits.{number_push, digits_of_step, length-digits_of-le}
+use Rattle.std.proofs.lemmas.Int.Digits.{number_push, digits_of_step, length-digits_of-le, number_after_append, number_after_ge, number_lt}
 use Rattle.std.specs.List.{list_all}
-use Rattle.std.specs.Int.Digits.{digits_of, number_from_digits}
+use Rattle.std.specs.Int.Digits.{digits_of, number_from_digits, number_from_digits_after, AllBelowBase}
 use Rattle.cost_base.specs.Decimal.{is_digit, decimal_value, decimal}
 
 -- one more digit
@@ -61,3 +61,22 @@ pub digit_put : (room front : List ℕ) (i n : ℕ) → i < length room → take
 digit_put room front i n within before =
     let digit : 48 + n % 10 ≡ n % 10 + 48 = omega arith in
     take_more_set room i (48 + n % 10) within ∙ ap (λ bytes. bytes ++ (48 + n % 10) ∷ []) before ∙ ap (λ d. front ++ d ∷ []) digit
+
+-- digits to the left make no more than the whole
+pub decimal_value-take-le : (s : List ℕ) (i : ℕ) → decimal_value (take i s) ≤ decimal_value s
+decimal_value-take-le s i =
+    let whole : decimal_value s ≡ number_from_digits_after 10 (decimal_value (take i s)) (map (λ c. c - 48) (drop i s)) =
+        ap decimal_value (sym (take-append-drop i s)) ∙ ap (number_from_digits 10) (map-append (λ c. c - 48) (take i s) (drop i s))
+        ∙ number_after_append 10 0 (map (λ c. c - 48) (take i s)) (map (λ c. c - 48) (drop i s)) in
+    omega (arith, whole, number_after_ge 10 (decimal_value (take i s)) (map (λ c. c - 48) (drop i s)) (omega arith))
+
+-- digits have a value below the power of their number
+pub decimal_value-lt : (s : List ℕ) → list_all is_digit s ≡ true → decimal_value s < 10 ^ length s
+decimal_value-lt s digits = omega (arith, ap (λ n. 10 ^ n) (length-map s (λ c. c - 48)), number_lt 10 (map (λ c. c - 48) s) (below s digits))
+  where
+    below : (s : List ℕ) → list_all is_digit s ≡ true → AllBelowBase 10 (map (λ c. c - 48) s)
+    below [] digits = tt
+    below (c ∷ cs) digits =
+        let parts : (is_digit c ≡ true) × (list_all is_digit cs ≡ true) = and_parts (is_digit c) (list_all is_digit cs) digits in
+        let high : c ≤ 57 = leb-true c 57 (and_parts (leb 48 c) (leb c 57) parts.0).1 in
+        (omega arith, below cs parts.1)

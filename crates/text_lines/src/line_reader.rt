@@ -1,5 +1,6 @@
 //! Reading a text line by line.
 ghost use Rattle.std.specs.Prelude.{◌≡◌, ◌==◌, ◌-◌, ◌^◌, ◌<◌, ◌≢◌, ◌↔◌, true, [], length, IsNone, IfNone, IfSome, MatchResult};
+ghost use Rattle.text_lines.specs.Lines as definition;
 ghost use Rattle.text_lines.specs.Reading.{IsFirstLine, IsLineRead, IsLongLine, IsNumbered, IsNumberedLong};
 
 use crate::kinds::starts_with_blank;
@@ -92,6 +93,16 @@ impl<'a> Lines<'a> {
         ensures { result ≡ (length self.now.bytes == 0) }
     {
         self.left.is_empty()
+    }
+}
+
+/// Whether the last line of a text ends with an LF; true of a text without lines.
+pub fn ends_line(text: &[u8]) -> bool
+    ensures { result ≡ definition.ends_line text.now }
+{
+    match text {
+        [.., last] => *last == b'\n',
+        [] => true,
     }
 }
 

@@ -1,7 +1,7 @@
 //! Numbers and addresses in words.
-ghost use Rattle.std.specs.Prelude.{◌≡◌, ◌∷◌, [], ◌<◌, ◌≤◌, ◌≢◌, ◌==◌, ℕ, length, MatchOption, IfSome, ◌++◌, true, false};
+ghost use Rattle.std.specs.Prelude.{◌≡◌, ◌∷◌, [], ◌^◌, ◌<◌, ◌≤◌, ◌≢◌, ◌==◌, ℕ, length, MatchOption, IfSome, ◌++◌, true, false};
 ghost use Rattle.std.specs.List.{list_all};
-ghost use Rattle.cost_base.specs.Decimal.{is_digit, decimal_value};
+ghost use Rattle.cost_base.specs.Decimal.{is_digit, decimal_value, decimal};
 ghost use Rattle.text_lines.specs.Numbers as definition;
 ghost use Rattle.text_lines.specs.Reads.{prefix_pair};
 
@@ -14,6 +14,19 @@ pub fn number(text: &[u8], greatest: u64) -> Option<u64>
     number_within(text, 10, greatest)
 }
 
+/// A number as texts are printed: decimal digits without leading zeros, at most `greatest`; None exactly off that.
+pub fn printed_number(text: &[u8], greatest: u128) -> Option<u128>
+    ensures { MatchOption result ((n : ℕ) → n ≤ greatest → text.now ≢ decimal n) (λ n. (text.now ≡ decimal n) × (n ≤ greatest)) }
+{
+    if let [] | [b'0', _, ..] = text {
+        return None;
+    }
+    match digits_value(text) {
+        Some(value) if value <= greatest => Some(value),
+        _ => None,
+    }
+}
+
 /// A number of at least one and at most `most` digits, at most `greatest`.
 fn number_within(text: &[u8], most: usize, greatest: u64) -> Option<u64>
     requires { most ≤ 10 }
@@ -22,21 +35,23 @@ fn number_within(text: &[u8], most: usize, greatest: u64) -> Option<u64>
     if text.is_empty() || text.len() > most {
         return None;
     }
-    let value = digits_value(text)?;
-    if value <= greatest { Some(value) } else { None }
+    match digits_value(text) {
+        Some(value) if value <= u128::from(greatest) => Some(value as u64),
+        _ => None,
+    }
 }
 
-/// The value of decimal digits; None where some byte is no digit.
-fn digits_value(text: &[u8]) -> Option<u64>
-    requires { length text.now ≤ 10 }
-    ensures { MatchOption result (list_all is_digit text.now ≡ false) (λ value. (list_all is_digit text.now ≡ true) × (value ≡ decimal_value text.now)) }
+/// The value of decimal digits; None where some byte is no digit, or the value is 2^128 or more.
+fn digits_value(text: &[u8]) -> Option<u128>
+    ensures { MatchOption result (list_all is_digit text.now ≡ true → 2 ^ 128 ≤ decimal_value text.now) (λ value. (list_all is_digit text.now ≡ true) × (value ≡ decimal_value text.now)) }
 {
-    let mut value = 0;
+    let mut value: u128 = 0;
     for byte in text {
         if !byte.is_ascii_digit() {
             return None;
         }
-        value = value * 10 + u64::from(*byte - b'0');
+        let digit = u128::from(*byte - b'0');
+        value = value.checked_mul(10)?.checked_add(digit)?;
     }
     Some(value)
 }
