@@ -3,6 +3,7 @@ ghost use Rattle.std.specs.Prelude.{◌≡◌, ◌∷◌, [], ◌^◌, ◌<◌, 
 ghost use Rattle.std.specs.List.{list_all};
 ghost use Rattle.cost_base.specs.Decimal.{is_digit, decimal_value, decimal};
 ghost use Rattle.text_lines.specs.Numbers as definition;
+ghost use Rattle.text_lines.specs.Reads as reads;
 ghost use Rattle.text_lines.specs.Reads.{prefix_pair};
 
 use memchr::memchr;
@@ -18,12 +19,23 @@ pub fn number(text: &[u8], greatest: u64) -> Option<u64>
 pub fn printed_number(text: &[u8], greatest: u128) -> Option<u128>
     ensures { MatchOption result ((n : ℕ) → n ≤ greatest → text.now ≢ decimal n) (λ n. (text.now ≡ decimal n) × (n ≤ greatest)) }
 {
-    if let [] | [b'0', _, ..] = text {
+    if !begins_as_printed(text) {
         return None;
     }
     match digits_value(text) {
         Some(value) if value <= greatest => Some(value),
         _ => None,
+    }
+}
+
+/// Whether a text has a byte, and a leading zero only where it is the only byte.
+fn begins_as_printed(text: &[u8]) -> bool
+    ensures { result ≡ reads.begins_as_printed text.now }
+{
+    match text {
+        [] => false,
+        [_] => true,
+        [first, ..] => *first != b'0',
     }
 }
 
