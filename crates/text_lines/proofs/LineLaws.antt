@@ -92,8 +92,8 @@ lines-whole (c ∷ cs) = cases (eqb c 10) refl (lines cs) (lines-whole cs)
     cases false is [] ones = All-cons IsOneLine (c ∷ []) [] (All-cons (λ x. eqb x 10 ≡ false) c [] is (All-nil (λ x. eqb x 10 ≡ false))) ones
     cases false is (line ∷ rest) ones =
         All-cons IsOneLine (c ∷ line) rest
-          (All-cons (λ x. eqb x 10 ≡ false) c line is (All-head IsOneLine line rest ones))
-          (All-tail IsOneLine line rest ones)
+        (All-cons (λ x. eqb x 10 ≡ false) c line is (All-head IsOneLine line rest ones))
+        (All-tail IsOneLine line rest ones)
 
 -- the first line holds no LF
 pub line-whole : (s line : List ℕ) (rest : List (List ℕ)) → lines s ≡ line ∷ rest → IsOneLine line

@@ -21,11 +21,11 @@ pub number_within-decimal : (most greatest n : ℕ) → 1 ≤ most → n < 10 ^ 
 number_within-decimal most greatest n some small bound =
     let d = decimal n in
     cond-true (leb 1 (length d) && leb (length d) most && list_all is_digit d && leb (decimal_value d) greatest) (Some (decimal_value d)) None
-      (and_from (leb 1 (length d) && leb (length d) most && list_all is_digit d) (leb (decimal_value d) greatest)
-        (and_from (leb 1 (length d) && leb (length d) most) (list_all is_digit d)
-          (and_from (leb 1 (length d)) (leb (length d) most) (le-leb 1 (length d) (length-decimal-some n)) (le-leb (length d) most (length-decimal-le most n some small)))
-          (decimal-digits n))
-        (le-leb (decimal_value d) greatest (omega (arith, decimal_value-decimal n))))
+    (and_from (leb 1 (length d) && leb (length d) most && list_all is_digit d) (leb (decimal_value d) greatest)
+    (and_from (leb 1 (length d) && leb (length d) most) (list_all is_digit d)
+    (and_from (leb 1 (length d)) (leb (length d) most) (le-leb 1 (length d) (length-decimal-some n)) (le-leb (length d) most (length-decimal-le most n some small)))
+    (decimal-digits n))
+    (le-leb (decimal_value d) greatest (omega (arith, decimal_value-decimal n))))
     ∙ ap Some (decimal_value-decimal n)
 
 -- a number that is printed is read back

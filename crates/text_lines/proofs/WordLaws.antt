@@ -44,7 +44,7 @@ join-line [] ones = All-nil (λ c. eqb c 10 ≡ false)
 join-line (w ∷ []) ones = word-line w (All-head IsOneWord w [] ones)
 join-line (w ∷ v ∷ vs) ones =
     All-append (λ c. eqb c 10 ≡ false) w (32 ∷ join_with_byte 32 (v ∷ vs)) (word-line w (All-head IsOneWord w (v ∷ vs) ones))
-      (All-cons (λ c. eqb c 10 ≡ false) 32 (join_with_byte 32 (v ∷ vs)) refl (join-line (v ∷ vs) (All-tail IsOneWord w (v ∷ vs) ones)))
+    (All-cons (λ c. eqb c 10 ≡ false) 32 (join_with_byte 32 (v ∷ vs)) refl (join-line (v ∷ vs) (All-tail IsOneWord w (v ∷ vs) ones)))
 
 -- the words of a line are words
 pub words-whole : (s : List ℕ) → IsOneLine s → All IsOneWord (words s)
@@ -55,14 +55,15 @@ words-whole (c ∷ cs) one =
   where
     alone : is_blank c ≡ false → eqb c 10 ≡ false → IsOneWord (c ∷ [])
     alone solid other = record { some = λ e. cc; whole = All-cons (λ x. ends_a_word x ≡ false) c [] (or_from (is_blank c) (eqb c 10) solid other) (All-nil (λ x. ends_a_word x ≡ false)) }
+
     cases : (b : Bool) → is_blank c ≡ b → eqb c 10 ≡ false → (e : Bool) (ws : List (List ℕ)) → All IsOneWord ws → All IsOneWord (cond b ws (cond e ((c ∷ []) ∷ ws) (grow c ws)))
     cases true is other e ws ones = ones
     cases false is other true ws ones = All-cons IsOneWord (c ∷ []) ws (alone is other) ones
     cases false is other false [] ones = All-cons IsOneWord (c ∷ []) [] (alone is other) ones
     cases false is other false (w ∷ ws) ones =
         All-cons IsOneWord (c ∷ w) ws
-          (record { some = λ e. cc; whole = All-cons (λ x. ends_a_word x ≡ false) c w (or_from (is_blank c) (eqb c 10) is other) (All-head IsOneWord w ws ones).whole })
-          (All-tail IsOneWord w ws ones)
+        (record { some = λ e. cc; whole = All-cons (λ x. ends_a_word x ≡ false) c w (or_from (is_blank c) (eqb c 10) is other) (All-head IsOneWord w ws ones).whole })
+        (All-tail IsOneWord w ws ones)
 
 digits-whole : (ds : List ℕ) → list_all is_digit ds ≡ true → All (λ c. ends_a_word c ≡ false) ds
 digits-whole [] digits = All-nil (λ c. ends_a_word c ≡ false)
@@ -70,12 +71,12 @@ digits-whole (c ∷ cs) digits =
     let parts : (is_digit c ≡ true) × (list_all is_digit cs ≡ true) = and_parts (is_digit c) (list_all is_digit cs) digits in
     let low : 48 ≤ c = leb-true 48 c (and_parts (leb 48 c) (leb c 57) parts.0).0 in
     All-cons (λ x. ends_a_word x ≡ false) c cs
-      (or_from (is_blank c) (eqb c 10)
-        (or_from (eqb c 32 || eqb c 9) (eqb c 13)
-          (or_from (eqb c 32) (eqb c 9) (ne_eqb c 32 (λ e. omega arith)) (ne_eqb c 9 (λ e. omega arith)))
-          (ne_eqb c 13 (λ e. omega arith)))
-        (ne_eqb c 10 (λ e. omega arith)))
-      (digits-whole cs parts.1)
+    (or_from (is_blank c) (eqb c 10)
+    (or_from (eqb c 32 || eqb c 9) (eqb c 13)
+    (or_from (eqb c 32) (eqb c 9) (ne_eqb c 32 (λ e. omega arith)) (ne_eqb c 9 (λ e. omega arith)))
+    (ne_eqb c 13 (λ e. omega arith)))
+    (ne_eqb c 10 (λ e. omega arith)))
+    (digits-whole cs parts.1)
 
 -- the digits of a number are one word
 pub decimal-word : (n : ℕ) → IsOneWord (decimal n)
