@@ -1,10 +1,10 @@
 //! Graphs: how one is made, read and copied.
 
 ghost use Rattle.std.specs.Prelude.{◌≡◌, ℕ, ◌<◌, ◌≤◌, ◌^◌, ◌++◌, List, [], ◌∷◌, All, IfOk, OnErr, OnOk, length, replicate, slice_index_or, vec_len};
-ghost use Rattle.area_graph.specs.Area.{FitsGraph, edges_out, edges_in};
+ghost use Rattle.area_graph.specs.Area.{FitsGraph, HasMetrics, IsMetric, edges_out, edges_in};
 ghost use Rattle.area_graph.specs.Adjacency.{end_on, listed_below};
 
-use crate::{Edge, Graph, Vertex};
+use crate::{Edge, Graph, Price, Vertex};
 use cost_base::{Listed, OutOfMemory};
 use std::alloc::Global;
 use std::marker::Model;
@@ -93,6 +93,24 @@ fn edges_on(alloc: Global, vertices: &[Vertex], edges: &[Edge], side: Side) -> R
     Ok(lists)
 }
 
+/// Each fixed price is within its 16 bits: a fact for proofs alone.
+fn hold_metrics(edges: &[Edge])
+    ensures { All (λ edge. IsMetric edge.price) edges.now }
+{
+    for edge in edges {
+        is_metric(edge.price);
+    }
+}
+
+fn is_metric(price: Price)
+    ensures { IsMetric price }
+{
+    match price {
+        Price::Fixed(_cost) => {}
+        Price::Var(_) | Price::Zero => {}
+    }
+}
+
 impl Graph {
     /// A graph of vertices and edges in their order. It takes time in proportion to their number.
     pub fn new(alloc: Global, vertices: Vec<Vertex>, edges: Vec<Edge>) -> Result<Graph, OutOfMemory>
@@ -101,6 +119,7 @@ impl Graph {
     {
         let out = edges_on(alloc, vertices.as_slice(), edges.as_slice(), Side::Out)?;
         let into = edges_on(alloc, vertices.as_slice(), edges.as_slice(), Side::Into)?;
+        hold_metrics(edges.as_slice());
         Ok(Graph {
             vertices: Listed::from_items(vertices),
             edges: Listed::from_items(edges),
@@ -122,6 +141,15 @@ impl Graph {
             Err(_) => return Err(OutOfMemory),
         };
         Graph::new(alloc, vertices, edges)
+    }
+
+    /// A law of each graph, which takes no time: it meets the conditions of `fits_graph`, and each fixed price is within
+    /// the 16 bits of an interface cost (RFC 2328, A.4.3).
+    pub fn keeps_conditions(&self)
+        ensures fits { FitsGraph self.now }
+        ensures metrics { HasMetrics self.now }
+    {
+        let _ = &self.edges;
     }
 
     /// The vertices: each router, then each transit subnet.
