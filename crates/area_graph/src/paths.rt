@@ -89,7 +89,8 @@ fn misses(graph: &Graph, start: u32, edges: &[u32], vertex: u32) -> bool
     true
 }
 
-fn lacks(gone: &[u32], edge: u32) -> bool
+/// Whether an edge isn't among those that are gone.
+pub(crate) fn lacks(gone: &[u32], edge: u32) -> bool
     ensures { IsTrue result ↔ Lacks gone.now edge }
 {
     for other in gone {
