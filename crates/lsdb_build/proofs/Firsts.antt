@@ -1,5 +1,5 @@
 -- The first place that a check meets, one step of a loop on.
-use Rattle.std.proofs.Common.{◌≡◌, ℕ, ◌+◌, ◌<◌, ◌++◌, Bool, true, false, cond, ◌&&◌, eqb, List, [], ◌∷◌, Option, Some, None, length, get_or, take, drop, reverse, count_by, refl, sym, ap, ◌∙◌, subst, arith, zero-add, add-zero, map}
+use Rattle.std.proofs.Common.{◌≡◌, ℕ, ◌+◌, ◌<◌, ◌++◌, Bool, true, false, cond, ◌&&◌, not, eqb, List, [], ◌∷◌, Option, Some, None, length, get_or, take, drop, reverse, count_by, refl, sym, ap, ◌∙◌, subst, arith, zero-add, add-zero, map}
 use Rattle.std.specs.List.{list_any}
 use Rattle.std.specs.Cmp.Lexicographic.{pointwise}
 use Rattle.std.proofs.lemmas.List.{at_drop_more, take_more, reverse-append, map-append}
@@ -8,7 +8,7 @@ use Rattle.cost_base.specs.Lists.{same_bytes}
 use Rattle.interface_model.specs.Records.{Router}
 use Rattle.lsdb_build.specs.declared.checks.Check.{Check}
 use Rattle.lsdb_build.specs.declared.checks.Check.TheVariants.{SameRouterTwice, AddressTwice, TypeMismatch, CrowdedLink, OverlapPrefix}
-use Rattle.lsdb_build.specs.Neighbours.{Port, shares_subnet, is_broadcast}
+use Rattle.lsdb_build.specs.Neighbours.{Port, shares_subnet, is_broadcast, first_members}
 use Rattle.lsdb_build.specs.Topology.{first_where, second_of_name}
 use Rattle.lsdb_build.specs.Checks.{meets}
 
@@ -44,6 +44,13 @@ first_where-more f xs i p within is =
     at_drop_more (first_where f (reverse (take i xs))) xs i p within
     ∙ ap (λ q. cond (f (reverse (take i xs)) q) (Some q) (first_where f (q ∷ reverse (take i xs)) (drop (i + 1) xs))) (sym is)
     ∙ ap (λ before. cond (f (reverse (take i xs)) p) (Some p) (first_where f before (drop (i + 1) xs))) (reverse_more xs i p within is)
+
+pub first_members-more : (xs : List Port) (i : ℕ) (p : Port) → i < length xs → p ≡ get_or xs i p → first_members (reverse (take i xs)) (drop i xs) ≡ cond (is_broadcast p && not (list_any (shares_subnet p) (take i xs))) (p ∷ first_members (reverse (take (i + 1) xs)) (drop (i + 1) xs)) (first_members (reverse (take (i + 1) xs)) (drop (i + 1) xs))
+first_members-more xs i p within is =
+    at_drop_more (first_members (reverse (take i xs))) xs i p within
+    ∙ ap (λ (q : Port). cond (is_broadcast q && not (list_any (shares_subnet q) (reverse (take i xs)))) (q ∷ first_members (q ∷ reverse (take i xs)) (drop (i + 1) xs)) (first_members (q ∷ reverse (take i xs)) (drop (i + 1) xs))) (sym is)
+    ∙ ap (λ b. cond (is_broadcast p && not b) (p ∷ first_members (p ∷ reverse (take i xs)) (drop (i + 1) xs)) (first_members (p ∷ reverse (take i xs)) (drop (i + 1) xs))) (list_any-reverse (shares_subnet p) (take i xs))
+    ∙ ap (λ before. cond (is_broadcast p && not (list_any (shares_subnet p) (take i xs))) (p ∷ first_members before (drop (i + 1) xs)) (first_members before (drop (i + 1) xs))) (reverse_more xs i p within is)
 
 -- a test of what a function gives
 list_any-map : {X Y : Type 0} (p : Y → Bool) (f : X → Y) (xs : List X) → list_any p (map f xs) ≡ list_any (λ x. p (f x)) xs
