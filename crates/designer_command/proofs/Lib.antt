@@ -1,1 +1,2 @@
 pub mod PresentCosts
+pub mod CheapestWith
