@@ -35,17 +35,19 @@ firsts-push before [] head = cases (list_any (same_bytes head.0) before)
     cases : (b : Bool) → cond b [] (head ∷ []) ≡ unless_known (b || false) head
     cases true = refl
     cases false = refl
-firsts-push before (first ∷ heads) head = cases (list_any (same_bytes first.0) before)
+firsts-push before (first ∷ heads) head = cases (list_any (same_bytes first.0) before) (firsts-push before heads head) (firsts-push (first.0 ∷ before) heads head)
   where
     cases : (b : Bool) →
+        firsts before (heads ++ head ∷ []) ≡ firsts before heads ++ unless_known (list_any (same_bytes head.0) before || is_headed head.0 (firsts before heads)) head →
+        firsts (first.0 ∷ before) (heads ++ head ∷ []) ≡ firsts (first.0 ∷ before) heads ++ unless_known (list_any (same_bytes head.0) (first.0 ∷ before) || is_headed head.0 (firsts (first.0 ∷ before) heads)) head →
         cond b (firsts before (heads ++ head ∷ [])) (first ∷ firsts (first.0 ∷ before) (heads ++ head ∷ []))
         ≡ cond b (firsts before heads) (first ∷ firsts (first.0 ∷ before) heads)
         ++ unless_known (list_any (same_bytes head.0) before || is_headed head.0 (cond b (firsts before heads) (first ∷ firsts (first.0 ∷ before) heads))) head
-    cases true = firsts-push before heads head
-    cases false =
+    cases true known new = known
+    cases false known new =
         ap (λ rest. first ∷ rest)
-        (firsts-push (first.0 ∷ before) heads head
-        ∙ ap (λ known. firsts (first.0 ∷ before) heads ++ unless_known known head)
+        (new
+        ∙ ap (λ found. firsts (first.0 ∷ before) heads ++ unless_known found head)
           (sym (or_swap (list_any (same_bytes head.0) before) (same_bytes head.0 first.0) (is_headed head.0 (firsts (first.0 ∷ before) heads)))))
 
 -- the first heads of a file with one more line
@@ -62,8 +64,8 @@ first_heads-push file line = ap (firsts []) (opened-push file line) ∙ cases (o
 
 -- a name among those of some heads
 pub is_headed-contains : (name : List ℕ) (heads : List (List ℕ × ℕ)) → Contains (map (λ head. head.0) heads) name → is_headed name heads ≡ true
-is_headed-contains name heads (k, within, same) =
-    names heads ∙ list_any_at (same_bytes name) (map (λ head. head.0) heads) k name within (ap (same_bytes name) same ∙ same_bytes-refl name)
+is_headed-contains name heads found =
+    names heads ∙ list_any_at (same_bytes name) (map (λ head. head.0) heads) found.0 name found.1 (ap (same_bytes name) found.2 ∙ same_bytes-refl name)
   where
     names : (hs : List (List ℕ × ℕ)) → is_headed name hs ≡ list_any (same_bytes name) (map (λ head. head.0) hs)
     names [] = refl
