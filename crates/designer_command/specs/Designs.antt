@@ -11,7 +11,7 @@ use Rattle.path_rows.specs.Answers.{AnswerParts, IsValid}
 use Rattle.path_rows.specs.Text.{text}
 use Rattle.designer_command.specs.Jobs.{Job, job_of}
 use Rattle.designer_command.specs.Texts.{Refusal, refused_line, read_fault_line, corner_line, usage}
-use Rattle.designer_command.specs.Outcomes.{Outcome, Untold, Refused, Ready, Design, outcome}
+use Rattle.designer_command.specs.Outcomes.{Design, outcome, OnReady, OnRefused}
 use Rattle.designer_command.specs.ReadBack.{graph_back, graph_with}
 
 -- The bytes print costs that are what was asked for: they are the text of a valid answer; read back, the costs lie
@@ -25,18 +25,6 @@ pub record IsDesigned (d : Design) (bytes : List ℕ) : Type 0 where
   pub back : graph_back d bytes ≡ graph_with costs d.problem.graph
   pub only : All (λ r. IsOnlyCheapest (graph_back d bytes) (at_costs []) (ends_of r) r.path.edges) d.problem.paths
   pub best : IsBest d.problem costs
-
--- the shelf doesn't tell a file; or the input is well-formed and P holds of it
-abbrev pub OnReady : Outcome → (Design → Type 0) → Type 0
-OnReady Untold P = Unit {0}
-OnReady (Refused r) P = ⊥
-OnReady (Ready d) P = P d
-
--- the shelf doesn't tell a file; or the input is refused and P holds of the refusal
-abbrev pub OnRefused : Outcome → (Refusal → Type 0) → Type 0
-OnRefused Untold P = Unit {0}
-OnRefused (Refused r) P = P r
-OnRefused (Ready d) P = ⊥
 
 -- the words name a job, and P holds of it
 abbrev pub OnJob : Option Job → (Job → Type 0) → Type 0

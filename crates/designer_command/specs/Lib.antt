@@ -5,3 +5,4 @@ pub mod Outcomes
 pub mod Texts
 pub mod ReadBack
 pub mod Designs
+pub mod Words

@@ -1,5 +1,5 @@
--- What the files of a job say, read in their order: the request, its lines, each configuration, the topology, resolution.
-use Rattle.std.specs.Prelude.{ℕ, List, [], ◌∷◌, nat_lt, if◌then◌else◌, Option, Some, None, length, map}
+-- What the files of a job say, read in their order: the request, each configuration, the topology, resolution.
+use Rattle.std.specs.Prelude.{ℕ, List, [], ◌∷◌, nat_lt, if◌then◌else◌, Bool, true, false, Option, Some, None, length, map}
 use Rattle.interface_model.specs.Records.{Router}
 use Rattle.config_reader.specs.Configs.{config_of}
 use Rattle.lsdb_build.specs.Graphs.{Database}
@@ -24,16 +24,18 @@ pub record Design : Type 0 where
   pub database : Database
   pub problem : DesignProblem
 
--- a shelf may not tell a file; else the first fault, or none
-pub data Outcome : Type 0 where
-  Untold : Outcome
-  Refused : Refusal → Outcome
-  Ready : Design → Outcome
+-- what is read of files: the shelf doesn't tell one of them; else the first fault, or what they say
+pub data Reading (A : Type 0) : Type 0 where
+  Untold : Reading A
+  Refused : Refusal → Reading A
+  Ready : A → Reading A
 
-pub data FilesRead : Type 0 where
-  UntoldFile : FilesRead
-  RefusedFile : Refusal → FilesRead
-  FilesAre : List ConfigFile → FilesRead
+-- one reading after another
+infixl 10 ◌>>=◌
+abbrev pub ◌>>=◌ : {A B : Type 0} → Reading A → (A → Reading B) → Reading B
+Untold >>= f = Untold
+(Refused r) >>= f = Refused r
+(Ready x) >>= f = f x
 
 -- 4 MiB
 abbrev pub longest_file : ℕ
@@ -46,49 +48,68 @@ too_long file = record { number = 9; file = file; line = 0 }
 abbrev pub off_form : List ℕ → Refusal
 off_form file = record { number = 60; file = file; line = 0 }
 
-abbrev pub with_file : ConfigFile → FilesRead → FilesRead
-with_file file (FilesAre files) = FilesAre (file ∷ files)
-with_file file UntoldFile = UntoldFile
-with_file file (RefusedFile r) = RefusedFile r
+abbrev pub if_short : List ℕ → Option (List ℕ) → Reading (List ℕ)
+if_short name None = Untold
+if_short name (Some bytes) = if nat_lt longest_file (length bytes) then Refused (too_long name) else Ready bytes
 
-abbrev pub file_read : List ℕ → Option (List ℕ) → FilesRead → FilesRead
-file_read name None more = UntoldFile
-file_read name (Some bytes) more =
-    if nat_lt longest_file (length bytes) then RefusedFile (too_long name)
-    else (if is_thin_config name bytes then with_file (record { name = name; bytes = bytes }) more else RefusedFile (off_form name))
+-- the bytes of a file, where a shelf holds these
+abbrev pub file_read : (List ℕ → Option (List ℕ)) → List ℕ → Reading (List ℕ)
+file_read held name = if_short name (held name)
 
--- the configurations in word order, each its size and then its lines
-abbrev pub files_read : (List ℕ → Option (List ℕ)) → List (List ℕ) → FilesRead
-files_read held [] = FilesAre []
-files_read held (name ∷ names) = file_read name (held name) (files_read held names)
+abbrev pub if_asked : List ℕ → Option Asked → Reading Asked
+if_asked name None = Refused (off_form name)
+if_asked name (Some asked) = Ready asked
+
+-- the request: its file's size, and then its lines
+abbrev pub request_read : (List ℕ → Option (List ℕ)) → List ℕ → Reading Asked
+request_read held name = file_read held name >>= λ bytes. if_asked name (thin_request bytes)
+
+abbrev pub if_thin : List ℕ → List ℕ → Reading ConfigFile
+if_thin name bytes =
+    if is_thin_config name bytes then Ready (record { name = name; bytes = bytes }) else Refused (off_form name)
+
+-- a configuration: its file's size, and then its lines
+abbrev pub config_read : (List ℕ → Option (List ℕ)) → List ℕ → Reading ConfigFile
+config_read held name = file_read held name >>= λ bytes. if_thin name bytes
+
+-- the configurations in word order
+abbrev pub configs_read : (List ℕ → Option (List ℕ)) → List (List ℕ) → Reading (List ConfigFile)
+configs_read held [] = Ready []
+configs_read held (name ∷ names) =
+    config_read held name >>= λ file. configs_read held names >>= λ files. Ready (file ∷ files)
 
 abbrev pub routers_of : List ConfigFile → List Router
 routers_of files = map (λ file. config_of file.name file.bytes) files
 
-abbrev pub by_resolution : List ℕ → Asked → List ConfigFile → Database → Outcome
-by_resolution request asked files d =
-    if resolves asked d
-    then Ready (record { asked = asked; files = files; database = d; problem = problem_of asked d })
-    else Refused (off_form request)
+abbrev pub if_faultless : List ℕ → ℕ → List Router → Option TopologyFault → Reading Database
+if_faultless request area routers (Some fault) = Refused (off_form request)
+if_faultless request area routers None = Ready (database_of area routers)
 
-abbrev pub by_topology : List ℕ → Asked → List ConfigFile → Option TopologyFault → Outcome
-by_topology request asked files (Some fault) = Refused (off_form request)
-by_topology request asked files None = by_resolution request asked files (database_of asked.area (routers_of files))
+-- the topology; for now its faults are told of the request
+abbrev pub topology_read : List ℕ → ℕ → List Router → Reading Database
+topology_read request area routers = if_faultless request area routers (topology_fault area routers)
 
-abbrev pub by_files : List ℕ → Asked → FilesRead → Outcome
-by_files request asked UntoldFile = Untold
-by_files request asked (RefusedFile r) = Refused r
-by_files request asked (FilesAre files) = by_topology request asked files (topology_fault asked.area (routers_of files))
-
-abbrev pub by_request : (List ℕ → Option (List ℕ)) → Job → Option Asked → Outcome
-by_request held job None = Refused (off_form job.request)
-by_request held job (Some asked) = by_files job.request asked (files_read held job.configs)
-
-abbrev pub by_request_file : (List ℕ → Option (List ℕ)) → Job → Option (List ℕ) → Outcome
-by_request_file held job None = Untold
-by_request_file held job (Some bytes) =
-    if nat_lt longest_file (length bytes) then Refused (too_long job.request) else by_request held job (thin_request bytes)
+-- the problem that the requests make of the database
+abbrev pub problem_read : List ℕ → Asked → Database → Reading DesignProblem
+problem_read request asked d = if resolves asked d then Ready (problem_of asked d) else Refused (off_form request)
 
 -- what the files of a job say, where a shelf holds these
-abbrev pub outcome : (List ℕ → Option (List ℕ)) → Job → Outcome
-outcome held job = by_request_file held job (held job.request)
+abbrev pub outcome : (List ℕ → Option (List ℕ)) → Job → Reading Design
+outcome held job =
+    request_read held job.request >>= λ asked.
+    configs_read held job.configs >>= λ files.
+    topology_read job.request asked.area (routers_of files) >>= λ d.
+    problem_read job.request asked d >>= λ p.
+    Ready (record { asked = asked; files = files; database = d; problem = p })
+
+-- the shelf doesn't tell a file; or the input is well-formed and P holds of what it says
+abbrev pub OnReady : {A : Type 0} → Reading A → (A → Type 0) → Type 0
+OnReady Untold P = Unit {0}
+OnReady (Refused r) P = ⊥
+OnReady (Ready x) P = P x
+
+-- the shelf doesn't tell a file; or the input is refused and P holds of the refusal
+abbrev pub OnRefused : {A : Type 0} → Reading A → (Refusal → Type 0) → Type 0
+OnRefused Untold P = Unit {0}
+OnRefused (Refused r) P = P r
+OnRefused (Ready x) P = ⊥

@@ -1,5 +1,4 @@
 //! The top call: from words and files to printed costs.
 #![tactic(auto)]
 
-/// Nothing yet.
-pub fn nothing() {}
+mod words;
