@@ -1,2 +1,3 @@
 pub mod PresentCosts
 pub mod CheapestWith
+pub mod PrintedText
