@@ -1,3 +1,4 @@
 pub mod PresentCosts
 pub mod CheapestWith
 pub mod PrintedText
+pub mod PrintedSections
