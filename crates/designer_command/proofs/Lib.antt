@@ -2,3 +2,4 @@ pub mod PresentCosts
 pub mod CheapestWith
 pub mod PrintedText
 pub mod PrintedSections
+pub mod ReadyDesigns

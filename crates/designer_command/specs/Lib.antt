@@ -6,3 +6,4 @@ pub mod Texts
 pub mod ReadBack
 pub mod Designs
 pub mod Words
+pub mod Readiness
