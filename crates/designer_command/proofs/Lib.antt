@@ -3,3 +3,4 @@ pub mod CheapestWith
 pub mod PrintedText
 pub mod PrintedSections
 pub mod ReadyDesigns
+pub mod LineRuns
