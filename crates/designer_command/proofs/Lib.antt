@@ -1,3 +1,9 @@
 pub mod Readings
 pub mod Configs
 pub mod Problems
+pub mod PresentCosts
+pub mod CheapestWith
+pub mod PrintedText
+pub mod PrintedSections
+pub mod ReadyDesigns
+pub mod LineRuns

@@ -8,3 +8,4 @@ pub mod Designs
 pub mod Stops
 pub mod TopoStub
 pub mod Words
+pub mod Readiness

@@ -238,7 +238,8 @@ none_twice_is (x ∷ xs) once =
     lacks [] none = tt
     lacks (y ∷ ys) none = let parts = or_parts (x == y) (list_any (λ z. x == z) ys) none in (eqb-false x y parts.0, lacks ys parts.1)
 
-numbers_length : (a n : ℕ) → length (numbers_from a n) ≡ n
+-- how long a run of numbers is
+pub numbers_length : (a n : ℕ) → length (numbers_from a n) ≡ n
 numbers_length a zero = refl
 numbers_length a (suc n) = ap suc (numbers_length (a + 1) n)
 
