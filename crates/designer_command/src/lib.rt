@@ -1,6 +1,8 @@
 //! The top call: from words and files to printed costs.
 #![tactic(auto)]
 
+mod corner;
+mod lines;
 mod problem;
 mod reading;
 mod stop;
@@ -8,5 +10,4 @@ mod thin;
 mod thin_config;
 mod thin_request;
 mod thin_resolve;
-mod topology;
 mod words;

@@ -8,11 +8,11 @@ use crate::reading::{read_configs, read_request};
 use crate::stop::Stop;
 use crate::thin::ThinStop;
 use crate::thin_resolve::resolve_thin;
-use crate::topology::build;
+
 use crate::words::JobWords;
 use cost_base::Shelf;
 use interface_model::RouterConfig;
-use lsdb_build::{Lsdb, TopologyStop};
+use lsdb_build::{Lsdb, TopologyStop, build};
 use path_requests::Requests;
 use path_rows::Problem;
 use std::alloc::Global;
