@@ -4,3 +4,4 @@ pub mod PrintedText
 pub mod PrintedSections
 pub mod ReadyDesigns
 pub mod LineRuns
+pub mod ReadBackLaws
