@@ -5,3 +5,4 @@ pub mod PrintedSections
 pub mod ReadyDesigns
 pub mod LineRuns
 pub mod ReadBackLaws
+pub mod ThinRequestLaws
