@@ -6,3 +6,4 @@ pub mod ReadyDesigns
 pub mod LineRuns
 pub mod ReadBackLaws
 pub mod ThinRequestLaws
+pub mod DesignedLaws
