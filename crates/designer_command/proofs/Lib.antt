@@ -7,3 +7,4 @@ pub mod LineRuns
 pub mod ReadBackLaws
 pub mod ThinRequestLaws
 pub mod DesignedLaws
+mod Examples
