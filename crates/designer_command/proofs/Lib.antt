@@ -1,3 +1,6 @@
+pub mod Readings
+pub mod Configs
+pub mod Problems
 pub mod PresentCosts
 pub mod CheapestWith
 pub mod PrintedText

@@ -66,8 +66,8 @@ digit_put room front i n within before =
 pub decimal_value-take-le : (s : List ℕ) (i : ℕ) → decimal_value (take i s) ≤ decimal_value s
 decimal_value-take-le s i =
     let whole : decimal_value s ≡ number_from_digits_after 10 (decimal_value (take i s)) (map (λ c. c - 48) (drop i s)) =
-        ap decimal_value (sym (take-append-drop i s)) ∙ ap (number_from_digits 10) (map-append (λ c. c - 48) (take i s) (drop i s))
-        ∙ number_after_append 10 0 (map (λ c. c - 48) (take i s)) (map (λ c. c - 48) (drop i s)) in
+    ap decimal_value (sym (take-append-drop i s)) ∙ ap (number_from_digits 10) (map-append (λ c. c - 48) (take i s) (drop i s))
+    ∙ number_after_append 10 0 (map (λ c. c - 48) (take i s)) (map (λ c. c - 48) (drop i s)) in
     omega (arith, whole, number_after_ge 10 (decimal_value (take i s)) (map (λ c. c - 48) (drop i s)) (omega arith))
 
 -- digits have a value below the power of their number
