@@ -7,3 +7,7 @@ pub mod PrintedText
 pub mod PrintedSections
 pub mod ReadyDesigns
 pub mod LineRuns
+pub mod ReadBackLaws
+pub mod ThinRequestLaws
+pub mod DesignedLaws
+mod Examples

@@ -89,6 +89,23 @@ after_configs request asked files = topology_read request asked.area (routers_of
 abbrev after_request : (List ℕ → Option (List ℕ)) → Job → Asked → Reading Design
 after_request held job asked = configs_read held job.configs >>= after_configs job.request asked
 
+made_ready : (asked : Asked) (files : List ConfigFile) (base : Database) (problem : DesignProblem) (request : List ℕ) (d : Design) → thin_request request ≡ Some asked → All (λ file. is_thin_config file.name file.bytes ≡ true) files → topology_fault asked.area (routers_of files) ≡ None → base ≡ database_of asked.area (routers_of files) → problem ≡ problem_of asked base → resolves asked base ≡ true → after_problem asked files base problem ≡ Ready d → IsReadyDesign d
+made_ready asked files base problem request d said thin faultless base_is problem_is resolved made =
+    subst (λ (e : Design). IsReadyDesign e) design_same
+    (record {
+      request = request;
+      asked_is = said;
+      thin = thin;
+      names = λ k file within. thin_name (get_or files k file).name (get_or files k file).bytes (thin k file within);
+      faultless = faultless;
+      database_is = base_is;
+      problem_is = problem_is;
+      resolved = resolved;
+    })
+  where
+    design_same : record { asked = asked; files = files; database = base; problem = problem } ≡ d
+    design_same = cc
+
 pub ready_is : (held : List ℕ → Option (List ℕ)) (job : Job) (d : Design) → outcome held job ≡ Ready d → IsReadyDesign d
 ready_is held job d is =
     let asked = was_ready (request_read held job.request) (after_request held job) d is in
@@ -98,20 +115,5 @@ ready_is held job d is =
     let problem = was_ready (problem_read job.request asked.value base.value) (after_problem asked.value files.value base.value) d base.then_ready in
     let topology = topology_ready job.request asked.value.area (routers_of files.value) (topology_fault asked.value.area (routers_of files.value)) base.value base.first in
     let resolved = problem_ready job.request asked.value base.value problem.value problem.first in
-    let thin = configs_ready held job.configs files.value files.first in
-    let made : Design = record { asked = asked.value; files = files.value; database = base.value; problem = problem.value } in
-    let same : made ≡ d = design_same made problem.then_ready in
-    subst (λ (e : Design). IsReadyDesign e) same
-    (record {
-      request = bytes.value;
-      asked_is = asked_ready job.request (thin_request bytes.value) asked.value bytes.then_ready;
-      thin = thin;
-      names = λ k file within. thin_name (get_or files.value k file).name (get_or files.value k file).bytes (thin k file within);
-      faultless = topology.0;
-      database_is = topology.1;
-      problem_is = resolved.1;
-      resolved = resolved.0;
-    })
-  where
-    design_same : (made : Design) → Ready made ≡ Ready d → made ≡ d
-    design_same made e = cc
+    made_ready asked.value files.value base.value problem.value bytes.value d (asked_ready job.request (thin_request bytes.value) asked.value bytes.then_ready) (configs_ready held job.configs files.value files.first)
+    topology.0 topology.1 resolved.1 resolved.0 problem.then_ready
