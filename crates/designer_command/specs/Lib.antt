@@ -7,4 +7,5 @@ pub mod ReadBack
 pub mod Designs
 pub mod Stops
 pub mod Words
+pub mod Corners
 pub mod Readiness

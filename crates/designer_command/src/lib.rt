@@ -2,12 +2,17 @@
 #![tactic(auto)]
 
 mod corner;
+mod design;
+mod floor;
 mod lines;
 mod problem;
 mod reading;
+mod run;
 mod stop;
 mod thin;
 mod thin_config;
 mod thin_request;
 mod thin_resolve;
 mod words;
+
+pub use run::run;
