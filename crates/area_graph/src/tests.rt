@@ -4,8 +4,8 @@ ghost use Rattle.std.specs.Prelude.{IfOk};
 ghost use Rattle.area_graph.specs.Costs.{FitsPoint};
 
 use crate::{
-    Edge, Graph, Path, Point, Price, Vertex, avoids, fits_graph, is_only_cheapest, is_path_of, is_simple, path_cost,
-    point_fits,
+    Edge, Graph, Path, Point, Price, Vertex, avoids, fits_graph, is_only_cheapest, is_path_of,
+    is_simple, path_cost, point_fits,
 };
 use cost_base::Listed;
 use std::alloc::Global;
@@ -13,7 +13,16 @@ use std::process::Abort;
 use std::test::Fail;
 
 /// The edges of Square by their ends.
-const SQUARE: [(u32, u32); 8] = [(0, 1), (0, 3), (1, 2), (1, 0), (2, 3), (2, 1), (3, 0), (3, 2)];
+const SQUARE: [(u32, u32); 8] = [
+    (0, 1),
+    (0, 3),
+    (1, 2),
+    (1, 0),
+    (2, 3),
+    (2, 1),
+    (3, 0),
+    (3, 2),
+];
 
 /// The edges of Triangle by their ends.
 const TRIANGLE: [(u32, u32); 6] = [(0, 1), (0, 2), (1, 2), (1, 0), (2, 0), (2, 1)];
@@ -22,7 +31,13 @@ const TRIANGLE: [(u32, u32); 6] = [(0, 1), (0, 2), (1, 2), (1, 0), (2, 0), (2, 1
 const TWIN: [(u32, u32); 4] = [(0, 1), (0, 1), (1, 0), (1, 0)];
 
 /// A graph of routers. The first edge costs 3 where `fixed` says so; each other edge has the variable of its number.
-fn graph_of(rt: &impl Abort, alloc: Global, routers: u32, ends: &[(u32, u32)], fixed: bool) -> Result<Graph, Fail> {
+fn graph_of(
+    rt: &impl Abort,
+    alloc: Global,
+    routers: u32,
+    ends: &[(u32, u32)],
+    fixed: bool,
+) -> Result<Graph, Fail> {
     let mut vertices = Vec::new(alloc);
     for number in 0..routers {
         vertices.push(Vertex::Router(number))?;
@@ -52,7 +67,13 @@ fn path_of(alloc: Global, edges: &[u32]) -> Result<Path, Fail> {
     })
 }
 
-fn point_of(rt: &impl Abort, alloc: Global, graph: &Graph, scale: u128, values: &[u128]) -> Result<Point, Fail>
+fn point_of(
+    rt: &impl Abort,
+    alloc: Global,
+    graph: &Graph,
+    scale: u128,
+    values: &[u128],
+) -> Result<Point, Fail>
     ensures { IfOk result (λ point. FitsPoint graph.now point) }
 {
     let point = Point {
@@ -105,7 +126,10 @@ fn square_paths_are_simple_or_not(rt: HostRuntime) -> Result<(), Fail> {
     assert!(rt; is_simple_at(alloc, &graph, &[0, 2], 2)?);
     assert!(rt; is_simple_at(alloc, &graph, &[], 0)?);
     assert!(rt; !is_simple_at(alloc, &graph, &[0, 3], 0)?, "a loop");
-    assert!(rt; !is_simple_at(alloc, &graph, &[0, 4], 3)?, "edges that don't join");
+    assert!(rt;
+        !is_simple_at(alloc, &graph, &[0, 4], 3)?,
+        "edges that don't join"
+    );
     assert!(rt; !is_simple_at(alloc, &graph, &[8], 1)?, "no such edge");
     Ok(())
 }
@@ -151,7 +175,17 @@ fn tied_square_path_is_not_only_cheapest(rt: HostRuntime) -> Result<(), Fail> {
     let alloc = rt.alloc();
     let graph = graph_of(&rt, alloc, 4, &SQUARE, false)?;
     assert!(rt; !is_only_at(&rt, alloc, &graph, &[1; 8], &[0, 2], 2, &[])?);
-    assert!(rt; is_only_at(&rt, alloc, &graph, &[1, 1, 1, 1, 1, 1, 1, 2], &[0, 2], 2, &[])?);
+    assert!(rt;
+        is_only_at(
+            &rt,
+            alloc,
+            &graph,
+            &[1, 1, 1, 1, 1, 1, 1, 2],
+            &[0, 2],
+            2,
+            &[]
+        )?
+    );
     assert!(rt; is_only_at(&rt, alloc, &graph, &[1; 8], &[0, 2], 2, &[7])?);
     Ok(())
 }
