@@ -31,7 +31,9 @@ impl Top {
     pub fn new(bits: u32) -> Option<Top>
         ensures { MatchOption result ((bits < 28) ⊎ (127 < bits)) (λ top. (28 ≤ bits) × (bits ≤ 127) × (top ≡ 2 ^ bits - 1)) }
     {
-        if bits < 28 || 127 < bits {
+        if bits < 28 {
+            None
+        } else if 127 < bits {
             None
         } else {
             Some(Top {
