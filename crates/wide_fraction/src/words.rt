@@ -85,6 +85,17 @@ pub(crate) fn quotient(value: u128, divisor: u128) -> u128
     }
 }
 
+/// The quotient, rounded down, and the rest.
+#[inline]
+pub(crate) fn whole_and_rest(value: u128, divisor: u128) -> (u128, u128)
+    requires { 0 < divisor }
+    ensures whole { result.0 ≡ value / divisor }
+    ensures rest { result.1 ≡ value % divisor }
+{
+    let whole = quotient(value, divisor);
+    (whole, value - whole * divisor)
+}
+
 /// The product, where it is at most `most`.
 #[inline]
 pub(crate) fn bounded_product(left: u128, right: u128, most: u128) -> Option<u128>
@@ -143,7 +154,7 @@ fn signed_product(left: i128, right: i128) -> Option<i128>
 
 /// The product of two words with their signs.
 #[inline]
-fn word_product(left: i64, right: i64) -> i128
+pub(crate) fn word_product(left: i64, right: i64) -> i128
     ensures { result ≡ left *ℤ right }
 {
     i128::from(left) * i128::from(right)
