@@ -65,11 +65,14 @@ zero_rest_cmp r t b d b_positive d_positive none =
     go_less : (r ≡ 0) ⊎ (t ≡ 0) → r < t → r * d < t * b
     go_less (inl e) h = subst (λ (n : ℕ). n * d < t * b) (sym e) (subst (λ (n : ℕ). n < t * b) (sym (zero-mul d)) (product_positive t b (omega arith) b_positive))
     go_less (inr e) h = absurd (omega arith)
+
     both : r ≡ 0 → t ≡ 0 → r * d ≡ t * b
     both e f = ap (λ n. n * d) e ∙ zero-mul d ∙ sym (zero-mul b) ∙ ap (λ n. n * b) (sym f)
+
     go_same : (r ≡ 0) ⊎ (t ≡ 0) → r ≡ t → r * d ≡ t * b
     go_same (inl e) h = both e (sym h ∙ e)
     go_same (inr e) h = both (h ∙ e) e
+
     go_more : (r ≡ 0) ⊎ (t ≡ 0) → t < r → t * b < r * d
     go_more (inl e) h = absurd (omega arith)
     go_more (inr e) h = subst (λ (n : ℕ). n * b < r * d) (sym e) (subst (λ (n : ℕ). n < r * d) (sym (zero-mul b)) (product_positive r d (omega arith) d_positive))

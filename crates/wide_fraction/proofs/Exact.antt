@@ -89,19 +89,18 @@ pub sum_answer : (top : ℕ) (p q : Fraction) (g b d : ℕ) (s : ℤ) (h e : ℕ
 sum_answer top p q g b d s h e z m p_lowest q_lowest adds within z_is m_is m_within =
     let seen = sum_seen p q g b d s h e adds in
     let s_within : nat_abs s ≤ top = subst (λ (x : ℤ). nat_abs x ≤ top) (sym adds.sum) within.2 in
-    let size = m_is ∙ below_seen p q g b d s h e adds ∙ ap (λ (x : ℤ). (p.denominator / gcd p.denominator q.denominator) * (q.denominator / gcd (nat_abs x) (gcd p.denominator q.denominator))) (sym seen) in
-    (
+    let size = m_is ∙ below_seen p q g b d s h e adds ∙ ap (λ (x : ℤ). (p.denominator / gcd p.denominator q.denominator) * (q.denominator / gcd (nat_abs x) (gcd p.denominator q.denominator))) (sym seen) in (
       sum_made p q g b d s h e z m p_lowest q_lowest adds z_is m_is,
       record { numerator = over_within top s h z z_is s_within; denominator = m_within },
       each_of_four top
-      (nat_abs (p.numerator *ℤ pos (q.denominator / gcd p.denominator q.denominator)))
-      (nat_abs (q.numerator *ℤ pos (p.denominator / gcd p.denominator q.denominator)))
-      (nat_abs ((p.numerator *ℤ pos (q.denominator / gcd p.denominator q.denominator)) +ℤ (q.numerator *ℤ pos (p.denominator / gcd p.denominator q.denominator))))
-      ((p.denominator / gcd p.denominator q.denominator) * (q.denominator / gcd (nat_abs ((p.numerator *ℤ pos (q.denominator / gcd p.denominator q.denominator)) +ℤ (q.numerator *ℤ pos (p.denominator / gcd p.denominator q.denominator)))) (gcd p.denominator q.denominator)))
-      (subst (λ (n : ℕ). nat_abs (p.numerator *ℤ pos n) ≤ top) (right_share p q g b d adds.shares) within.0)
-      (subst (λ (n : ℕ). nat_abs (q.numerator *ℤ pos n) ≤ top) (left_share p q g b d adds.shares) within.1)
-      (subst (λ (x : ℤ). nat_abs x ≤ top) (sym seen) s_within)
-      (subst (λ (n : ℕ). n ≤ top) size m_within),
+          (nat_abs (p.numerator *ℤ pos (q.denominator / gcd p.denominator q.denominator)))
+          (nat_abs (q.numerator *ℤ pos (p.denominator / gcd p.denominator q.denominator)))
+          (nat_abs ((p.numerator *ℤ pos (q.denominator / gcd p.denominator q.denominator)) +ℤ (q.numerator *ℤ pos (p.denominator / gcd p.denominator q.denominator))))
+          ((p.denominator / gcd p.denominator q.denominator) * (q.denominator / gcd (nat_abs ((p.numerator *ℤ pos (q.denominator / gcd p.denominator q.denominator)) +ℤ (q.numerator *ℤ pos (p.denominator / gcd p.denominator q.denominator)))) (gcd p.denominator q.denominator)))
+          (subst (λ (n : ℕ). nat_abs (p.numerator *ℤ pos n) ≤ top) (right_share p q g b d adds.shares) within.0)
+          (subst (λ (n : ℕ). nat_abs (q.numerator *ℤ pos n) ≤ top) (left_share p q g b d adds.shares) within.1)
+          (subst (λ (x : ℤ). nat_abs x ≤ top) (sym seen) s_within)
+          (subst (λ (n : ℕ). n ≤ top) size m_within),
     )
 
 -- and a `Frac` can hold it
@@ -164,7 +163,7 @@ product_answer top p q g h x y b d z m p_lowest q_lowest multiplies above_within
   product_made p q g h x y b d z m p_lowest q_lowest multiplies z_is m_is,
   record { numerator = subst (λ (t : ℤ). nat_abs t ≤ top) (sym z_is) above_within; denominator = below_within },
   All-cons (λ n. n ≤ top) ((nat_abs p.numerator / gcd (nat_abs p.numerator) q.denominator) * (nat_abs q.numerator / gcd (nat_abs q.numerator) p.denominator)) (((p.denominator / gcd (nat_abs q.numerator) p.denominator) * (q.denominator / gcd (nat_abs p.numerator) q.denominator)) ∷ []) (subst (λ (n : ℕ). n ≤ top) (above_size p q g h x y multiplies.crosses) above_within)
-  (All-cons (λ n. n ≤ top) ((p.denominator / gcd (nat_abs q.numerator) p.denominator) * (q.denominator / gcd (nat_abs p.numerator) q.denominator)) [] (subst (λ (n : ℕ). n ≤ top) (m_is ∙ product_below p q g h x y b d multiplies) below_within) (All-nil (λ n. n ≤ top))),
+      (All-cons (λ n. n ≤ top) ((p.denominator / gcd (nat_abs q.numerator) p.denominator) * (q.denominator / gcd (nat_abs p.numerator) q.denominator)) [] (subst (λ (n : ℕ). n ≤ top) (m_is ∙ product_below p q g h x y b d multiplies) below_within) (All-nil (λ n. n ≤ top))),
 )
 
 -- and a `Frac` can hold it

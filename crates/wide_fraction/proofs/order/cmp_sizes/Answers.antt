@@ -41,6 +41,6 @@ parts-preserved c =
       first_positive = omega arith;
       second_positive = omega arith;
       same_order = ap₂ (λ (m n : ℕ). nat_cmp (c.parts.second_below * m) (c.parts.first_below * n)) c.whole_and_rest-first_whole.ensures.rest c.whole_and_rest-second_whole.ensures.rest
-      ∙ reciprocals_cmp c.parts.first c.parts.first_below c.parts.second c.parts.second_below c.parts.invariant.first_positive c.parts.invariant.second_positive same
-      ∙ c.parts.invariant.same_order;
+          ∙ reciprocals_cmp c.parts.first c.parts.first_below c.parts.second c.parts.second_below c.parts.invariant.first_positive c.parts.invariant.second_positive same
+          ∙ c.parts.invariant.same_order;
     }
