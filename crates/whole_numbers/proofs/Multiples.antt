@@ -5,7 +5,7 @@ use Prim.Native.Nat.{◌∣◌}
 use native.Mathlib.Nat.{div-mul_cancel, dvd-mul_left, dvd-mul_right, mul_comm, mul_assoc}
 use Rattle.whole_numbers.specs.Fractions.{Fraction, StandsFor, gcd, lcm, plus, minus}
 use Rattle.whole_numbers.proofs.Ring.{var, ◌⊕◌, ◌⊖◌, ◌⊗◌, ring}
-use Rattle.whole_numbers.proofs.Divisors.{gcd_is, gcd_positive}
+use Rattle.whole_numbers.proofs.Divisors.{gcd_is}
 use Rattle.whole_numbers.proofs.FractionLaws.{plus_stands, minus_stands, stands_less, product_positive}
 use Rattle.whole_numbers.proofs.Sums.{quotient_positive}
 

@@ -1,5 +1,5 @@
 -- The order of fractions: by whole parts and rests, by signs and sizes, and by the numbers that they stand for.
-use Rattle.std.proofs.Common.{◌≡◌, ◌≢◌, ℕ, zero, suc, ◌+◌, ◌-◌, ◌*◌, ◌/◌, ◌%◌, ◌<◌, ◌≤◌, refl, sym, ◌∙◌, ap, subst, inl, inr, Ordering, Less, Equal, Greater, [], ◌∷◌, arith}
+use Rattle.std.proofs.Common.{◌≡◌, ◌≢◌, ℕ, suc, ◌+◌, ◌-◌, ◌*◌, ◌/◌, ◌%◌, ◌<◌, ◌≤◌, refl, sym, ◌∙◌, ap, subst, inl, inr, Ordering, Less, Equal, Greater, [], ◌∷◌, arith}
 use Rattle.std.specs.Prelude.{ℤ, pos, negsuc, ◌+ℤ◌, ◌*ℤ◌, neg_ℤ, nat_abs, ◌<ℤ◌, ◌≤ℤ◌, ◌⊎◌}
 use Rattle.std.specs.Ordering.{MatchOrdering, nat_cmp, int_cmp}
 use Rattle.std.specs.Cmp.{nat_cmp_is, int_cmp_is}
@@ -7,7 +7,7 @@ use Rattle.std.proofs.lemmas.Cmp.{ranked, int_ranked}
 use Rattle.std.proofs.lemmas.Int.{ints}
 use borrow.Author.Differences.{up, down, product_is, below_in, lt_out}
 use mathlib.Core.Path.{ap₂}
-use native.Mathlib.Nat.{div-add-mod, div-mul-le_self, lt-div-mul-add, mod-lt, mul-lt-mul_of_pos_right, mul-le-mul_right, mul_comm, zero-mul}
+use native.Mathlib.Nat.{div-add-mod, div-mul-le_self, lt-div-mul-add, mul-lt-mul_of_pos_right, mul-le-mul_right, mul_comm, zero-mul}
 use Rattle.whole_numbers.specs.Fractions.{Fraction, StandsFor, IsLess, IsSame, IsFloor, order}
 use Rattle.whole_numbers.proofs.Ring.{var, ◌⊗◌, ring, ring_by, nothing, using, num}
 use Rattle.whole_numbers.proofs.Laws.{neg-mul}

@@ -4,7 +4,7 @@ use Rattle.std.specs.Prelude.{ℤ, pos, negsuc, ◌+ℤ◌, ◌*ℤ◌, nat_abs}
 use Rattle.std.proofs.lemmas.Int.{unsigned_abs-mul}
 use Prim.Native.Nat.{◌∣◌}
 use native.Mathlib.Nat.{div-mul_cancel, mul-div_assoc, dvd-mul_right, mul-zero}
-use Rattle.whole_numbers.specs.Fractions.{Fraction, IsLowest, StandsFor, gcd, over, plus, times, reduced}
+use Rattle.whole_numbers.specs.Fractions.{Fraction, IsLowest, StandsFor, gcd, over, plus, times}
 use Rattle.whole_numbers.proofs.Ring.{var, num, ◌⊕◌, ◌⊖◌, ◌⊗◌, neg, ring_by, nothing, using}
 use Rattle.whole_numbers.proofs.Divisors.{gcd_is, gcd_positive}
 use Rattle.whole_numbers.proofs.FractionLaws.{cancel, over-mul, nat_abs-over, product_positive, reduced_lowest, reduced_stands}

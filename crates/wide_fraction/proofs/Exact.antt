@@ -1,6 +1,6 @@
 -- What the numbers of a step give: the exact fraction within the top, or a number that passes it.
 use Rattle.std.proofs.Common.{◌≡◌, ℕ, ◌^◌, ◌<◌, ◌≤◌, ◌*◌, ◌/◌, refl, sym, ◌∙◌, ap, subst, inl, inr, arith, [], ◌∷◌}
-use Rattle.std.specs.Prelude.{ℤ, pos, nat_abs, ◌+ℤ◌, ◌*ℤ◌, Any, All, ◌⊎◌, Some}
+use Rattle.std.specs.Prelude.{ℤ, pos, nat_abs, ◌+ℤ◌, ◌*ℤ◌, Any, All, Some}
 use Rattle.std.proofs.lemmas.List.Elements.{All-cons, All-nil}
 use Rattle.std.proofs.lemmas.Int.{unsigned_abs-mul}
 use native.Mathlib.Nat.{div-le_self}
@@ -8,7 +8,7 @@ use mathlib.Core.Path.{ap₂}
 use Rattle.whole_numbers.specs.Fractions.{Fraction, IsLowest, gcd, over, plus, times, listed_of_sum, listed_of_product}
 use Rattle.whole_numbers.proofs.FractionLaws.{nat_abs-over, product_positive, reduced_lowest}
 use Rattle.whole_numbers.proofs.Steps.{sum_exact, product_exact}
-use Rattle.wide_fraction.specs.Widths.{IsKept, IsWithin, IsAnswer, IsCrossWide, IsCrossWithin}
+use Rattle.wide_fraction.specs.Widths.{IsKept, IsAnswer, IsCrossWide, IsCrossWithin}
 
 -- each of four numbers is within the top
 each_of_four : (top a b c d : ℕ) → a ≤ top → b ≤ top → c ≤ top → d ≤ top → All (λ n. n ≤ top) (a ∷ b ∷ c ∷ d ∷ [])

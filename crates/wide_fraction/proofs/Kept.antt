@@ -7,7 +7,7 @@ use mir.Syntax.{w128}
 use mir.Val.{to_z}
 use mathlib.Core.Path.{ap₂}
 use native.Mathlib.Nat.{div-le_self, pow-le-pow_right}
-use Rattle.whole_numbers.specs.Fractions.{Fraction, IsLowest, gcd, over, reduced, inverse, inverted}
+use Rattle.whole_numbers.specs.Fractions.{Fraction, gcd, over, reduced, inverse, inverted}
 use Rattle.whole_numbers.proofs.Divisors.{gcd-swap}
 use Rattle.whole_numbers.proofs.FractionLaws.{nat_abs-over, nat_abs-neg, reduced_lowest}
 use Rattle.wide_fraction.specs.Widths.{IsKept}

@@ -1,5 +1,5 @@
 use Rattle.std.proofs.Common.{◌≡◌, ℕ, sym, ◌∙◌, ap}
-use Rattle.std.specs.Prelude.{ℤ, pos, ◌*ℤ◌}
+use Rattle.std.specs.Prelude.{pos, ◌*ℤ◌}
 use Rattle.std.specs.Ordering.{int_cmp}
 use mathlib.Core.Path.{ap₂}
 use Rattle.whole_numbers.specs.Fractions.{Fraction, order}

@@ -1,4 +1,4 @@
-use Rattle.std.proofs.Common.{◌≡◌, ◌<◌, ℕ, ap, ◌∙◌, SFits, rules}
+use Rattle.std.proofs.Common.{◌<◌, ℕ, ap, ◌∙◌, SFits, rules}
 use Rattle.std.specs.Prelude.{nat_abs, Any, Some}
 use Rattle.std.proofs.lemmas.Int.{to_z-of_z}
 use mir.Syntax.{w128}

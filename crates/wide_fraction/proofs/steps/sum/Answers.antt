@@ -1,10 +1,10 @@
-use Rattle.std.proofs.Common.{◌≡◌, ◌<◌, ◌≤◌, ◌*◌, ◌/◌, ℕ, refl, arith, ap, subst, sym, ◌∙◌, SFits, rules}
-use Rattle.std.specs.Prelude.{ℤ, pos, nat_abs, ◌+ℤ◌, ◌*ℤ◌, Any, Some, Option}
+use Rattle.std.proofs.Common.{◌≡◌, ◌<◌, ℕ, ap, ◌∙◌, SFits, rules}
+use Rattle.std.specs.Prelude.{nat_abs, Any, Some}
 use Rattle.std.proofs.lemmas.Int.{to_z-of_z}
 use mir.Syntax.{w128}
 use mir.Val.{to_z, of_z}
 use Rattle.whole_numbers.specs.Fractions.{Fraction, gcd, over, plus, listed_of_sum}
-use Rattle.wide_fraction.specs.Widths.{IsCrossWide, IsCrossWithin, IsAnswer}
+use Rattle.wide_fraction.specs.Widths.{IsAnswer}
 use Rattle.wide_fraction.proofs.Exact.{Shares, Adds, moved, sum_crossed, sum_denominator_passes, sum_answer, sum_kept}
 use Rattle.wide_fraction.proofs.steps.sum.Goals as goal
 

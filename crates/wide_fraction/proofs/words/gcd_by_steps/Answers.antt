@@ -1,5 +1,5 @@
 use Rattle.std.proofs.Common.{sym, ◌∙◌}
-use Rattle.whole_numbers.proofs.Divisors.{gcd_step, gcd-zero}
+use Rattle.whole_numbers.proofs.Divisors.{gcd_step}
 use Rattle.wide_fraction.proofs.words.gcd_by_steps.Goals as goal
 
 pub loop-smaller-preserved : goal.loop-smaller-preserved

@@ -1,4 +1,4 @@
-use Rattle.std.proofs.Common.{◌≡◌, ◌<◌, ℕ, subst, sym, ◌∙◌, ap, inl, inr}
+use Rattle.std.proofs.Common.{◌<◌, ℕ, subst, sym, ◌∙◌, ap, inl, inr}
 use Rattle.whole_numbers.specs.Fractions.{gcd}
 use Rattle.whole_numbers.proofs.Divisors.{gcd-one, one-gcd, gcd_positive}
 use Rattle.wide_fraction.proofs.words.greatest_common_divisor.Goals as goal

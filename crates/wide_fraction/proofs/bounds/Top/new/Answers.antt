@@ -1,4 +1,4 @@
-use Rattle.std.proofs.Common.{◌≡◌, ◌^◌, ◌-◌, ◌*◌, ◌%◌, arith, refl}
+use Rattle.std.proofs.Common.{arith, refl}
 use Rattle.wide_fraction.proofs.Kept.{shifted, shifted_below, top_view}
 use Rattle.wide_fraction.proofs.bounds.Top.new.Goals as goal
 

@@ -1,10 +1,9 @@
-use Rattle.std.proofs.Common.{◌≡◌, ◌<◌, ◌/◌, sym, subst, ℕ, ap, ◌∙◌, SFits, rules}
+use Rattle.std.proofs.Common.{◌≡◌, ◌/◌, ℕ, ap, ◌∙◌, SFits, rules}
 use Rattle.std.specs.Prelude.{ℤ, nat_abs}
 use Rattle.std.proofs.lemmas.Int.{to_z-of_z}
 use mir.Syntax.{w128}
 use Rattle.whole_numbers.specs.Fractions.{gcd, over}
 use Rattle.wide_fraction.proofs.Kept.{reduced_seen}
-use Rattle.whole_numbers.proofs.Divisors.{gcd_positive}
 use Rattle.wide_fraction.proofs.fraction.Frac.reduced.Goals as goal
 
 pub invariant_of-result : goal.invariant_of-result
