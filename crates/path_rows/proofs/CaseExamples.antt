@@ -1,6 +1,6 @@
 -- The forms and trees of the worked cases, made by hand: square, triangle_three, six, twin and lan. The ring stands apart.
-use Rattle.std.proofs.Common.{◌≡◌, ℕ, refl, List, [], ◌∷◌, rules, ◌<◌, lit<}
-use Rattle.std.specs.Prelude.{ℤ, pos, negsuc, replicate}
+use Rattle.std.proofs.Common.{◌≡◌, ℕ, refl, List, [], ◌∷◌, rules}
+use Rattle.std.specs.Prelude.{pos, negsuc, replicate}
 use Rattle.cost_base.specs.declared.StepName.TheVariants.{Scale}
 use Rattle.area_graph.specs.declared.Vertex.TheVariants.{Router, Subnet}
 use Rattle.area_graph.specs.declared.Price.{Price}
