@@ -100,7 +100,7 @@ none_below l a zero above = refl
 none_below l a (suc n) above =
     let rest = none_below l (a + 1) n (omega arith) in
     let whole : count_by (λ m. nat_lt m l) (numbers_from a (suc n)) ≡ 0 + count_by (λ m. nat_lt m l) (numbers_from (a + 1) n)
-        = sum_by-cons (λ m. cond (nat_lt m l) 1 0) a (numbers_from (a + 1) n) ∙ rw (le-ltb a l above) refl in
+    = sum_by-cons (λ m. cond (nat_lt m l) 1 0) a (numbers_from (a + 1) n) ∙ rw (le-ltb a l above) refl in
     omega arith
 
 -- as many numbers of a run from a on stand below l as l is above a
@@ -112,7 +112,7 @@ count_below l a (suc n) above within =
           let rest = count_below l (a + 1) n (omega arith) (omega arith) in
           let first : nat_lt a l ≡ true = lt-ltb a l less in
           let whole : count_by (λ m. nat_lt m l) (numbers_from a (suc n)) ≡ 1 + count_by (λ m. nat_lt m l) (numbers_from (a + 1) n)
-              = sum_by-cons (λ m. cond (nat_lt m l) 1 0) a (numbers_from (a + 1) n) ∙ rw first refl in
+          = sum_by-cons (λ m. cond (nat_lt m l) 1 0) a (numbers_from (a + 1) n) ∙ rw first refl in
           omega arith
       | inr more ↦ rw (none_below l a (suc n) more) (omega arith)
     ]
