@@ -1,11 +1,11 @@
 -- The problem of a thin request that resolves keeps what every problem keeps.
-use Rattle.std.proofs.Common.{inl, inr, ◌≡◌, ◌≢◌, ℕ, zero, suc, ◌+◌, ◌<◌, ◌≤◌, refl, sym, ◌∙◌, ap, subst, List, [], ◌∷◌, ◌++◌, length, map, replicate, get_or, arith, Bool, true, false, cond, Option, Some, None}
-use Rattle.std.specs.Prelude.{All, Any, count_by, slice_index, slice_index_or, ◌&&◌, nat_le}
-use Rattle.std.specs.List.{filter_map, list_all}
-use Rattle.std.proofs.lemmas.List.{get_or_default, length-append, length-map, length-replicate, get_or-replicate}
-use Rattle.std.proofs.lemmas.List.Elements.{All-nil, All-cons, All-head, All-tail, All-append, All-map, All-weaker}
+use Rattle.std.proofs.Common.{◌≡◌, ℕ, zero, suc, ◌+◌, ◌<◌, ◌≤◌, refl, sym, ◌∙◌, ap, subst, List, [], ◌∷◌, ◌++◌, length, map, replicate, get_or, arith, true, cond}
+use Rattle.std.specs.Prelude.{All, Any, count_by, slice_index_or, nat_le}
+use Rattle.std.specs.List.{list_all}
+use Rattle.std.proofs.lemmas.List.{get_or_default, length-map, length-replicate, get_or-replicate}
+use Rattle.std.proofs.lemmas.List.Elements.{All-nil, All-cons, All-head, All-tail, All-append, All-map}
 use Rattle.std.proofs.lemmas.List.Sums.{sum_by-cons}
-use Rattle.std.proofs.lemmas.Bool.{and_parts, leb-true, false≢true}
+use Rattle.std.proofs.lemmas.Bool.{and_parts, leb-true}
 use Rattle.cost_base.specs.Words.{IsWord}
 use Rattle.cost_base.specs.Lists.{numbers_from}
 use Rattle.area_graph.specs.declared.Price.{Price}
@@ -23,10 +23,10 @@ use Rattle.path_requests.specs.declared.Wish.{Wish}
 use Rattle.path_requests.specs.declared.Wish.TheVariants.{FreeAll, Free, Fix, Path, SymmetricAll, Symmetric}
 use Rattle.path_requests.specs.declared.Item.{Item}
 use Rattle.path_requests.specs.Wishes.{Route}
-use Rattle.path_requests.specs.Meaning.{Asked, IsAsked, is_path_wish, is_path, owners, prices_from, problem_of}
+use Rattle.path_requests.specs.Meaning.{Asked, is_path_wish, is_path, owners, prices_from, problem_of}
 use Rattle.path_requests.specs.Resolution.{resolves, resolves_wish, resolves_route}
-use Rattle.path_requests.specs.Thin.{IsPlainPath, IsThinAsked}
-use Rattle.path_requests.proofs.ThinProblems.{plain_names, plain_request, route_in, routes_of, IsThinProblem, thin_problem_is}
+use Rattle.path_requests.specs.Thin.{IsThinAsked}
+use Rattle.path_requests.proofs.ThinProblems.{plain_names, plain_request, route_in, routes_of, thin_problem_is}
 use Rattle.path_requests.proofs.RouteLaws.{numbers_length, route_simple, avoids_none}
 
 -- the routes of paths that resolve do so
