@@ -5,4 +5,7 @@ pub mod Outcomes
 pub mod Texts
 pub mod ReadBack
 pub mod Designs
+pub mod Stops
+pub mod TopoStub
 pub mod Words
+pub mod Readiness

@@ -7,10 +7,10 @@ use Rattle.text_lines.specs.Lines.{lines, words}
 use Rattle.interface_model.specs.Records.{Router}
 use Rattle.config_reader.specs.Statements.{begin_with}
 use Rattle.config_reader.specs.Configs.{config_of}
+use Rattle.config_reader.specs.Sections.{ended, with_ends}
 use Rattle.lsdb_build.specs.Graphs.{Database, graph_at}
 use Rattle.lsdb_build.specs.Topology.{database_of}
 use Rattle.path_requests.specs.Meaning.{present_cost}
-use Rattle.designer_command.specs.Texts.{with_ends}
 use Rattle.designer_command.specs.Outcomes.{Design, ConfigFile}
 
 -- `router NAME`
@@ -29,12 +29,6 @@ until_end (line ∷ more) = if ends_section line then [] else line ∷ until_end
 abbrev pub section : List ℕ → List (List ℕ) → List (List ℕ)
 section name [] = []
 section name (line ∷ more) = if opens_section name line then until_end more else section name more
-
--- the bytes, and an LF where the last line lacks one
-abbrev pub ended : List ℕ → List ℕ
-ended [] = []
-ended (c ∷ []) = if c == 10 then c ∷ [] else c ∷ 10 ∷ []
-ended (c ∷ d ∷ cs) = c ∷ ended (d ∷ cs)
 
 -- the router that a configuration says with its section of the text
 abbrev pub router_back : List ℕ → ConfigFile → Router

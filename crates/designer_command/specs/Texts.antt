@@ -1,7 +1,8 @@
 -- The lines that a run writes beside an answer.
-use Rattle.std.specs.Prelude.{ℕ, List, [], ◌∷◌, ◌++◌, codes, map}
-use Rattle.std.specs.List.{concat, join_with_byte}
+use Rattle.std.specs.Prelude.{ℕ, List, [], ◌∷◌, ◌++◌, codes}
+use Rattle.std.specs.List.{join_with_byte}
 use Rattle.cost_base.specs.Decimal.{decimal}
+use Rattle.config_reader.specs.Sections.{with_ends}
 
 -- a refusal of input: its number, the file and the line
 pub record Refusal : Type 0 where
@@ -36,10 +37,6 @@ usage_lines =
     ∷ codes "       ospfcost lsas --request F CONFIG.."
     ∷ codes "       ospfcost route --lsas L --from A.B.C.D --to A.B.C.D"
     ∷ []
-
--- each line with its LF
-abbrev pub with_ends : List (List ℕ) → List ℕ
-with_ends lines = concat (map (λ line. line ++ 10 ∷ []) lines)
 
 abbrev pub usage : List ℕ
 usage = with_ends usage_lines

@@ -2,7 +2,9 @@
 -- interface its address, area, cost and `ip ospf network point-to-point`.
 use Rattle.std.specs.Prelude.{ℕ, List, [], ◌∷◌, ◌==◌, ◌&&◌, nat_le, if◌then◌else◌, Bool, true, false, Option, Some, None, codes, length}
 use Rattle.std.specs.List.{list_all}
-use Rattle.text_lines.specs.Lines.{lines, words, kind_of, LineKind, Blank, Comment, Head, Indented}
+use Rattle.text_lines.specs.Lines.{lines, words, kind_of}
+use Rattle.text_lines.specs.declared.LineKind.{LineKind}
+use Rattle.text_lines.specs.declared.LineKind.TheVariants.{Blank, Comment, Head, Indented}
 use Rattle.text_lines.specs.Numbers.{Prefix}
 use Rattle.interface_model.specs.declared.Kind.{Kind}
 use Rattle.interface_model.specs.declared.Kind.TheVariants.{PointToPoint, Broadcast}

@@ -11,6 +11,7 @@ use Rattle.path_requests.specs.declared.Item.{Item}
 use Rattle.path_requests.specs.Wishes.{Route}
 use Rattle.path_requests.specs.Meaning.{Asked}
 use Rattle.path_requests.specs.Routes.{route_of}
+use Rattle.path_requests.specs.Thin.{IsThinAsked}
 
 -- `ospfcost request 1`
 abbrev pub is_header : List (List ℕ) → Bool
@@ -64,3 +65,7 @@ asked_by_lines _ = None
 abbrev pub thin_request : List ℕ → Option Asked
 thin_request bytes =
     if list_all (λ line. nat_le (length line) 65536) (lines bytes) then asked_by_lines (map words (lines bytes)) else None
+
+-- requests of this form: one range for every interface, and then paths that take nothing away
+abbrev pub IsThin : Asked → Type 0
+IsThin a = (lo : ℕ) × (hi : ℕ) × IsThinAsked a lo hi
