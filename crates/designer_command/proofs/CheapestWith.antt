@@ -89,7 +89,7 @@ pub cost_with : (w : List ℕ) (g : Area) (es : List ℕ) → cost (graph_with w
 cost_with w g [] = refl
 cost_with w g (e ∷ es) =
     let here : price_at (at_costs []) (edge_at (graph_with w g) e).price ≡ price_at (at_costs w) (edge_at g e).price
-        = ap (λ (edge : Edge). price_at (at_costs []) edge.price) (edge_at_with w g e) ∙ price_with w (edge_at g e).price in
+    = ap (λ (edge : Edge). price_at (at_costs []) edge.price) (edge_at_with w g e) ∙ price_with w (edge_at g e).price in
     let rest = cost_with w g es in
     let left = sum_by-cons (λ i. price_at (at_costs []) (edge_at (graph_with w g) i).price) e es in
     let right = sum_by-cons (λ i. price_at (at_costs w) (edge_at g i).price) e es in

@@ -95,7 +95,7 @@ named_cost a d w l (first ∷ links) r x before (suc k) link there named others 
     let place : l + 1 + k ≡ l + suc k = omega arith in
     cost_step a d w l first links r x before
     ∙ rw (others 0 first (λ e. absurd (omega arith)) refl)
-        (named_cost a d w (l + 1) links r x before k link there named (λ j other apart stands. others (suc j) other (λ e. apart (omega arith)) stands))
+    (named_cost a d w (l + 1) links r x before k link there named (λ j other apart stands. others (suc j) other (λ e. apart (omega arith)) stands))
     ∙ ap (λ (n : ℕ). cost_given w (price_of a d n link (range_of a d link)) before) place
 
 -- no two links of a database have the same names
@@ -127,7 +127,7 @@ named_once d k j link other base there stands apart =
         let names : slice_index_or d.routers other.router [] ≡ slice_index_or d.routers link.router [] = same_bytes-true (slice_index_or d.routers other.router []) (slice_index_or d.routers link.router []) parts.0 in
         let interfaces : other.interface ≡ link.interface = same_bytes-true other.interface link.interface parts.1 in
         let routers : other.router ≡ link.router
-            = sym (router_number_is d other.router (slice_index_or d.routers link.router []) base.different other_router names) ∙ router_number_is d link.router (slice_index_or d.routers link.router []) base.different link_router refl in
+        = sym (router_number_is d other.router (slice_index_or d.routers link.router []) base.different other_router names) ∙ router_number_is d link.router (slice_index_or d.routers link.router []) base.different link_router refl in
         elim (cases_order j k) [
           | inl same ↦ apart same
           | inr unequal ↦ elim unequal [
@@ -162,9 +162,9 @@ prices_back a d w c l [] each = refl
 prices_back a d w c l (link ∷ links) each =
     let place : l + 0 ≡ l = omega arith in
     let first : Fixed (present_cost a (recosted_link c link)) ≡ fixed_at w (price_of a d l link (range_of a d link))
-        = each 0 link refl ∙ ap (λ (n : ℕ). fixed_at w (price_of a d n link (range_of a d link))) place in
+    = each 0 link refl ∙ ap (λ (n : ℕ). fixed_at w (price_of a d n link (range_of a d link))) place in
     let rest = prices_back a d w c (l + 1) links
-        (λ k other there. let next : l + suc k ≡ l + 1 + k = omega arith in each (suc k) other there ∙ ap (λ (n : ℕ). fixed_at w (price_of a d n other (range_of a d other))) next) in
+    (λ k other there. let next : l + suc k ≡ l + 1 + k = omega arith in each (suc k) other there ∙ ap (λ (n : ℕ). fixed_at w (price_of a d n other (range_of a d other))) next) in
     cc
 
 -- the edges of a graph at costs
@@ -206,5 +206,5 @@ recosted_graph_is a d w lines base zip =
     ap (λ (ls : List CostLine). graph_at (recosted (costs_by_lines ls d.routers) d) (map (λ link. Fixed (present_cost a link)) (recosted (costs_by_lines ls d.routers) d).links)) are
     ∙ recosted_graph c d (map (λ link. Fixed (present_cost a link)) (map (recosted_link c) d.links))
     ∙ ap (graph_at d) (prices_back a d w c 0 d.links
-        (λ k link there. let place : k ≡ 0 + k = omega arith in price_back a d w k link base there ∙ ap (λ (n : ℕ). fixed_at w (price_of a d n link (range_of a d link))) place))
+    (λ k link there. let place : k ≡ 0 + k = omega arith in price_back a d w k link base there ∙ ap (λ (n : ℕ). fixed_at w (price_of a d n link (range_of a d link))) place))
     ∙ sym (graph_with_prices w d (prices_from a d 0 d.links))

@@ -189,7 +189,7 @@ find_section router before (line ∷ ls) tail words run apart last none =
     let one : IsOneWord line.router = (All-head NamesWords line ls words).router in
     let rest : List (List ℕ) = three line (cost_lines (Some line.router) ls) in
     let grouped : section router (cost_lines before (line ∷ ls) ++ tail) ≡ section router (router_lines before line.router ++ three line (cost_lines (Some line.router) ls ++ tail))
-        = ap (section router) (append_assoc (router_lines before line.router) rest tail) in
+    = ap (section router) (append_assoc (router_lines before line.router) rest tail) in
     elim run [
       | inl same ↦
           let is : router ≡ line.router = same_bytes-true router line.router same.0 in

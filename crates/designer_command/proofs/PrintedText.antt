@@ -183,8 +183,8 @@ last_lacks : (a : AnswerParts) → all_lack_end (last_part a) ≡ true
 last_lacks a =
     all_append (floor_part a) (tree_lines (codes "proof") a.proof ++ (tree_lines (codes "open") a.unfinished ++ end_part))
     (all_cons (spaced (codes "floor" ∷ floor_word a.floor ∷ [])) (spaced (codes "rows" ∷ decimal (length a.rows) ∷ []) ∷ map row_line a.rows)
-        (spaced_lacks (codes "floor" ∷ floor_word a.floor ∷ []) (all_cons (floor_word a.floor) [] (floor_lacks a.floor) refl))
-        (all_cons (spaced (codes "rows" ∷ decimal (length a.rows) ∷ [])) (map row_line a.rows) (spaced_lacks (codes "rows" ∷ decimal (length a.rows) ∷ []) (decimals_lack (length a.rows ∷ []))) (rows_lack a.rows)))
+    (spaced_lacks (codes "floor" ∷ floor_word a.floor ∷ []) (all_cons (floor_word a.floor) [] (floor_lacks a.floor) refl))
+    (all_cons (spaced (codes "rows" ∷ decimal (length a.rows) ∷ [])) (map row_line a.rows) (spaced_lacks (codes "rows" ∷ decimal (length a.rows) ∷ []) (decimals_lack (length a.rows ∷ []))) (rows_lack a.rows)))
     (all_append (tree_lines (codes "proof") a.proof) (tree_lines (codes "open") a.unfinished ++ end_part) (tree_lacks (codes "proof") a.proof refl)
     (all_append (tree_lines (codes "open") a.unfinished) end_part (tree_lacks (codes "open") a.unfinished refl) refl))
 
@@ -198,7 +198,7 @@ answer_lacks a costs some words =
     ∙ all_append (head_part a) (costs_lines a.costs ++ last_part a) (head_lacks a)
     (all_append (costs_lines a.costs) (last_part a)
     (ap (λ (o : Option Costs). all_lack_end (costs_lines o)) some
-        ∙ all_cons (spaced (codes "costs" ∷ decimal costs.greatest ∷ [])) (cost_lines None costs.lines) (spaced_lacks (codes "costs" ∷ decimal costs.greatest ∷ []) (decimals_lack (costs.greatest ∷ []))) (costs_lack None costs.lines words))
+    ∙ all_cons (spaced (codes "costs" ∷ decimal costs.greatest ∷ [])) (cost_lines None costs.lines) (spaced_lacks (codes "costs" ∷ decimal costs.greatest ∷ []) (decimals_lack (costs.greatest ∷ []))) (costs_lack None costs.lines words))
     (last_lacks a))
 
 -- so the lines of its text are its lines

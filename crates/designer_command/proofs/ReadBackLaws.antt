@@ -107,7 +107,7 @@ routers_from F c n (file ∷ files) each =
     let here : n + 0 ≡ n = omega arith in
     let head : F file ≡ recosted_router (c n) (config_of file.name file.bytes) = each 0 file refl ∙ ap (λ k. recosted_router (c k) (config_of file.name file.bytes)) here in
     let rest = routers_from F c (n + 1) files
-        (λ k other there. let next : n + suc k ≡ n + 1 + k = omega arith in each (suc k) other there ∙ ap (λ m. recosted_router (c m) (config_of other.name other.bytes)) next) in
+    (λ k other there. let next : n + suc k ≡ n + 1 + k = omega arith in each (suc k) other there ∙ ap (λ m. recosted_router (c m) (config_of other.name other.bytes)) next) in
     cc
 
 -- the line of a known name at a cost that may be printed is a line of its router's section
@@ -117,9 +117,9 @@ section_cost d files w k file name base names there known cost same =
     let config : slice_get (routers_of files) k ≡ Some (config_of file.name file.bytes) = slice_get-map (λ (f : ConfigFile). config_of f.name f.bytes) files k ∙ ap (option_map (λ (f : ConfigFile). config_of f.name f.bytes)) there in
     let stands : slice_index_or d.routers k [] ≡ (config_of file.name file.bytes).name = named_at d files k (config_of file.name file.bytes) names config in
     let number : k ≡ known.number
-        = number_of d k known.number base.different (router_in d files k (config_of file.name file.bytes) names config) known.within
-            (same_bytes-same (slice_index_or d.routers k []) (slice_index_or d.routers known.number [])
-            (stands ∙ same_bytes-true (config_of file.name file.bytes).name name.router same ∙ sym known.stands)) in
+    = number_of d k known.number base.different (router_in d files k (config_of file.name file.bytes) names config) known.within
+    (same_bytes-same (slice_index_or d.routers k []) (slice_index_or d.routers known.number [])
+    (stands ∙ same_bytes-true (config_of file.name file.bytes).name name.router same ∙ sym known.stands)) in
     let router : known.router ≡ config_of file.name file.bytes = one (sym known.there ∙ ap (slice_get (routers_of files)) (sym number) ∙ config) in
     record {
       word = known.interface_word;
@@ -140,22 +140,22 @@ router_back_is d asked files a costs w k file base names known within some are t
     let inside = router_in d files k (config_of file.name file.bytes) names config in
     let pairs : List (List ℕ × ℕ) = pairs_of (config_of file.name file.bytes).name costs.lines in
     let run : OneRun (config_of file.name file.bytes).name costs.lines
-        = subst (λ (ls : List CostLine). OneRun (config_of file.name file.bytes).name ls) (sym are)
-            (subst (λ (r : List ℕ). OneRun r (map (line_at w) (names_from asked d 0 d.links))) stands
-            (one_run asked d w k 0 d.links base.different inside (λ j link link_in. (base.each_link j link link_in).router) base.in_order)) in
+    = subst (λ (ls : List CostLine). OneRun (config_of file.name file.bytes).name ls) (sym are)
+    (subst (λ (r : List ℕ). OneRun r (map (line_at w) (names_from asked d 0 d.links))) stands
+    (one_run asked d w k 0 d.links base.different inside (λ j link link_in. (base.each_link j link link_in).router) base.in_order)) in
     let words : All NamesWords costs.lines
-        = subst (λ (ls : List CostLine). All NamesWords ls) (sym are)
-            (All-map NamesWords (line_at w) (names_from asked d 0 d.links) (λ j name name_in. record { router = (known j name name_in).router_word; interface = (known j name name_in).interface_word })) in
+    = subst (λ (ls : List CostLine). All NamesWords ls) (sym are)
+    (All-map NamesWords (line_at w) (names_from asked d 0 d.links) (λ j name name_in. record { router = (known j name name_in).router_word; interface = (known j name name_in).interface_word })) in
     let printed : All (IsSectionCost (lines file.bytes)) pairs
-        = pairs_all (IsSectionCost (lines file.bytes)) (config_of file.name file.bytes).name costs.lines
-            (subst (λ (ls : List CostLine). All (λ line. same_bytes (config_of file.name file.bytes).name line.router ≡ true → IsSectionCost (lines file.bytes) (line.interface, line.cost)) ls) (sym are)
-            (All-map (λ (line : CostLine). same_bytes (config_of file.name file.bytes).name line.router ≡ true → IsSectionCost (lines file.bytes) (line.interface, line.cost)) (line_at w) (names_from asked d 0 d.links)
-            (λ j name name_in same. section_cost d files w k file (get_or (names_from asked d 0 d.links) j name) base names there (known j name name_in) (within j name name_in) same))) in
+    = pairs_all (IsSectionCost (lines file.bytes)) (config_of file.name file.bytes).name costs.lines
+    (subst (λ (ls : List CostLine). All (λ line. same_bytes (config_of file.name file.bytes).name line.router ≡ true → IsSectionCost (lines file.bytes) (line.interface, line.cost)) ls) (sym are)
+    (All-map (λ (line : CostLine). same_bytes (config_of file.name file.bytes).name line.router ≡ true → IsSectionCost (lines file.bytes) (line.interface, line.cost)) (line_at w) (names_from asked d 0 d.links)
+    (λ j name name_in same. section_cost d files w k file (get_or (names_from asked d 0 d.links) j name) base names there (known j name name_in) (within j name name_in) same))) in
     ap (λ (section_is : List (List ℕ)). config_of file.name (ended file.bytes ++ with_ends section_is)) (section_printed (config_of file.name file.bytes).name a costs some words run)
     ∙ config_of-section file.name file.bytes pairs printed
     ∙ ap (λ (is : List Interface). record (config_of file.name file.bytes) { interfaces = is })
-        (interfaces_same pairs (costs_by_lines costs.lines d.routers k) (config_of file.name file.bytes).interfaces
-        (λ name before. pairs_cost (config_of file.name file.bytes).name costs.lines name before ∙ ap (λ (r : List ℕ). cost_in costs.lines r name before) (sym stands)))
+    (interfaces_same pairs (costs_by_lines costs.lines d.routers k) (config_of file.name file.bytes).interfaces
+    (λ name before. pairs_cost (config_of file.name file.bytes).name costs.lines name before ∙ ap (λ (r : List ℕ). cost_in costs.lines r name before) (sym stands)))
 
 -- the database read back is the database with the costs of the lines
 pub database_back_is : (d : Design) (a : AnswerParts) (costs : Costs) (w : List ℕ) → d.database ≡ database_of d.asked.area (routers_of d.files) → IsDatabase d.database → a.costs ≡ Some costs → costs.lines ≡ map (line_at w) (names_from d.asked d.database 0 d.database.links) →
@@ -163,13 +163,13 @@ pub database_back_is : (d : Design) (a : AnswerParts) (costs : Costs) (w : List 
 database_back_is d a costs w is base some are within =
     let names : d.database.routers ≡ map (λ r. r.name) (routers_of d.files) = ap (λ (b : Database). b.routers) is in
     let owned : All (IsLinkOf (routers_of d.files)) d.database.links
-        = subst (λ (b : Database). All (IsLinkOf (routers_of d.files)) b.links) (sym is) (links_of_routers d.asked.area (routers_of d.files)) in
+    = subst (λ (b : Database). All (IsLinkOf (routers_of d.files)) b.links) (sym is) (links_of_routers d.asked.area (routers_of d.files)) in
     let known = names_known d.asked d.database (routers_of d.files) 0 d.database.links base base.each_link owned in
     let c : ℕ → List ℕ → Option ℕ → Option ℕ = costs_by_lines costs.lines d.database.routers in
     ap (database_of d.asked.area)
-        (routers_from (router_back (text a)) c 0 d.files
-        (λ k file there. let place : k ≡ 0 + k = omega arith in
-            router_back_is d.database d.asked d.files a costs w k file base names known within some are there ∙ ap (λ m. recosted_router (c m) (config_of file.name file.bytes)) place))
+    (routers_from (router_back (text a)) c 0 d.files
+    (λ k file there. let place : k ≡ 0 + k = omega arith in
+    router_back_is d.database d.asked d.files a costs w k file base names known within some are there ∙ ap (λ m. recosted_router (c m) (config_of file.name file.bytes)) place))
     ∙ recosted_database c d.asked.area (routers_of d.files)
     ∙ ap (recosted c) (sym is)
 
@@ -178,7 +178,7 @@ pub graph_back_is : (d : Design) (a : AnswerParts) (costs : Costs) (w : List ℕ
 graph_back_is d a costs w ready base some names within =
     let zip : Names (problem_of d.asked d.database) costs.lines w = subst (λ (p : DesignProblem). Names p costs.lines w) ready.problem_is names in
     let inside : All (λ name. (1 ≤ slice_index w name.var) × (slice_index w name.var ≤ 65535)) (names_from d.asked d.database 0 d.database.links)
-        = subst (λ (p : DesignProblem). All (λ name. (1 ≤ slice_index w name.var) × (slice_index w name.var ≤ 65535)) p.vars) ready.problem_is within in
+    = subst (λ (p : DesignProblem). All (λ name. (1 ≤ slice_index w name.var) × (slice_index w name.var ≤ 65535)) p.vars) ready.problem_is within in
     let are = named_lines w (names_from d.asked d.database 0 d.database.links) costs.lines zip in
     ap (λ (b : Database). graph_at b (map (λ link. Fixed (present_cost d.asked link)) b.links)) (database_back_is d a costs w ready.database_is base some are inside)
     ∙ recosted_graph_is d.asked d.database w costs.lines base zip

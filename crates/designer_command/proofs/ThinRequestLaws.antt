@@ -115,7 +115,7 @@ lines_thin (header ∷ area_line ∷ free_line ∷ paths) a is =
     let first : Item = record { line = 3; what = FreeAll free.lo free.hi } in
     let items : a.items ≡ first ∷ parts.more = parts.items_are ∙ ap (λ (w : Wish). record { line = 3; what = w } ∷ parts.more) free.is in
     let counted : count_by is_path a.items ≡ 0 + count_by is_path parts.more
-        = ap (λ (is : List Item). count_by is_path is) items ∙ sum_by-cons (λ (i : Item). cond (is_path i) 1 0) first parts.more in
+    = ap (λ (is : List Item). count_by is_path is) items ∙ sum_by-cons (λ (i : Item). cond (is_path i) 1 0) first parts.more in
     record {
       lo = free.lo;
       hi = free.hi;

@@ -124,7 +124,7 @@ pub subnet_found : (n : ℕ) (all : List Port) → IsSound n all → (l : ℕ) (
 subnet_found n all sound l p at kind =
     let kept = sound_linked n all sound in
     elim (first_found [] (linked all) l p at (all_from_at (λ q. shares_subnet p q ≡ true → is_broadcast q ≡ true) (linked all) (λ k q at_k shares.
-        ap is_broadcast_kind (sym (kinds_at (linked all) kept.kinds l k p q at at_k shares) ∙ kind)))) [
+    ap is_broadcast_kind (sym (kinds_at (linked all) kept.kinds l k p q at at_k shares) ∙ kind)))) [
       | inl found ↦ found
       | inr none ↦ absurd (false≢true none)
     ]
@@ -196,7 +196,7 @@ link_has_mate area routers sound l p at = by_kind p.interface.kind refl
         let all = ports area routers in
         let m = mate_found (0 + length routers) all sound l p at is in
         let other : IsMateOf l (link_of all p) (Some (link_of all m.port)) =
-            (ap (mate_of all m.port) m.kind ∙ m.back, far_is all l p is m.place m.port m.forth m.at, far_is all m.place m.port m.kind l p m.back at) in
+        (ap (mate_of all m.port) m.kind ∙ m.back, far_is all l p is m.place m.port m.forth m.at, far_is all m.place m.port m.kind l p m.back at) in
         subst (λ o. HasMate (database_of area routers) l (link_of all p) (ToRouter (router_at (linked all) o)) o) (sym m.forth)
         (m.apart, subst (IsMateOf l (link_of all p)) (sym (at_map (link_of all) (linked all) m.place m.port m.at)) other)
     by_kind Broadcast is = tt
@@ -278,7 +278,7 @@ members_are area routers sound s within =
     let first = map_at (λ f. places_from 0 (shares_subnet f) (linked all)) (transit_subnets all) s (slice_index_or d.subnets s []) (slice_get-get_or d.subnets s [] within) in
     first.2
     ∙ places_are (λ l. link_leads_to s (slice_get d.links l)) (shares_subnet first.0) 0 (linked all) (λ k p at.
-        ap (λ i. link_leads_to s (slice_get d.links i)) (zero-add k) ∙ ap (link_leads_to s) (at_map (link_of all) (linked all) k p at) ∙ sym (leads_where_shares (0 + length routers) all sound s first.0 first.1 k p at))
+    ap (λ i. link_leads_to s (slice_get d.links i)) (zero-add k) ∙ ap (link_leads_to s) (at_map (link_of all) (linked all) k p at) ∙ sym (leads_where_shares (0 + length routers) all sound s first.0 first.1 k p at))
     ∙ ap (λ n. filter (λ l. link_leads_to s (slice_get d.links l)) (numbers_from 0 n)) (sym (length-map (linked all) (link_of all)))
 
 -- the database of faultless configurations is one

@@ -1,11 +1,11 @@
 -- The problem of a thin request that resolves keeps what every problem keeps.
-use Rattle.std.proofs.Common.{inl, inr, ◌≡◌, ◌≢◌, ℕ, zero, suc, ◌+◌, ◌<◌, ◌≤◌, refl, sym, ◌∙◌, ap, subst, List, [], ◌∷◌, ◌++◌, length, map, replicate, get_or, arith, Bool, true, false, cond, Option, Some, None}
-use Rattle.std.specs.Prelude.{All, Any, count_by, slice_index, slice_index_or, ◌&&◌, nat_le}
-use Rattle.std.specs.List.{filter_map, list_all}
-use Rattle.std.proofs.lemmas.List.{get_or_default, length-append, length-map, length-replicate, get_or-replicate}
-use Rattle.std.proofs.lemmas.List.Elements.{All-nil, All-cons, All-head, All-tail, All-append, All-map, All-weaker}
+use Rattle.std.proofs.Common.{◌≡◌, ℕ, zero, suc, ◌+◌, ◌<◌, ◌≤◌, refl, sym, ◌∙◌, ap, subst, List, [], ◌∷◌, ◌++◌, length, map, replicate, get_or, arith, true, cond}
+use Rattle.std.specs.Prelude.{All, Any, count_by, slice_index_or, nat_le}
+use Rattle.std.specs.List.{list_all}
+use Rattle.std.proofs.lemmas.List.{get_or_default, length-map, length-replicate, get_or-replicate}
+use Rattle.std.proofs.lemmas.List.Elements.{All-nil, All-cons, All-head, All-tail, All-append, All-map}
 use Rattle.std.proofs.lemmas.List.Sums.{sum_by-cons}
-use Rattle.std.proofs.lemmas.Bool.{and_parts, leb-true, false≢true}
+use Rattle.std.proofs.lemmas.Bool.{and_parts, leb-true}
 use Rattle.cost_base.specs.Words.{IsWord}
 use Rattle.cost_base.specs.Lists.{numbers_from}
 use Rattle.area_graph.specs.declared.Price.{Price}
@@ -18,15 +18,15 @@ use Rattle.lsdb_build.specs.declared.Linked.{Linked}
 use Rattle.lsdb_build.specs.Graphs.{Database, IsDatabase, IsLink, graph_at, link_edges, subnet_edges, router_of, far_vertex}
 use Rattle.path_rows.specs.declared.problem.VarName.{VarName}
 use Rattle.path_rows.specs.declared.problem.Request.{Request}
-use Rattle.path_rows.specs.Problems.{DesignProblem, IsProblem, ends_of}
+use Rattle.path_rows.specs.Problems.{DesignProblem, IsProblem, TakesAway, ends_of}
 use Rattle.path_requests.specs.declared.Wish.{Wish}
 use Rattle.path_requests.specs.declared.Wish.TheVariants.{FreeAll, Free, Fix, Path, SymmetricAll, Symmetric}
 use Rattle.path_requests.specs.declared.Item.{Item}
 use Rattle.path_requests.specs.Wishes.{Route}
-use Rattle.path_requests.specs.Meaning.{Asked, IsAsked, is_path_wish, is_path, owners, prices_from, problem_of}
+use Rattle.path_requests.specs.Meaning.{Asked, is_path_wish, is_path, owners, prices_from, problem_of}
 use Rattle.path_requests.specs.Resolution.{resolves, resolves_wish, resolves_route}
-use Rattle.path_requests.specs.Thin.{IsPlainPath, IsThinAsked}
-use Rattle.path_requests.proofs.ThinProblems.{plain_names, plain_request, route_in, routes_of, IsThinProblem, thin_problem_is}
+use Rattle.path_requests.specs.Thin.{IsThinAsked}
+use Rattle.path_requests.proofs.ThinProblems.{plain_names, plain_request, route_in, routes_of, thin_problem_is}
 use Rattle.path_requests.proofs.RouteLaws.{numbers_length, route_simple, avoids_none}
 
 -- the routes of paths that resolve do so
@@ -147,6 +147,7 @@ plain_is_problem d lo hi routes base least ordered few short resolved =
             simple = route_simple d prices (get_or routes k route) base priced (resolved k route within);
             kept = avoids_none (plain_request d g (get_or routes k route)).path.edges;
           });
+      gone = All-map (λ (r : Request). TakesAway g r.gone) (plain_request d g) routes (λ k route within. (λ i below. absurd (omega arith), All-nil (λ (e : ℕ). e < length g.edges)));
       low_count = count_low ∙ sym count_high;
       var_count = omega arith;
       ordered = λ k within. (
@@ -169,10 +170,10 @@ thin_is_problem a d lo hi thin short base resolved =
     let parts = and_parts (list_all (λ item. resolves_wish d g item.what) a.items) (nat_le (length (owners a d)) 1000) resolved in
     let first : Item = record { line = thin.line; what = FreeAll lo hi } in
     let paths : list_all (λ item. resolves_wish d g item.what) thin.paths ≡ true
-        = ap (λ (items : List Item). list_all (λ item. resolves_wish d g item.what) items) (sym thin.lines_are) ∙ parts.0 in
+    = ap (λ (items : List Item). list_all (λ item. resolves_wish d g item.what) items) (sym thin.lines_are) ∙ parts.0 in
     let counted : count_by is_path a.items ≡ 0 + count_by is_path thin.paths
-        = ap (λ (items : List Item). count_by is_path items) thin.lines_are ∙ sum_by-cons (λ (i : Item). cond (is_path i) 1 0) first thin.paths in
+    = ap (λ (items : List Item). count_by is_path items) thin.lines_are ∙ sum_by-cons (λ (i : Item). cond (is_path i) 1 0) first thin.paths in
     let few : length d.links ≤ 1000 = omega (arith, leb-true (length (owners a d)) 1000 parts.1, ap length is.owners_are, numbers_length 0 (length d.links)) in
     let plain = plain_is_problem d lo hi (routes_of thin.paths) base thin.least thin.ordered few (omega (arith, routes_count thin.paths))
-        (subst (λ (h : Area). All (λ route. resolves_route d h route ≡ true) (routes_of thin.paths)) is.graph_is (routes_resolve d g thin.paths paths)) in
+    (subst (λ (h : Area). All (λ route. resolves_route d h route ≡ true) (routes_of thin.paths)) is.graph_is (routes_resolve d g thin.paths paths)) in
     subst (λ (p : DesignProblem). IsProblem p) (sym (thin_problem_plain a d lo hi thin)) plain

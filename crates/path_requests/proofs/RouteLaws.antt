@@ -1,6 +1,6 @@
 -- A route that resolves is a simple path of the database's graph, whatever the prices are.
-use Rattle.std.proofs.Common.{inl, inr, ◌≡◌, ◌≢◌, ℕ, zero, suc, ◌+◌, ◌<◌, ◌≤◌, refl, sym, ◌∙◌, ap, subst, List, [], ◌∷◌, ◌++◌, length, map, get_or, arith, Bool, true, false, cond, Option, Some, None}
-use Rattle.std.specs.Prelude.{All, Any, AllPairs, filter, slice_get, slice_index_or, unwrap_or, not, ◌&&◌, ◌==◌}
+use Rattle.std.proofs.Common.{inl, inr, ◌≡◌, ◌≢◌, ℕ, zero, suc, ◌+◌, ◌<◌, ◌≤◌, refl, sym, ◌∙◌, ap, subst, List, [], ◌∷◌, ◌++◌, length, map, get_or, arith, Bool, true, false, Option, Some, None}
+use Rattle.std.specs.Prelude.{AllPairs, filter, slice_get, slice_index_or, not, ◌&&◌, ◌==◌}
 use Rattle.std.specs.List.{list_any}
 use Rattle.std.proofs.lemmas.List.{get_or_default, get_or_append_left, get_or-append-add, length-append, length-map, get_or-map}
 use Rattle.std.proofs.lemmas.List.Folds.{Any-from_list_any}
@@ -137,7 +137,7 @@ member_edge : (links : List Linked) (vertex router : ℕ) (members : List ℕ) �
 member_edge links vertex router members is_member =
     let any = Any-from_list_any (λ l. router_of links l == router) members is_member in
     let same : get_or (map (λ l. record { from = vertex; to = router_of links l; price = Zero }) members) any.0 no_edge ≡ record { from = vertex; to = router_of links (get_or members any.0 any.1); price = Zero }
-        = get_or-map (λ (l : ℕ). record { from = vertex; to = router_of links l; price = Zero }) members any.0 any.1 no_edge any.2 in
+    = get_or-map (λ (l : ℕ). record { from = vertex; to = router_of links l; price = Zero }) members any.0 any.1 no_edge any.2 in
     record {
       place = any.0;
       within = omega (arith, any.2, length-map {B = Edge} members (λ (l : ℕ). record { from = vertex; to = router_of links l; price = Zero }));
@@ -178,7 +178,7 @@ link_edge n (first ∷ links) (price ∷ prices) more (suc l) link same there =
 pub edge_to_known : (g : Area) (source target : ℕ) → HasEdge g.edges source target → (edge_to g source target < length g.edges) × ((edge_at g (edge_to g source target)).from ≡ source) × ((edge_at g (edge_to g source target)).to ≡ target)
 edge_to_known g source target has =
     let first = first_passing (λ e. (edge_at g e).from == source && (edge_at g e).to == target) 0 (length g.edges) has.place (omega arith) (omega (arith, has.within))
-        (and_from ((edge_at g has.place).from == source) ((edge_at g has.place).to == target) (eq-eqb (edge_at g has.place).from source has.from) (eq-eqb (edge_at g has.place).to target has.to)) in
+    (and_from ((edge_at g has.place).from == source) ((edge_at g has.place).to == target) (eq-eqb (edge_at g has.place).from source has.from) (eq-eqb (edge_at g has.place).to target has.to)) in
     let is : edge_to g source target ≡ first.number = rw first.found refl in
     let parts = and_parts ((edge_at g first.number).from == source) ((edge_at g first.number).to == target) first.passes in (
       omega (arith, first.below),
@@ -218,14 +218,14 @@ route_joins d prices (hop ∷ hops) last base same known joined =
     let within : link_number d hop.0 hop.1 < length d.links = slice_get_within d.links (link_number d hop.0 hop.1) found.link found.there in
     let link_is : get_or d.links (link_number d hop.0 hop.1) found.link ≡ found.link = get_or_from_slice_get d.links (link_number d hop.0 hop.1) found.link found.link found.there in
     let its_router : found.link.router < length d.routers
-        = subst (λ (i : Linked). i.router < length d.routers) link_is (base.each_link (link_number d hop.0 hop.1) found.link within).router in
+    = subst (λ (i : Linked). i.router < length d.routers) link_is (base.each_link (link_number d hop.0 hop.1) found.link within).router in
     let starts : router_number d hop.0 ≡ found.link.router
-        = router_number_is d found.link.router hop.0 base.different its_router (same_bytes-true (slice_index_or d.routers found.link.router []) hop.0 owner.0) in
+    = router_number_is d found.link.router hop.0 base.different its_router (same_bytes-true (slice_index_or d.routers found.link.router []) hop.0 owner.0) in
     rw (starts, found.there)
     (hop_joins d (graph_at d prices) (link_number d hop.0 hop.1) found.link (router_number d (next_name hops last)) (router_number d last) (route_edges d (graph_at d prices) hops last)
     (link_edge (length d.routers) d.links prices (subnet_edges d.links (length d.routers) d.subnets) (link_number d hop.0 hop.1) found.link same found.there)
     (λ s is_member. has_right (link_edges (length d.routers) d.links prices) (subnet_edges d.links (length d.routers) d.subnets) (length d.routers + s) (router_number d (next_name hops last))
-        (subnet_edge d.links (length d.routers) (router_number d (next_name hops last)) d.subnets s is_member))
+    (subnet_edge d.links (length d.routers) (router_number d (next_name hops last)) d.subnets s is_member))
     leads rest)
 
 none_twice_is : (xs : List ℕ) → is_none_twice xs ≡ true → NoneTwice xs
@@ -247,7 +247,7 @@ numbers_length a (suc n) = ap suc (numbers_length (a + 1) n)
 pub router_vertex : (d : Database) (prices : List Price) (r : ℕ) → r < length d.routers → r < length (graph_at d prices).vertices
 router_vertex d prices r within =
     let routers : length (map RouterVertex (numbers_from 0 (length d.routers))) ≡ length d.routers
-        = length-map {B = Vertex} (numbers_from 0 (length d.routers)) RouterVertex ∙ numbers_length 0 (length d.routers) in
+    = length-map {B = Vertex} (numbers_from 0 (length d.routers)) RouterVertex ∙ numbers_length 0 (length d.routers) in
     let whole = length-append (map RouterVertex (numbers_from 0 (length d.routers))) (map SubnetVertex (numbers_from 0 (length d.subnets))) in
     omega arith
 

@@ -1,16 +1,15 @@
 -- What the problem of a thin request computes to: every link is free and has the variable of its own number.
-use Rattle.std.proofs.Common.{inl, inr, ◌≡◌, ◌≢◌, ℕ, zero, suc, ◌+◌, ◌<◌, ◌≤◌, refl, sym, ◌∙◌, ap, subst, List, [], ◌∷◌, ◌++◌, length, map, replicate, get_or, arith, Bool, true, false, ltb, eqb, cond, Option, Some, None}
-use Rattle.std.specs.Prelude.{All, filter, count_by, slice_get, slice_index_or, unwrap_or, if◌then◌else◌, ◌&&◌, ◌||◌, ◌==◌, nat_lt}
+use Rattle.std.proofs.Common.{inl, inr, ◌≡◌, ℕ, zero, suc, ◌+◌, ◌<◌, ◌≤◌, refl, sym, ◌∙◌, ap, List, [], ◌∷◌, ◌++◌, length, map, replicate, get_or, arith, Bool, true, false, cond, Option, Some, None}
+use Rattle.std.specs.Prelude.{All, filter, count_by, slice_get, slice_index_or, ◌&&◌, ◌==◌, nat_lt}
 use Rattle.std.specs.List.{filter_map, list_any, cons_option}
 use Rattle.std.proofs.lemmas.List.{map-append}
 use Rattle.path_requests.specs.declared.Part.{Part}
 use Rattle.std.proofs.lemmas.List.Elements.{All-head, All-tail}
 use Rattle.std.proofs.lemmas.List.Sums.{sum_by-cons}
-use Rattle.std.proofs.lemmas.Option.{slice_get-get_or, get_or_from_slice_get}
+use Rattle.std.proofs.lemmas.Option.{slice_get-get_or}
 use Rattle.std.proofs.lemmas.Bool.{eq-eqb, lt-ltb, le-ltb, cases_lt, and_from}
-use Rattle.cost_base.specs.Lists.{numbers_from, last_of}
-use Rattle.area_graph.specs.declared.Price.{Price}
-use Rattle.area_graph.specs.declared.Price.TheVariants.{Fixed, Var}
+use Rattle.cost_base.specs.Lists.{numbers_from}
+use Rattle.area_graph.specs.declared.Price.TheVariants.{Var}
 use Rattle.area_graph.specs.Area.{Area}
 use Rattle.lsdb_build.specs.declared.Far.TheVariants.{Router}
 use Rattle.path_requests.specs.Wishes.{Route}
@@ -21,7 +20,7 @@ use Rattle.path_rows.specs.declared.problem.Request.{Request}
 use Rattle.path_requests.specs.declared.Wish.{Wish}
 use Rattle.path_requests.specs.declared.Wish.TheVariants.{FreeAll, Free, Fix, Path, SymmetricAll, Symmetric}
 use Rattle.path_requests.specs.declared.Item.{Item}
-use Rattle.path_requests.specs.Meaning.{Asked, Range, Within, AsItIs, range_said, range_of, is_free, low_of, high_of, says_symmetric, any_symmetric, option_at, is_symmetric, owner_by_mate, owner_at, owner, is_free_at, owners, variable_of, ranges, price_of, prices_from, names_from, request_of, gone_edges, problem_of, router_number, route_edges, next_name}
+use Rattle.path_requests.specs.Meaning.{Asked, Within, range_said, range_of, low_of, high_of, says_symmetric, any_symmetric, option_at, is_symmetric, owner_by_mate, owner_at, owner, is_free_at, owners, variable_of, ranges, prices_from, names_from, request_of, gone_edges, problem_of, router_number, route_edges, next_name}
 use Rattle.path_requests.specs.Thin.{IsPlainPath, IsThinAsked}
 
 -- a plain path says nothing of ranges or of symmetry
@@ -100,7 +99,7 @@ none_below l a zero above = refl
 none_below l a (suc n) above =
     let rest = none_below l (a + 1) n (omega arith) in
     let whole : count_by (λ m. nat_lt m l) (numbers_from a (suc n)) ≡ 0 + count_by (λ m. nat_lt m l) (numbers_from (a + 1) n)
-        = sum_by-cons (λ m. cond (nat_lt m l) 1 0) a (numbers_from (a + 1) n) ∙ rw (le-ltb a l above) refl in
+    = sum_by-cons (λ m. cond (nat_lt m l) 1 0) a (numbers_from (a + 1) n) ∙ rw (le-ltb a l above) refl in
     omega arith
 
 -- as many numbers of a run from a on stand below l as l is above a
@@ -112,7 +111,7 @@ count_below l a (suc n) above within =
           let rest = count_below l (a + 1) n (omega arith) (omega arith) in
           let first : nat_lt a l ≡ true = lt-ltb a l less in
           let whole : count_by (λ m. nat_lt m l) (numbers_from a (suc n)) ≡ 1 + count_by (λ m. nat_lt m l) (numbers_from (a + 1) n)
-              = sum_by-cons (λ m. cond (nat_lt m l) 1 0) a (numbers_from (a + 1) n) ∙ rw first refl in
+          = sum_by-cons (λ m. cond (nat_lt m l) 1 0) a (numbers_from (a + 1) n) ∙ rw first refl in
           omega arith
       | inr more ↦ rw (none_below l a (suc n) more) (omega arith)
     ]
