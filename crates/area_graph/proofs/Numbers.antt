@@ -1,10 +1,10 @@
 -- Numbers in a row, and those of them that pass a test.
-use Rattle.std.proofs.Common.{◌≡◌, ℕ, zero, suc, ◌+◌, ◌<◌, refl, ap, sym, ◌∙◌, List, [], ◌∷◌, ◌++◌, Bool, true, false, length, get_or, set, filter, cond, eqb, eq-eqb, arith, add-zero, subst, get_or-set_other, get_or-set_same, append-nil, zero-add}
-use Rattle.std.proofs.lemmas.Bool.{ne_eqb}
-use Rattle.std.proofs.lemmas.List.Elements.{filter-append}
+use Rattle.std.proofs.Common.{◌≡◌, ℕ, zero, suc, ◌+◌, ◌<◌, ◌≤◌, All, refl, ap, sym, ◌∙◌, List, [], ◌∷◌, ◌++◌, Bool, true, false, length, get_or, set, filter, cond, eqb, eq-eqb, arith, add-zero, subst, get_or-set_other, get_or-set_same, append-nil, zero-add}
+use Rattle.std.proofs.lemmas.Bool.{eqb-true, ne_eqb}
+use Rattle.std.proofs.lemmas.List.Elements.{filter-append, All-cons, All-head, All-nil, All-tail}
 use native.Mathlib.Decide.{ℕ_discrete}
 use Rattle.cost_base.specs.Lists.{numbers_from}
-use Rattle.area_graph.specs.Area.{Area, edge_at}
+use Rattle.area_graph.specs.Area.{Area, edge_at, edges_out}
 use Rattle.area_graph.specs.declared.adjacency.Side.{Side}
 use Rattle.area_graph.specs.Adjacency.{end_on, listed_below}
 
@@ -37,3 +37,42 @@ lists_more lists n side g before same_count w is_end within pushed is_pushed v b
           get_or-set_other lists w v pushed [] other ∙ before v below
           ∙ sym (listed_more n side g v ∙ ap (λ t. listed_below n side g v ++ cond t (n ∷ []) []) apart ∙ append-nil (listed_below n side g v))
     ]
+
+first_kept : (P : ℕ → Type 0) (b : Bool) (x : ℕ) (xs : List ℕ) → (b ≡ true → P x) → All P xs → All P (cond b (x ∷ xs) xs)
+first_kept P true x xs here rest = All-cons P x xs (here refl) rest
+first_kept P false x xs here rest = rest
+
+first_split : (P : ℕ → Type 0) (b : Bool) (x : ℕ) (xs : List ℕ) → All P (cond b (x ∷ xs) xs) → (b ≡ true → P x) × All P xs
+first_split P true x xs all = (λ yes. All-head P x xs all, All-tail P x xs all)
+first_split P false x xs all = (λ yes. absurd (clash yes), all)
+  where
+    clash : false ≡ true → ⊥
+    clash h = cc
+
+-- what holds of each number that passes holds of those that are kept
+pub all_kept : (P : ℕ → Type 0) (test : ℕ → Bool) (a n : ℕ) → ((e : ℕ) → a ≤ e → e < a + n → test e ≡ true → P e) → All P (filter test (numbers_from a n))
+all_kept P test a zero each = All-nil P
+all_kept P test a (suc n) each =
+    first_kept P (test a) a (filter test (numbers_from (a + 1) n)) (λ yes. each a (omega arith) (omega arith) yes)
+    (all_kept P test (a + 1) n (λ e above below yes. each e (omega arith) (omega arith) yes))
+
+-- what holds of the numbers that are kept holds of each that passes
+pub kept_all : (P : ℕ → Type 0) (test : ℕ → Bool) (a n : ℕ) → All P (filter test (numbers_from a n)) → (e : ℕ) → a ≤ e → e < a + n → test e ≡ true → P e
+kept_all P test a zero all e above below passes = absurd (omega arith)
+kept_all P test a (suc n) all e above below passes =
+    let split = first_split P (test a) a (filter test (numbers_from (a + 1) n)) all in
+    elim (ℕ_discrete e a) [
+      | yes same ↦ subst P (sym same) (split.0 (ap test (sym same) ∙ passes))
+      | no other ↦ kept_all P test (a + 1) n split.1 e (omega arith) (omega arith) passes
+    ]
+
+-- the edges out of a vertex are edges of the graph
+pub out_known : (g : Area) (v : ℕ) → All (λ e. e < length g.edges) (edges_out g v)
+out_known g v = all_kept (λ e. e < length g.edges) (λ e. eqb (edge_at g e).from v) 0 (length g.edges) (λ e above below yes. omega arith)
+
+-- the edges out of a vertex are those that begin there
+pub all_out : (P : ℕ → Type 0) (g : Area) (v : ℕ) → ((e : ℕ) → e < length g.edges → (edge_at g e).from ≡ v → P e) → All P (edges_out g v)
+all_out P g v each = all_kept P (λ e. eqb (edge_at g e).from v) 0 (length g.edges) (λ e above below yes. each e (omega arith) (eqb-true (edge_at g e).from v yes))
+
+pub out_all : (P : ℕ → Type 0) (g : Area) (v : ℕ) → All P (edges_out g v) → (e : ℕ) → e < length g.edges → (edge_at g e).from ≡ v → P e
+out_all P g v all e known from = kept_all P (λ e. eqb (edge_at g e).from v) 0 (length g.edges) all e (omega arith) (omega arith) (eq-eqb (edge_at g e).from v from)

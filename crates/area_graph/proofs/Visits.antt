@@ -1,5 +1,5 @@
 -- Paths cut at a place: what they visit, and that their edges are known.
-use Rattle.std.proofs.Common.{◌≡◌, ◌≢◌, ℕ, zero, suc, ◌+◌, ◌<◌, ◌≤◌, refl, ap, sym, subst, ◌∙◌, List, [], ◌∷◌, ◌++◌, All, length, get_or, take, drop, map, arith, add-one}
+use Rattle.std.proofs.Common.{◌≡◌, ◌≢◌, ℕ, ◌+◌, ◌<◌, ap, sym, subst, ◌∙◌, List, [], ◌∷◌, ◌++◌, All, length, get_or, take, drop, map, add-one}
 use Rattle.std.proofs.lemmas.List.Elements.{All-cons, All-nil}
 use Rattle.std.proofs.lemmas.List.{take_more, map-append, take-append-drop}
 use Rattle.std.proofs.Math.Seq.{drop-cons}
@@ -22,7 +22,8 @@ pub lacks_first : (xs ys : List ℕ) (x : ℕ) → Lacks (xs ++ ys) x → Lacks 
 lacks_first [] ys x lacks = tt
 lacks_first (z ∷ zs) ys x lacks = (lacks.0, lacks_first zs ys x lacks.1)
 
-lacks_seam : (xs : List ℕ) (y : ℕ) (ys : List ℕ) (x : ℕ) → Lacks (xs ++ y ∷ ys) x → x ≢ y
+-- what a list lacks differs from each of its elements
+pub lacks_seam : (xs : List ℕ) (y : ℕ) (ys : List ℕ) (x : ℕ) → Lacks (xs ++ y ∷ ys) x → x ≢ y
 lacks_seam [] y ys x lacks = lacks.0
 lacks_seam (z ∷ zs) y ys x lacks = lacks_seam zs y ys x lacks.1
 
