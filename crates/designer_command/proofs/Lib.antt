@@ -11,3 +11,4 @@ pub mod ReadBackLaws
 pub mod ThinRequestLaws
 pub mod DesignedLaws
 mod Examples
+pub mod Runs

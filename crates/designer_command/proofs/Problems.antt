@@ -33,11 +33,11 @@ pub record Says (held : List ℕ → Option (List ℕ)) (job : Job) (asked : Ask
 -- the problem that was made is that of the files
 pub problem_ready : (held : List ℕ → Option (List ℕ)) (job : Job) (asked : Asked) (routers : List Router) (d : Database) (p : DesignProblem) → Says held job asked routers →
     OnReady (topology_read job.request asked.area routers) (λ read. d ≡ read) → OnReady (problem_read job.request asked d) (λ read. p ≡ read) →
-    OnReady (outcome held job) (λ x. x.problem ≡ p)
+    OnReady (outcome held job) (λ x. (x.problem ≡ p) × (x.database ≡ d))
 problem_ready held job asked routers d p says made solved =
-    let Q : Design → Type 0 = λ x. x.problem ≡ p in
+    let Q : Design → Type 0 = λ x. (x.problem ≡ p) × (x.database ≡ d) in
     let of_database : (files : List ConfigFile) → OnReady (after_topology job asked files d) Q = λ files.
-        both_ready (problem_read job.request asked d) (λ q. Ready (record { asked = asked; files = files; database = d; problem = q })) Q (ready_so (problem_read job.request asked d) (λ read. p ≡ read) (λ q. q ≡ p) solved (λ q e. sym e)) in
+        both_ready (problem_read job.request asked d) (λ q. Ready (record { asked = asked; files = files; database = d; problem = q })) Q (ready_so (problem_read job.request asked d) (λ read. p ≡ read) (λ q. (q ≡ p) × (d ≡ d)) solved (λ q e. (sym e, refl))) in
     let of_files : (files : List ConfigFile) → routers ≡ routers_of files → OnReady (after_configs job asked files) Q = λ files e.
         both_ready (topology_read job.request asked.area (routers_of files)) (after_topology job asked files) Q
         (ready_so (topology_read job.request asked.area (routers_of files)) (λ read. d ≡ read) (λ x. OnReady (after_topology job asked files x) Q)
@@ -121,3 +121,14 @@ problem_stops held before now job asked routers d (stops.Refused number file lin
 problem_stops held before now job asked routers d (stops.ReadFault file) says made h = absurd h
 problem_stops held before now job asked routers d stops.CornerNotFit says made h = absurd h
 problem_stops held before now job asked routers d stops.OutOfMemory says made h = tt
+
+-- what was read of the configurations, by a shelf that holds the same
+pub says_of : (held held_now : List ℕ → Option (List ℕ)) (job : Job) (asked : Asked) (routers configs : List Router) → held_now ≡ held → routers ≡ configs →
+    OnReady (request_read held job.request) (λ a. asked ≡ a) → OnReady (configs_read held_now job.configs) (λ files. configs ≡ routers_of files) → Says held job asked routers
+says_of held held_now job asked routers configs same are request read =
+    record {
+      request = request;
+      configs =
+          subst (λ (s : List ℕ → Option (List ℕ)). OnReady (configs_read s job.configs) (λ files. routers ≡ routers_of files)) same
+          (subst (λ (rs : List Router). OnReady (configs_read held_now job.configs) (λ files. rs ≡ routers_of files)) (sym are) read);
+    }

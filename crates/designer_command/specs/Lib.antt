@@ -6,6 +6,6 @@ pub mod Texts
 pub mod ReadBack
 pub mod Designs
 pub mod Stops
-pub mod TopoStub
 pub mod Words
+pub mod Corners
 pub mod Readiness

@@ -1,12 +1,18 @@
 //! The top call: from words and files to printed costs.
 #![tactic(auto)]
 
+mod corner;
+mod design;
+mod floor;
+mod lines;
 mod problem;
 mod reading;
+mod run;
 mod stop;
 mod thin;
 mod thin_config;
 mod thin_request;
 mod thin_resolve;
-mod topology;
 mod words;
+
+pub use run::run;

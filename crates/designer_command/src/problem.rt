@@ -1,5 +1,6 @@
 //! The problem of a job: its files, the topology, resolution.
 ghost use Rattle.std.specs.Prelude.{◌≡◌, ℕ, List, IfOk, IfErr, OnOk, string_bytes};
+ghost use Rattle.lsdb_build.specs.Graphs.{IsDatabase};
 ghost use Rattle.designer_command.specs.Outcomes.{OnReady, OnRefused, outcome, topology_read, problem_read};
 ghost use Rattle.designer_command.specs.Stops.{StopsReading, StopsProblem, job_named, files_named};
 ghost use Rattle.designer_command.specs.ThinRequests.{IsThin};
@@ -8,11 +9,11 @@ use crate::reading::{read_configs, read_request};
 use crate::stop::Stop;
 use crate::thin::ThinStop;
 use crate::thin_resolve::resolve_thin;
-use crate::topology::build;
+
 use crate::words::JobWords;
 use cost_base::Shelf;
 use interface_model::RouterConfig;
-use lsdb_build::{Lsdb, TopologyStop};
+use lsdb_build::{Lsdb, TopologyStop, build};
 use path_requests::Requests;
 use path_rows::Problem;
 use std::alloc::Global;
@@ -66,7 +67,7 @@ pub(crate) fn read_problem<'a, S: Shelf>(
     job: JobWords<'a>,
     shelf: &mut S,
 ) -> Result<Problem, Stop<'a>>
-    ensures read { IfOk result (λ p. OnReady (outcome (S.held shelf.old) (job_named job.entry)) (λ d. d.problem ≡ p)) }
+    ensures read { IfOk result (λ p. OnReady (outcome (S.held shelf.old) (job_named job.entry)) (λ d. (d.problem ≡ p) × IsDatabase d.database)) }
     ensures stop { IfErr result (StopsReading (outcome (S.held shelf.old) (job_named job.entry)) (S.faults shelf.old) (S.faults shelf.new) (files_named job.entry)) }
     ensures held { (other : List ℕ) → S.held shelf.new other ≡ S.held shelf.old other }
     ensures faults { OnOk result ((other : List ℕ) → S.faults shelf.new other ≡ S.faults shelf.old other) }

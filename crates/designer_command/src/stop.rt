@@ -1,5 +1,7 @@
 //! Why a design wasn't made.
 
+use cost_base::OutOfMemory;
+
 /// What ends a design before its answer: a refusal of input with its number, file and line; a file that failed; lower bounds that aren't fit; want of memory.
 #[derive(Clone, Copy)]
 pub(crate) enum Stop<'a> {
@@ -13,4 +15,15 @@ pub(crate) enum Stop<'a> {
     },
     CornerNotFit,
     OutOfMemory,
+}
+
+impl<'a> From<OutOfMemory> for Stop<'a> {
+    ghost use Rattle.std.specs.Prelude.{◌≡◌};
+    ghost use Rattle.designer_command.specs.declared.stop.Stop.TheVariants.{OutOfMemory};
+
+    ghost from_gives = { λ _ stop. stop ≡ OutOfMemory };
+
+    fn from(_error: OutOfMemory) -> Stop<'a> {
+        Stop::OutOfMemory
+    }
 }

@@ -1,7 +1,6 @@
 -- The first place that a check meets, one step of a loop on.
-use Rattle.std.proofs.Common.{◌≡◌, ℕ, ◌+◌, ◌<◌, ◌++◌, Bool, true, false, cond, ◌&&◌, not, eqb, List, [], ◌∷◌, Option, Some, None, length, get_or, take, drop, reverse, count_by, refl, sym, ap, ◌∙◌, subst, arith, zero-add, add-zero, map}
+use Rattle.std.proofs.Common.{◌≡◌, ℕ, ◌+◌, ◌<◌, ◌++◌, Bool, true, false, cond, ◌&&◌, not, List, [], ◌∷◌, Option, Some, None, length, get_or, take, drop, reverse, count_by, refl, sym, ap, ◌∙◌, subst, arith, zero-add, add-zero, map}
 use Rattle.std.specs.List.{list_any}
-use Rattle.std.specs.Cmp.Lexicographic.{pointwise}
 use Rattle.std.proofs.lemmas.List.{at_drop_more, take_more, reverse-append, map-append}
 use Rattle.std.proofs.lemmas.List.Sorted.{list_any-IsPermutation, sum_by-IsPermutation, IsPermutation-reverse}
 use Rattle.cost_base.specs.Lists.{same_bytes}
@@ -11,13 +10,6 @@ use Rattle.lsdb_build.specs.declared.checks.Check.TheVariants.{SameRouterTwice, 
 use Rattle.lsdb_build.specs.Neighbours.{Port, shares_subnet, is_broadcast, first_members}
 use Rattle.lsdb_build.specs.Topology.{first_where, second_of_name}
 use Rattle.lsdb_build.specs.Checks.{meets}
-
--- two texts are the same by `==` exactly where they are by `same_bytes`
-pub same_bytes_is : (xs ys : List ℕ) → pointwise eqb xs ys ≡ same_bytes xs ys
-same_bytes_is [] [] = refl
-same_bytes_is [] (y ∷ ys) = refl
-same_bytes_is (x ∷ xs) [] = refl
-same_bytes_is (x ∷ xs) (y ∷ ys) = ap (λ b. eqb x y && b) (same_bytes_is xs ys)
 
 -- a list turned round passes a test alike
 pub list_any-reverse : {X : Type 0} (p : X → Bool) (xs : List X) → list_any p (reverse xs) ≡ list_any p xs

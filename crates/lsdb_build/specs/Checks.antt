@@ -1,21 +1,14 @@
--- Which refusal the checks of a topology give, and the links between given linked ports.
-use Rattle.std.specs.Prelude.{◌≡◌, ℕ, List, Bool, Option, Some, None, unwrap_or}
+-- The checks of a topology by name, and the links between given linked ports.
+use Rattle.std.specs.Prelude.{ℕ, List, Bool, Option, None, unwrap_or}
 use Rattle.interface_model.specs.declared.Kind.{Kind}
 use Rattle.interface_model.specs.declared.Kind.TheVariants.{PointToPoint, Broadcast}
 use Rattle.lsdb_build.specs.declared.Far.{Far}
 use Rattle.lsdb_build.specs.declared.Far.TheVariants.{Router as ToRouter, Subnet as ToSubnet}
 use Rattle.lsdb_build.specs.declared.Linked.{Linked}
-use Rattle.lsdb_build.specs.declared.TopologyStop.{TopologyStop}
-use Rattle.lsdb_build.specs.declared.TopologyStop.TheVariants.{Refused, OutOfMemory}
 use Rattle.lsdb_build.specs.declared.checks.Check.{Check}
 use Rattle.lsdb_build.specs.declared.checks.Check.TheVariants.{SameRouterTwice, AddressTwice, TypeMismatch, CrowdedLink, OverlapPrefix}
 use Rattle.lsdb_build.specs.Neighbours.{Port, shares_subnet, place_from, is_other}
-use Rattle.lsdb_build.specs.Topology.{TopologyFault, is_second_of_router, is_second_of_address, is_mismatch, is_crowding, is_overlap, router_at}
-
--- the refusal tells the fault; want of memory says nothing
-abbrev pub Tells : Option TopologyFault → TopologyStop → Type 0
-Tells fault (Refused number config line) = fault ≡ Some (record { number = number; config = config; line = line })
-Tells fault OutOfMemory = Unit {0}
+use Rattle.lsdb_build.specs.Topology.{is_second_of_router, is_second_of_address, is_mismatch, is_crowding, is_overlap, router_at}
 
 -- what a check asks of a port, with the ports before it
 abbrev pub meets : Check → List Port → Port → Bool

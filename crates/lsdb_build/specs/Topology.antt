@@ -1,5 +1,5 @@
 -- The checks of a topology, and the database of an area.
-use Rattle.std.specs.Prelude.{ℕ, ◌+◌, List, [], ◌∷◌, map, ◌==◌, ◌&&◌, ◌||◌, nat_le, nat_lt, not, if◌then◌else◌, Bool, true, false, Option, Some, None, length, count_by, slice_get, unwrap_or}
+use Rattle.std.specs.Prelude.{◌≡◌, ℕ, ◌+◌, List, [], ◌∷◌, map, ◌==◌, ◌&&◌, ◌||◌, nat_le, nat_lt, not, if◌then◌else◌, Bool, true, false, Option, Some, None, length, count_by, slice_get, unwrap_or}
 use Rattle.std.specs.List.{list_any, list_all}
 use Rattle.cost_base.specs.Lists.{same_bytes}
 use Rattle.interface_model.specs.declared.Kind.{Kind}
@@ -9,6 +9,8 @@ use Rattle.interface_model.specs.Records.{Router}
 use Rattle.lsdb_build.specs.declared.Far.{Far}
 use Rattle.lsdb_build.specs.declared.Far.TheVariants.{Router as ToRouter, Subnet as ToSubnet}
 use Rattle.lsdb_build.specs.declared.Linked.{Linked}
+use Rattle.lsdb_build.specs.declared.TopologyStop.{TopologyStop}
+use Rattle.lsdb_build.specs.declared.TopologyStop.TheVariants.{Refused, OutOfMemory}
 use Rattle.lsdb_build.specs.Neighbours.{Port, ports, shares_subnet, linked, transit_subnets, is_broadcast, place_from, is_other}
 use Rattle.lsdb_build.specs.Graphs.{Database}
 
@@ -98,6 +100,11 @@ topology_fault area routers =
     ∷ at_port 15 (first_where (λ before p. lacks_designated all p) [] (transit_subnets all))
     ∷ at_port 16 (first_where is_overlap [] all)
     ∷ [])
+
+-- the refusal tells the fault; want of memory says nothing
+abbrev pub Tells : Option TopologyFault → TopologyStop → Type 0
+Tells fault (Refused number config line) = fault ≡ Some (record { number = number; config = config; line = line })
+Tells fault OutOfMemory = Unit {0}
 
 abbrev pub router_at : List Port → Option ℕ → ℕ
 router_at links None = 0

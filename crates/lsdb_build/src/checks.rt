@@ -2,8 +2,8 @@ ghost use Rattle.std.specs.Prelude.{◌&&◌, ◌||◌, ◌==◌, not, ◌≡◌
 ghost use Rattle.std.specs.List.{list_any};
 ghost use Rattle.cost_base.specs.Lists.{same_bytes};
 ghost use Rattle.lsdb_build.specs.Neighbours.{shares_subnet};
-ghost use Rattle.lsdb_build.specs.Topology.{same_kind, holds, is_second_of_router, is_second_of_address, is_mismatch, is_crowding, is_overlap, lacks_designated, first_where, at_port, at_config, past, second_of_name};
-ghost use Rattle.lsdb_build.specs.Checks.{Tells, meets, number_of};
+ghost use Rattle.lsdb_build.specs.Topology.{same_kind, holds, is_second_of_router, is_second_of_address, is_mismatch, is_crowding, is_overlap, lacks_designated, first_where, at_port, at_config, past, second_of_name, Tells};
+ghost use Rattle.lsdb_build.specs.Checks.{meets, number_of};
 
 use crate::TopologyStop;
 use crate::port::{Port, is_broadcast, shares_subnet};

@@ -41,6 +41,10 @@ below_any n vs below q any =
     let same = eqb-true q found.1 found.4 in
     omega (arith, found.3)
 
+-- different numbers below n are at most n
+pub none_twice-le : (n : ℕ) (vs : List ℕ) → NoneTwice vs → Below n vs → length vs ≤ n
+none_twice-le n vs once below = length-le_from_distinct_below vs n (distinct vs once) (below_any n vs below)
+
 -- the vertices that a path visits are the graph's
 visited-below : (g : Area) (s : ℕ) (es : List ℕ) (t : ℕ) → FitsGraph g → s < length g.vertices → Joins g s es t → Below (length g.vertices) (visited g s es)
 visited-below g s [] t fits start joins = (start, tt)
@@ -51,7 +55,7 @@ visited-below g s (e ∷ es) t fits start joins =
 pub simple-short : (g : Area) (s : ℕ) (es : List ℕ) (t : ℕ) → FitsGraph g → IsSimple g s es t → length es < length g.vertices
 simple-short g s es t fits simple =
     let below = visited-below g s es t fits simple.start simple.joins in
-    let few = length-le_from_distinct_below (visited g s es) (length g.vertices) (distinct (visited g s es) simple.none_twice) (below_any (length g.vertices) (visited g s es) below) in
+    let few = none_twice-le (length g.vertices) (visited g s es) simple.none_twice below in
     let edges = length-map es (λ e. (edge_at g e).to) in
     omega arith
 

@@ -17,7 +17,7 @@ use Rattle.path_rows.specs.declared.answer.Floor.TheVariants.{Absent, Empty, Var
 use Rattle.path_rows.specs.declared.answer.CapTree.{CapTree}
 use Rattle.path_rows.specs.declared.answer.Verdict.{Verdict}
 use Rattle.path_rows.specs.declared.answer.Verdict.TheVariants.{Optimal, Impossible, Budget}
-use Rattle.path_rows.specs.Problems.{DesignProblem, IsProblem, ends_of}
+use Rattle.path_rows.specs.Problems.{DesignProblem, IsProblem, ends_of, no_request}
 use Rattle.path_rows.specs.Forms.{Meets, form_at, value, no_form}
 use Rattle.path_rows.specs.Boxes.{IsInBox, capped}
 use Rattle.path_rows.specs.Trees.{IsSoundTree, IsClosed}
@@ -41,9 +41,6 @@ request_of_rival g (r ∷ rs) zero d es rival = record { within = omega arith; i
 request_of_rival g (r ∷ rs) (suc k) d es rival =
     let rest = request_of_rival g rs k d es rival in
     record { within = omega (arith, rest.within); is_there = rest.is_there; path = rest.path; other = rest.other }
-
-abbrev no_request : Request
-no_request = record { path = record { start = 0; edges = [] }; end = 0; gone = [] }
 
 -- the form of a row is at least 0 at fit costs
 row_met : (p : DesignProblem) (w : List ℕ) (row : Row) → IsProblem p → IsFit p w → IsRow p row → pos 0 ≤ℤ value (form_of_row p row) w

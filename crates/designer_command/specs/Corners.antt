@@ -1,0 +1,22 @@
+-- What is answered at the lower bounds.
+use Rattle.std.specs.Prelude.{◌≡◌, ℕ, ◌<◌, List, length, slice_index, Some}
+use Rattle.path_rows.specs.declared.answer.Costs.{Costs}
+use Rattle.path_rows.specs.declared.answer.Floor.{Floor}
+use Rattle.path_rows.specs.declared.answer.Floor.TheVariants.{Absent, Empty, Var}
+use Rattle.path_rows.specs.Problems.{DesignProblem}
+use Rattle.path_rows.specs.Rows.{IsBest, greatest_cost}
+use Rattle.path_rows.specs.Answers.{AnswerParts, Names, IsValid}
+
+-- a valid answer that gives each variable its lower bound
+pub record AnswersLow (p : DesignProblem) (a : AnswerParts) : Type 0 where
+  pub costs : Costs
+  pub printed : a.costs ≡ Some costs
+  pub names : Names p costs.lines p.low
+  pub valid : IsValid p a
+  pub best : IsBest p p.low
+
+-- a floor at the greatest of the lower bounds: a variable that has it, or no variable at all
+abbrev pub ShowsFloor : List ℕ → Floor → Type 0
+ShowsFloor low Absent = ⊥
+ShowsFloor low Empty = length low ≡ 0
+ShowsFloor low (Var v) = (v < length low) × (slice_index low v ≡ greatest_cost low)

@@ -1,0 +1,47 @@
+//! Whether the lower bounds themselves are fit costs.
+ghost use Rattle.std.specs.Prelude.{◌≡◌, ◌↔◌, IsTrue, IfOk};
+ghost use Rattle.area_graph.specs.Costs.{at_costs};
+ghost use Rattle.path_rows.specs.Rows.{IsFit};
+
+use area_graph::{Point, is_only_cheapest};
+use cost_base::{Listed, OutOfMemory};
+use path_rows::Problem;
+use std::alloc::Global;
+
+/// The point at which each variable has its lower bound.
+fn low_point(alloc: Global, problem: &Problem) -> Result<Point, OutOfMemory>
+    ensures { IfOk result (λ p. p ≡ at_costs problem.now.low) }
+{
+    let mut values = Vec::new(alloc);
+    for low in problem.low.as_slice() {
+        match values.push(u128::from(*low)) {
+            Ok(()) => {}
+            Err(_) => return Err(OutOfMemory),
+        }
+    }
+    Ok(Point {
+        scale: 1,
+        values: Listed::from_items(values),
+    })
+}
+
+/// Whether the lower bounds make each requested path the only cheapest of its request.
+pub(crate) fn corner_is_fit(alloc: Global, problem: &Problem) -> Result<bool, OutOfMemory>
+    ensures { IfOk result (λ yes. IsTrue yes ↔ IsFit problem.now problem.now.low) }
+{
+    let point = low_point(alloc, problem)?;
+    for request in problem.paths.as_slice() {
+        let gone = request.gone.as_slice();
+        if !is_only_cheapest(
+            alloc,
+            &problem.graph,
+            &point,
+            &request.path,
+            request.end,
+            gone,
+        )? {
+            return Ok(false);
+        }
+    }
+    Ok(true)
+}
