@@ -1,6 +1,5 @@
 -- Paths don't depend on prices: a path is only cheapest in a graph at costs where it is only cheapest in the graph under them.
-use Rattle.std.proofs.Common.{◌≡◌, ◌≢◌, ◌↔◌, ℕ, zero, suc, ◌+◌, ◌*◌, ◌<◌, refl, sym, ◌∙◌, ap, subst, List, [], ◌∷◌, length, map, get_or, arith}
-use Rattle.std.specs.Prelude.{sum_by}
+use Rattle.std.proofs.Common.{◌≡◌, ◌↔◌, ℕ, zero, suc, refl, sym, ◌∙◌, ap, subst, List, [], ◌∷◌, length, map, get_or, arith}
 use Rattle.std.proofs.lemmas.List.{length-map}
 use Rattle.std.proofs.lemmas.List.Sums.{sum_by-cons}
 use Rattle.cost_base.specs.Lists.{NoneTwice}
@@ -8,11 +7,12 @@ use Rattle.area_graph.specs.declared.Price.{Price}
 use Rattle.area_graph.specs.declared.Price.TheVariants.{Fixed, Var, Zero}
 use Rattle.area_graph.specs.declared.Edge.{Edge}
 use Rattle.area_graph.specs.Area.{Area, edge_at, no_edge}
-use Rattle.area_graph.specs.Paths.{Joins, visited, IsSimple, Ends, IsPathOf}
+use Rattle.area_graph.specs.Paths.{Joins, visited, Ends, IsPathOf}
 use Rattle.area_graph.specs.Costs.{price_at, cost, at_costs, IsOnlyCheapest}
 use Rattle.designer_command.specs.ReadBack.{fixed_at, graph_with}
 
-abbrev edge_with : List ℕ → Edge → Edge
+-- an edge at costs
+abbrev pub edge_with : List ℕ → Edge → Edge
 edge_with w edge = record { from = edge.from; to = edge.to; price = fixed_at w edge.price }
 
 get_with : (w : List ℕ) (edges : List Edge) (e : ℕ) → get_or (map (edge_with w) edges) e no_edge ≡ edge_with w (get_or edges e no_edge)

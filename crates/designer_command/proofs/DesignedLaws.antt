@@ -1,27 +1,23 @@
 -- A ready design has a problem, and the text of a valid answer with best costs prints what was asked for.
-use Rattle.std.proofs.Common.{◌≡◌, ℕ, ◌<◌, ◌≤◌, refl, sym, ◌∙◌, ap, subst, List, [], length, replicate, get_or, arith, Option, Some}
+use Rattle.std.proofs.Common.{◌≡◌, ℕ, ◌<◌, ◌≤◌, refl, sym, subst, List, [], length, get_or, arith, Some}
 use Rattle.std.specs.Prelude.{All, slice_index}
-use Rattle.std.proofs.lemmas.List.{get_or_default}
 use Rattle.std.proofs.lemmas.List.Elements.{All-replicate}
 use Rattle.area_graph.specs.Area.{Area}
 use Rattle.area_graph.specs.Costs.{IsOnlyCheapest, at_costs}
 use Rattle.lsdb_build.specs.Graphs.{IsDatabase}
-use Rattle.path_rows.specs.declared.problem.VarName.{VarName}
 use Rattle.path_rows.specs.declared.problem.Request.{Request}
 use Rattle.path_rows.specs.declared.answer.Costs.{Costs}
 use Rattle.path_rows.specs.Boxes.{IsInBox}
 use Rattle.path_rows.specs.Problems.{DesignProblem, IsProblem, ends_of}
-use Rattle.path_rows.specs.Rows.{IsFit, IsBest, box_of}
+use Rattle.path_rows.specs.Rows.{IsBest, box_of}
 use Rattle.path_rows.specs.Answers.{AnswerParts, Names, IsValid}
 use Rattle.path_rows.specs.Text.{text}
-use Rattle.path_requests.specs.Meaning.{problem_of}
 use Rattle.path_requests.proofs.ThinProblems.{thin_problem_is}
 use Rattle.path_requests.proofs.ProblemLaws.{thin_is_problem}
 use Rattle.designer_command.specs.Outcomes.{Design}
-use Rattle.designer_command.specs.ReadBack.{graph_back, graph_with}
 use Rattle.designer_command.specs.Designs.{IsDesigned}
 use Rattle.designer_command.specs.Readiness.{IsReadyDesign}
-use Rattle.designer_command.proofs.ThinRequestLaws.{IsThinRequest, thin_request_is}
+use Rattle.designer_command.proofs.ThinRequestLaws.{thin_request_is}
 use Rattle.designer_command.proofs.CheapestWith.{only_cheapest_with}
 use Rattle.designer_command.proofs.ReadBackLaws.{graph_back_is}
 

@@ -4,7 +4,6 @@ use Rattle.std.specs.Prelude.{codes, if◌then◌else◌}
 use Rattle.cost_base.specs.Lists.{same_bytes}
 use Rattle.area_graph.specs.declared.Vertex.TheVariants.{Router as RouterVertex}
 use Rattle.area_graph.specs.declared.Price.TheVariants.{Fixed, Var}
-use Rattle.area_graph.specs.Area.{Area}
 use Rattle.lsdb_build.specs.declared.Far.TheVariants.{Router}
 use Rattle.lsdb_build.specs.Graphs.{Database}
 use Rattle.path_requests.specs.declared.Wish.TheVariants.{FreeAll, Path}

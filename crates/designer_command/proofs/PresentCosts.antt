@@ -1,15 +1,14 @@
 -- The costs of an answer's lines, set in a database: each free link then has the cost of its variable, each fixed link its own.
-use Rattle.std.proofs.Common.{inl, inr, ◌≡◌, ◌≢◌, ℕ, zero, suc, ◌+◌, ◌<◌, ◌≤◌, refl, sym, ◌∙◌, ap, subst, List, [], ◌∷◌, ◌++◌, length, map, get_or, arith, Bool, true, false, cond, Option, Some, None}
-use Rattle.std.specs.Prelude.{All, AllPairs, slice_get, slice_index, slice_index_or, unwrap_or, ◌&&◌, if◌then◌else◌}
+use Rattle.std.proofs.Common.{inl, inr, ◌≡◌, ◌≢◌, ℕ, zero, suc, ◌+◌, ◌<◌, refl, sym, ◌∙◌, ap, subst, List, [], ◌∷◌, ◌++◌, length, map, get_or, arith, Bool, true, false, cond, Option, Some}
+use Rattle.std.specs.Prelude.{slice_get, slice_index, slice_index_or, unwrap_or, ◌&&◌, if◌then◌else◌}
 use Rattle.std.specs.List.{AllZip}
 use Rattle.std.proofs.lemmas.List.{map-append}
 use Rattle.std.proofs.lemmas.Option.{slice_get_within, get_or_from_slice_get}
-use Rattle.std.proofs.lemmas.Bool.{cases_Bool, cases_order, and_parts, and_from, false_from_ne_true, true≢false}
+use Rattle.std.proofs.lemmas.Bool.{cases_order, and_parts, and_from, false_from_ne_true}
 use Rattle.cost_base.specs.Lists.{same_bytes}
 use Rattle.area_graph.specs.declared.Price.{Price}
 use Rattle.area_graph.specs.declared.Price.TheVariants.{Fixed, Var, Zero}
 use Rattle.area_graph.specs.declared.Edge.{Edge}
-use Rattle.area_graph.specs.Area.{Area}
 use Rattle.lsdb_build.specs.declared.Linked.{Linked}
 use Rattle.lsdb_build.specs.Graphs.{Database, IsDatabase, graph_at, far_vertex, link_edges, subnet_edges, router_of}
 use Rattle.lsdb_build.proofs.Recosted.{recosted_link, recosted, recosted_graph}
@@ -18,6 +17,7 @@ use Rattle.path_rows.specs.declared.answer.CostLine.{CostLine}
 use Rattle.path_requests.specs.Meaning.{Asked, Range, Within, AsItIs, range_of, is_free, is_named, variable_of, present_cost, price_of, prices_from, names_from}
 use Rattle.path_requests.proofs.RouteLaws.{same_bytes-true, same_bytes-same, router_number_is}
 use Rattle.designer_command.specs.ReadBack.{fixed_at, graph_with}
+use Rattle.designer_command.proofs.CheapestWith.{edge_with}
 
 -- the last cost that lines give an interface of a router, or the one of before
 abbrev pub cost_in : List CostLine → List ℕ → List ℕ → Option ℕ → Option ℕ
@@ -166,10 +166,6 @@ prices_back a d w c l (link ∷ links) each =
     let rest = prices_back a d w c (l + 1) links
     (λ k other there. let next : l + suc k ≡ l + 1 + k = omega arith in each (suc k) other there ∙ ap (λ (n : ℕ). fixed_at w (price_of a d n other (range_of a d other))) next) in
     cc
-
--- the edges of a graph at costs
-abbrev edge_with : List ℕ → Edge → Edge
-edge_with w edge = record { from = edge.from; to = edge.to; price = fixed_at w edge.price }
 
 links_with : (w : List ℕ) (n : ℕ) (links : List Linked) (prices : List Price) → map (edge_with w) (link_edges n links prices) ≡ link_edges n links (map (fixed_at w) prices)
 links_with w n [] prices = refl

@@ -1,5 +1,5 @@
 -- The section of a router in a printed answer holds exactly the router's lines of costs.
-use Rattle.std.proofs.Common.{◌≡◌, ℕ, zero, suc, ◌⊎◌, inl, inr, refl, sym, ◌∙◌, ap, subst, List, [], ◌∷◌, ◌++◌, length, map, Bool, true, false, cond, ◌&&◌, ◌||◌, not, Option, Some, None}
+use Rattle.std.proofs.Common.{◌≡◌, ℕ, ◌⊎◌, inl, inr, refl, sym, ◌∙◌, ap, List, [], ◌∷◌, ◌++◌, length, map, Bool, true, false, cond, ◌&&◌, not, Option, Some, None}
 use Rattle.std.specs.Prelude.{codes, All, ◌==◌, if◌then◌else◌}
 use Rattle.std.proofs.lemmas.List.{append_assoc}
 use Rattle.std.proofs.lemmas.List.Elements.{All-head, All-tail}
@@ -17,12 +17,12 @@ use Rattle.path_rows.specs.declared.answer.Costs.{Costs}
 use Rattle.path_rows.specs.declared.answer.CostLine.{CostLine}
 use Rattle.path_rows.specs.declared.answer.CapTree.{CapTree}
 use Rattle.path_rows.specs.Answers.{AnswerParts}
-use Rattle.path_rows.specs.Text.{spaced, verdict_words, router_lines, cost_lines, costs_lines, floor_word, row_line, part_words, entry_line, tree_lines, answer_lines, text}
+use Rattle.path_rows.specs.Text.{spaced, verdict_words, router_lines, cost_lines, costs_lines, row_line, entry_line, tree_lines, text}
 use Rattle.config_reader.specs.Statements.{begin_with}
 use Rattle.config_reader.specs.Sections.{section_lines}
-use Rattle.config_reader.proofs.Places.{same_bytes-refl, same_bytes-true}
+use Rattle.config_reader.proofs.Places.{same_bytes-true}
 use Rattle.config_reader.proofs.PrintedLines.{words-word}
-use Rattle.designer_command.specs.ReadBack.{opens_section, ends_section, until_end, section}
+use Rattle.designer_command.specs.ReadBack.{opens_section, until_end, section}
 use Rattle.designer_command.proofs.PrintedText.{NamesWords, head_part, floor_part, end_part, last_part, parts_are, lines_text}
 
 -- the interfaces and costs of a router's lines

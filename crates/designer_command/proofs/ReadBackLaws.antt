@@ -1,9 +1,8 @@
 -- Costs that are printed and read back give the network that was designed: the problem's graph at the costs.
-use Rattle.std.proofs.Common.{inl, inr, ◌≡◌, ℕ, zero, suc, ◌+◌, ◌<◌, ◌≤◌, refl, sym, ◌∙◌, ap, subst, List, [], ◌∷◌, ◌++◌, length, map, get_or, arith, Bool, true, false, cond, ◌&&◌, Option, Some, None}
-use Rattle.std.specs.Prelude.{All, Contains, slice_get, slice_index, slice_index_or, option_map, if◌then◌else◌}
-use Rattle.std.specs.List.{AllZip}
+use Rattle.std.proofs.Common.{inl, inr, ◌≡◌, ℕ, suc, ◌+◌, ◌<◌, ◌≤◌, refl, sym, ◌∙◌, ap, subst, List, [], ◌∷◌, ◌++◌, length, map, get_or, arith, Bool, true, false, cond, ◌&&◌, Option, Some}
+use Rattle.std.specs.Prelude.{All, Contains, slice_get, slice_index, slice_index_or, option_map}
 use Rattle.std.proofs.lemmas.List.{length-map, get_or-map}
-use Rattle.std.proofs.lemmas.List.Elements.{All-nil, All-cons, All-head, All-tail, All-map, All-weaker}
+use Rattle.std.proofs.lemmas.List.Elements.{All-nil, All-cons, All-head, All-tail, All-map}
 use Rattle.std.proofs.lemmas.Option.{slice_get-map, slice_get_within, get_or_from_slice_get}
 use Rattle.std.proofs.lemmas.Bool.{cases_Bool, false_from_ne_true, false≢true}
 use Rattle.cost_base.specs.Lists.{same_bytes}
@@ -12,13 +11,10 @@ use Rattle.interface_model.specs.declared.Interface.{Interface}
 use Rattle.interface_model.specs.Records.{Router}
 use Rattle.config_reader.specs.Settings.{said, interface_of}
 use Rattle.config_reader.specs.Configs.{config_of, first_heads}
-use Rattle.config_reader.specs.Sections.{ended, with_ends, section_lines, cost_after, with_cost, with_costs, IsSectionCost}
+use Rattle.config_reader.specs.Sections.{ended, with_ends, cost_after, with_cost, IsSectionCost}
 use Rattle.config_reader.proofs.SectionLaw.{config_of-section}
-use Rattle.area_graph.specs.declared.Price.{Price}
 use Rattle.area_graph.specs.declared.Price.TheVariants.{Fixed}
-use Rattle.area_graph.specs.Area.{Area}
-use Rattle.lsdb_build.specs.declared.Linked.{Linked}
-use Rattle.lsdb_build.specs.Graphs.{Database, IsDatabase, IsLink, graph_at}
+use Rattle.lsdb_build.specs.Graphs.{Database, IsDatabase, graph_at}
 use Rattle.lsdb_build.specs.Topology.{database_of}
 use Rattle.lsdb_build.proofs.Recosted.{recosted_interface, recosted_router, recosted_from, recosted, recosted_database}
 use Rattle.lsdb_build.proofs.LinkOwners.{interface_names, IsLinkOf, links_of_routers}
@@ -28,10 +24,10 @@ use Rattle.path_rows.specs.declared.answer.CostLine.{CostLine}
 use Rattle.path_rows.specs.Problems.{DesignProblem}
 use Rattle.path_rows.specs.Answers.{AnswerParts, Names}
 use Rattle.path_rows.specs.Text.{text}
-use Rattle.path_requests.specs.Meaning.{Asked, present_cost, prices_from, names_from, problem_of}
-use Rattle.path_requests.proofs.RouteLaws.{same_bytes-true, same_bytes-same, router_number_is}
+use Rattle.path_requests.specs.Meaning.{Asked, present_cost, names_from, problem_of}
+use Rattle.path_requests.proofs.RouteLaws.{same_bytes-true, same_bytes-same}
 use Rattle.designer_command.specs.Outcomes.{ConfigFile, Design, routers_of}
-use Rattle.designer_command.specs.ReadBack.{section, router_back, routers_back, database_back, graph_back, graph_with}
+use Rattle.designer_command.specs.ReadBack.{router_back, database_back, graph_back, graph_with}
 use Rattle.designer_command.specs.Readiness.{IsReadyDesign}
 use Rattle.designer_command.proofs.PresentCosts.{cost_in, line_at, named_lines, costs_by_lines, recosted_graph_is}
 use Rattle.designer_command.proofs.PrintedText.{NamesWords}

@@ -1,6 +1,6 @@
 -- A job whose outcome is ready has a ready design.
-use Rattle.std.proofs.Common.{◌≡◌, ℕ, refl, sym, ◌∙◌, ap, subst, List, [], ◌∷◌, length, map, get_or, Bool, true, false, cond, Option, Some, None}
-use Rattle.std.specs.Prelude.{All, ◌&&◌, nat_lt}
+use Rattle.std.proofs.Common.{◌≡◌, ℕ, refl, sym, ◌∙◌, ap, subst, List, [], ◌∷◌, get_or, Bool, true, false, cond, Option, Some, None}
+use Rattle.std.specs.Prelude.{All, ◌&&◌}
 use Rattle.std.specs.List.{list_all}
 use Rattle.std.proofs.lemmas.List.Elements.{All-nil, All-cons}
 use Rattle.std.proofs.lemmas.Bool.{and_parts}
@@ -15,10 +15,9 @@ use Rattle.path_rows.specs.Problems.{DesignProblem}
 use Rattle.path_requests.specs.Meaning.{Asked, problem_of}
 use Rattle.path_requests.specs.Resolution.{resolves}
 use Rattle.designer_command.specs.Jobs.{Job}
-use Rattle.designer_command.specs.Texts.{Refusal}
 use Rattle.designer_command.specs.ThinConfigs.{is_thin_config, all_thin, keeps_address}
 use Rattle.designer_command.specs.ThinRequests.{thin_request}
-use Rattle.designer_command.specs.Outcomes.{ConfigFile, Design, Reading, Untold, Refused, Ready, ◌>>=◌, longest_file, too_long, off_form, if_short, file_read, if_asked, request_read, if_thin, config_read, configs_read, routers_of, if_faultless, topology_read, problem_read, outcome}
+use Rattle.designer_command.specs.Outcomes.{ConfigFile, Design, Reading, Untold, Refused, Ready, ◌>>=◌, off_form, file_read, if_asked, request_read, if_thin, config_read, configs_read, routers_of, if_faultless, topology_read, problem_read, outcome}
 use Rattle.designer_command.specs.Readiness.{IsReadyDesign}
 
 -- readings that end ready were ready at each step

@@ -1,5 +1,5 @@
 -- What a request file of the form that is read asks for is a thin request.
-use Rattle.std.proofs.Common.{◌≡◌, ℕ, zero, suc, ◌+◌, ◌<◌, ◌≤◌, refl, sym, ◌∙◌, ap, subst, List, [], ◌∷◌, length, map, arith, Bool, true, false, cond, ◌&&◌, Option, Some, None}
+use Rattle.std.proofs.Common.{◌≡◌, ℕ, suc, ◌+◌, ◌≤◌, refl, sym, ◌∙◌, ap, subst, List, [], ◌∷◌, length, map, arith, Bool, true, false, cond, ◌&&◌, Option, Some, None}
 use Rattle.std.specs.Prelude.{All, count_by, codes, drop, not, nat_le, ◌==◌}
 use Rattle.std.specs.List.{list_any, list_all}
 use Rattle.std.proofs.lemmas.List.Elements.{All-nil, All-cons}

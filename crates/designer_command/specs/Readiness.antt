@@ -1,5 +1,5 @@
 -- What is known of a design that the files of a job make ready.
-use Rattle.std.specs.Prelude.{◌≡◌, ℕ, List, true, Option, Some, None, All}
+use Rattle.std.specs.Prelude.{◌≡◌, ℕ, List, true, Some, None, All}
 use Rattle.config_reader.specs.Configs.{config_of}
 use Rattle.config_reader.specs.Faults.{is_router_name}
 use Rattle.lsdb_build.specs.Topology.{topology_fault, database_of}

@@ -1,11 +1,10 @@
 -- The topology of an area doesn't depend on the interfaces' costs: with other costs the database has other costs, and nothing else changes.
-use Rattle.std.proofs.Common.{◌≡◌, ℕ, zero, suc, ◌+◌, refl, sym, ◌∙◌, ap, subst, List, [], ◌∷◌, ◌++◌, length, map, Bool, true, false, cond, Option, Some, None}
-use Rattle.std.specs.Prelude.{filter, count_by, slice_get, option_map, unwrap_or, not, ◌&&◌, ◌||◌, ◌==◌, nat_le}
+use Rattle.std.proofs.Common.{◌≡◌, ℕ, zero, suc, ◌+◌, refl, sym, ◌∙◌, ap, List, [], ◌∷◌, ◌++◌, length, map, Bool, true, false, cond, Option, Some, None}
+use Rattle.std.specs.Prelude.{filter, unwrap_or, not, ◌&&◌, ◌||◌, nat_le}
 use Rattle.std.specs.List.{list_any}
 use Rattle.std.proofs.lemmas.List.{map-append}
 use Rattle.std.proofs.lemmas.List.Elements.{filter_agree}
 use Rattle.std.proofs.lemmas.List.Folds.{fold-map}
-use Rattle.std.proofs.lemmas.Option.{slice_get-map}
 use Rattle.area_graph.specs.declared.Price.{Price}
 use Rattle.area_graph.specs.declared.Price.TheVariants.{Zero}
 use Rattle.area_graph.specs.declared.Edge.{Edge}
@@ -189,7 +188,7 @@ link_edges_are c n (link ∷ links) (price ∷ prices) =
 subnet_edges_are : (c : ℕ → List ℕ → Option ℕ → Option ℕ) (links : List Linked) (vertex : ℕ) (subnets : List (List ℕ)) → subnet_edges (map (recosted_link c) links) vertex subnets ≡ subnet_edges links vertex subnets
 subnet_edges_are c links vertex [] = refl
 subnet_edges_are c links vertex (members ∷ subnets) =
-    rw (map_map (recosted_link c) (λ (link : Linked). link.router) links) 
+    rw (map_map (recosted_link c) (λ (link : Linked). link.router) links)
     (ap (λ (es : List Edge). map (λ l. record { from = vertex; to = router_of links l; price = Zero }) members ++ es) (subnet_edges_are c links (vertex + 1) subnets))
 
 -- the graph at given prices is that of the database with other costs
