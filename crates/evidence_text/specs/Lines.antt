@@ -1,0 +1,23 @@
+-- Texts of lines, and what putting them does to a sink.
+use Rattle.std.specs.Prelude.{ℕ, ◌≤◌, List, [], ◌∷◌, ◌++◌, length, map, All, Option, Result, OnOk, OnErr}
+use Rattle.std.specs.List.{concat}
+use Rattle.cost_base.specs.Outside.{GotWhole, GotPart, HasCause}
+
+-- each line ends with one LF
+abbrev pub text_of : List (List ℕ) → List ℕ
+text_of lines = concat (map (λ line. line ++ 10 ∷ []) lines)
+
+-- no line passes 65,536 bytes
+abbrev pub AreShort : List (List ℕ) → Type 0
+AreShort lines = All (λ line. length line ≤ 65536) lines
+
+-- a line with more words behind it, each after one space
+abbrev pub with_words : List ℕ → List (List ℕ) → List ℕ
+with_words line [] = line
+with_words line (word ∷ words) = with_words (line ++ 32 ∷ word) words
+
+-- the sink got the whole piece or, where the call was refused, a part of it, and the refusal has its cause in the sink
+pub record IsPut {T E : Type 0} (before now : Option (List ℕ)) (faults_before faults_now : ℕ) (piece : List ℕ) (result : Result T E) : Type 0 where
+  pub whole : OnOk result (GotWhole before now piece)
+  pub part : OnErr result (GotPart before now piece)
+  pub cause : HasCause faults_before faults_now result

@@ -1,0 +1,38 @@
+-- The parts of an answer's text, each by its lines.
+use Rattle.std.specs.Prelude.{ℕ, List, [], ◌∷◌, ◌++◌, map, length, codes}
+use Rattle.cost_base.specs.Decimal.{decimal}
+use Rattle.path_rows.specs.declared.form.Row.{Row}
+use Rattle.path_rows.specs.declared.answer.Verdict.{Verdict}
+use Rattle.path_rows.specs.declared.answer.CostLine.{CostLine}
+use Rattle.path_rows.specs.declared.answer.Floor.{Floor}
+use Rattle.path_rows.specs.Text.{spaced, verdict_words, floor_word, row_line}
+use Rattle.evidence_text.specs.declared.TreePart.{TreePart}
+use Rattle.evidence_text.specs.declared.TreePart.TheVariants.{Proof, Unfinished}
+
+abbrev pub verdict_line : Verdict → List ℕ
+verdict_line verdict = spaced (codes "verdict" ∷ verdict_words verdict)
+
+abbrev pub head_lines : Verdict → List (List ℕ)
+head_lines verdict = codes "ospfcost answer 1" ∷ verdict_line verdict ∷ []
+
+-- what a cost line prints behind its router
+abbrev pub interface_lines : CostLine → List (List ℕ)
+interface_lines line =
+    spaced (codes "interface" ∷ line.interface ∷ [])
+    ∷ spaced (codes " ip" ∷ codes "ospf" ∷ codes "cost" ∷ decimal line.cost ∷ [])
+    ∷ codes "exit"
+    ∷ []
+
+abbrev pub floor_line : Floor → List ℕ
+floor_line floor = spaced (codes "floor" ∷ floor_word floor ∷ [])
+
+abbrev pub rows_lines : List Row → List (List ℕ)
+rows_lines rows = spaced (codes "rows" ∷ decimal (length rows) ∷ []) ∷ map row_line rows
+
+-- the word that a part with a tree begins with
+abbrev pub part_word : TreePart → List ℕ
+part_word Proof = codes "proof"
+part_word Unfinished = codes "open"
+
+abbrev pub end_lines : List (List ℕ)
+end_lines = codes "wide none" ∷ codes "end" ∷ []

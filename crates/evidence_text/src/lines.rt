@@ -1,0 +1,194 @@
+//! The lines of an answer, each written into a buffer.
+ghost use Rattle.std.specs.Prelude.{◌≡◌, ℕ, ◌+◌, ◌≤◌, List, [], ◌∷◌, ◌++◌, length, map, codes};
+ghost use Rattle.cost_base.specs.Decimal.{decimal};
+ghost use Rattle.path_rows.specs.Text.{row_line, entry_line, side_word, step_word, ratio_word, member_words, members_words, part_words};
+ghost use Rattle.evidence_text.specs.Lines.{with_words};
+ghost use Rattle.evidence_text.specs.Parts.{verdict_line, floor_line};
+
+use crate::line_buffer::LineBuffer;
+use path_rows::{Entry, Floor, Member, Ratio, Row, Side, StepName, Verdict, WideAt};
+
+/// Writes the line of the verdict.
+pub(crate) fn write_verdict(verdict: Verdict, line: &mut LineBuffer)
+    requires { length (verdict_line verdict) ≤ 65536 }
+    ensures { line.new ≡ verdict_line verdict }
+{
+    match verdict {
+        Verdict::Optimal(greatest) => {
+            line.start(b"verdict optimal");
+            line.push_number(u128::from(greatest));
+        }
+        Verdict::Impossible => line.start(b"verdict impossible"),
+        Verdict::Budget(cap) => {
+            line.start(b"verdict undecided budget");
+            line.push_number(u128::from(cap));
+        }
+    }
+}
+
+/// Writes the line of the floor.
+pub(crate) fn write_floor(floor: Floor, line: &mut LineBuffer)
+    requires { length (floor_line floor) ≤ 65536 }
+    ensures { line.new ≡ floor_line floor }
+{
+    match floor {
+        Floor::Absent => line.start(b"floor none"),
+        Floor::Empty => line.start(b"floor empty"),
+        Floor::Var(var) => {
+            line.start(b"floor");
+            line.push_number(u128::from(var));
+        }
+    }
+}
+
+/// Writes the line of a row.
+pub(crate) fn write_row(row: &Row, line: &mut LineBuffer)
+    requires { length (row_line row.now) ≤ 65536 }
+    ensures { line.new ≡ row_line row.now }
+{
+    line.start(b"row");
+    line.push_number(u128::from(row.request));
+    push_numbers(row.rival.edges.as_slice(), line);
+}
+
+fn push_numbers(numbers: &[u32], line: &mut LineBuffer)
+    requires { length (with_words line.old (map decimal numbers.now)) ≤ 65536 }
+    ensures { line.new ≡ with_words line.old (map decimal numbers.now) }
+{
+    for number in numbers {
+        line.push_number(u128::from(*number));
+    }
+}
+
+/// Writes the line of an entry of a tree.
+pub(crate) fn write_entry(entry: &Entry, line: &mut LineBuffer)
+    requires { length (entry_line entry.now) ≤ 65536 }
+    ensures { line.new ≡ entry_line entry.now }
+{
+    match entry {
+        Entry::Tighten {
+            var,
+            side,
+            value,
+            row,
+        } => write_tighten(*var, *side, *value, *row, line),
+        Entry::Split { var, value } => write_split(*var, *value, line),
+        Entry::Halve { var, value, wide } => write_halve(*var, *value, wide, line),
+        Entry::Refute { parts } => write_refute(parts.as_slice(), line),
+        Entry::Undone => line.start(b"open"),
+    }
+}
+
+fn write_tighten(var: u32, side: Side, value: u16, row: u64, line: &mut LineBuffer)
+    requires { length (entry_line (Entry.Tighten var side value row)) ≤ 65536 }
+    ensures { line.new ≡ entry_line (Entry.Tighten var side value row) }
+{
+    line.start(b"tighten");
+    line.push_number(u128::from(var));
+    line.push_word(side_word(side));
+    line.push_number(u128::from(value));
+    line.push_number(u128::from(row));
+}
+
+fn side_word(side: Side) -> &'static [u8]
+    ensures { result.now ≡ side_word side }
+{
+    match side {
+        Side::Low => b"low",
+        Side::High => b"high",
+    }
+}
+
+fn write_split(var: u32, value: u16, line: &mut LineBuffer)
+    requires { length (entry_line (Entry.Split var value)) ≤ 65536 }
+    ensures { line.new ≡ entry_line (Entry.Split var value) }
+{
+    line.start(b"split");
+    line.push_number(u128::from(var));
+    line.push_number(u128::from(value));
+}
+
+fn write_halve(var: u32, value: u16, wide: &WideAt, line: &mut LineBuffer)
+    requires { length (entry_line (Entry.Halve var value wide.now)) ≤ 65536 }
+    ensures { line.new ≡ entry_line (Entry.Halve var value wide.now) }
+{
+    line.start(b"halve");
+    line.push_number(u128::from(var));
+    line.push_number(u128::from(value));
+    line.push_word(step_word(wide.step));
+    push_ratio(&wide.left, line);
+    push_ratio(&wide.right, line);
+    push_members(wide.basis.as_slice(), line);
+}
+
+fn step_word(step: StepName) -> &'static [u8]
+    ensures { result.now ≡ step_word step }
+{
+    match step {
+        StepName::Add => b"add",
+        StepName::Sub => b"sub",
+        StepName::Mul => b"mul",
+        StepName::Div => b"div",
+        StepName::Lcm => b"lcm",
+        StepName::Scale => b"scale",
+    }
+}
+
+fn push_ratio(ratio: &Ratio, line: &mut LineBuffer)
+    requires { length (line.old ++ 32 ∷ ratio_word ratio.now) ≤ 65536 }
+    ensures { line.new ≡ line.old ++ 32 ∷ ratio_word ratio.now }
+{
+    line.push(b' ');
+    line.push_integer(ratio.numerator);
+    line.push(b'/');
+    line.push_integer(ratio.denominator);
+}
+
+fn push_members(members: &[Member], line: &mut LineBuffer)
+    requires { length (with_words line.old (members_words members.now)) ≤ 65536 }
+    ensures { line.new ≡ with_words line.old (members_words members.now) }
+{
+    for member in members {
+        push_member(*member, line);
+    }
+}
+
+fn push_member(member: Member, line: &mut LineBuffer)
+    requires { length (with_words line.old (member_words member)) ≤ 65536 }
+    ensures { line.new ≡ with_words line.old (member_words member) }
+{
+    match member {
+        Member::Low(var, value) => {
+            line.push_word(b"low");
+            line.push_number(u128::from(var));
+            line.push_number(u128::from(value));
+        }
+        Member::High(var, value) => {
+            line.push_word(b"high");
+            line.push_number(u128::from(var));
+            line.push_number(u128::from(value));
+        }
+        Member::Row(row) => {
+            line.push_word(b"row");
+            line.push_number(u128::from(row));
+        }
+    }
+}
+
+fn write_refute(parts: &[(u64, u128)], line: &mut LineBuffer)
+    requires { length (entry_line (Entry.Refute parts.now)) ≤ 65536 }
+    ensures { line.new ≡ entry_line (Entry.Refute parts.now) }
+{
+    line.start(b"refute");
+    push_parts(parts, line);
+}
+
+fn push_parts(parts: &[(u64, u128)], line: &mut LineBuffer)
+    requires { length (with_words line.old (part_words parts.now)) ≤ 65536 }
+    ensures { line.new ≡ with_words line.old (part_words parts.now) }
+{
+    for part in parts {
+        line.push_number(u128::from(part.0));
+        line.push_number(part.1);
+    }
+}

@@ -1,0 +1,268 @@
+//! The parts of an answer's text, put line by line.
+ghost use Rattle.std.specs.Prelude.{◌≡◌, ℕ, ◌+◌, ◌≤◌, List, [], ◌∷◌, ◌++◌, length, map, codes, OnOk, OnErr};
+ghost use Rattle.std.specs.Option.{option_copied};
+ghost use Rattle.cost_base.specs.Outside.{GotWhole, GotPart, HasCause};
+ghost use Rattle.path_rows.specs.Text.{text, router_lines, cost_lines, costs_lines, row_line, entry_line, tree_lines};
+ghost use Rattle.evidence_text.specs.Lines.{text_of, AreShort, IsPut};
+ghost use Rattle.evidence_text.specs.Parts.{head_lines, interface_lines, floor_line, rows_lines, part_word, end_lines};
+
+use crate::TreePart;
+use crate::line_buffer::LineBuffer;
+use crate::lines::{write_entry, write_floor, write_row, write_verdict};
+use cost_base::{Name, PutFailed, Sink};
+use path_rows::{Answer, CapTree, CostLine, Costs, Entry, Floor, Row, Verdict};
+
+/// Puts the text of an answer, each line with its LF by one `put`. It takes no memory.
+///
+/// # Errors
+///
+/// `PutFailed` where the sink refused a line: a prefix of the text was put.
+pub fn put_answer<K: Sink>(answer: &Answer, out: &mut K) -> Result<(), PutFailed>
+    ensures whole { OnOk result (GotWhole (K.got out.old) (K.got out.new) (text answer.now)) }
+    ensures part { OnErr result (GotPart (K.got out.old) (K.got out.new) (text answer.now)) }
+    ensures cause { HasCause (K.faults out.old) (K.faults out.new) result }
+{
+    let mut line = LineBuffer::new();
+    put_head(answer.verdict, &mut line, out)?;
+    put_costs_part(answer.costs.as_ref(), &mut line, out)?;
+    put_floor(answer.floor, &mut line, out)?;
+    put_rows_part(answer.rows.as_slice(), &mut line, out)?;
+    put_tree_part(TreePart::Proof, answer.proof.as_ref(), &mut line, out)?;
+    put_tree_part(TreePart::Unfinished, answer.unfinished.as_ref(), &mut line, out)?;
+    put_end(&mut line, out)
+}
+
+/// Puts the lines of costs, each by one `put`, as the text of an answer has them. It takes no memory.
+///
+/// # Errors
+///
+/// `PutFailed` where the sink refused a line: a prefix of these lines was put.
+pub fn put_costs<K: Sink>(costs: Option<&Costs>, out: &mut K) -> Result<(), PutFailed>
+    requires { AreShort (costs_lines (option_copied costs)) }
+    ensures whole { OnOk result (GotWhole (K.got out.old) (K.got out.new) (text_of (costs_lines (option_copied costs.entry)))) }
+    ensures part { OnErr result (GotPart (K.got out.old) (K.got out.new) (text_of (costs_lines (option_copied costs.entry)))) }
+    ensures cause { HasCause (K.faults out.old) (K.faults out.new) result }
+{
+    let mut line = LineBuffer::new();
+    put_costs_part(costs, &mut line, out)
+}
+
+/// Puts the lines of rows, each by one `put`, as the text of an answer has them. It takes no memory.
+///
+/// # Errors
+///
+/// `PutFailed` where the sink refused a line: a prefix of these lines was put.
+pub fn put_rows<K: Sink>(rows: &[Row], out: &mut K) -> Result<(), PutFailed>
+    requires { AreShort (rows_lines rows.now) }
+    ensures whole { OnOk result (GotWhole (K.got out.old) (K.got out.new) (text_of (rows_lines rows.now))) }
+    ensures part { OnErr result (GotPart (K.got out.old) (K.got out.new) (text_of (rows_lines rows.now))) }
+    ensures cause { HasCause (K.faults out.old) (K.faults out.new) result }
+{
+    let mut line = LineBuffer::new();
+    put_rows_part(rows, &mut line, out)
+}
+
+/// Puts the lines of a tree, each by one `put`, as the text of an answer has them in this part. It takes no memory.
+///
+/// # Errors
+///
+/// `PutFailed` where the sink refused a line: a prefix of these lines was put.
+pub fn put_tree<K: Sink>(
+    part: TreePart,
+    tree: Option<&CapTree>,
+    out: &mut K,
+) -> Result<(), PutFailed>
+    requires { AreShort (tree_lines (part_word part) (option_copied tree)) }
+    ensures whole { OnOk result (GotWhole (K.got out.old) (K.got out.new) (text_of (tree_lines (part_word part) (option_copied tree.entry)))) }
+    ensures part { OnErr result (GotPart (K.got out.old) (K.got out.new) (text_of (tree_lines (part_word part) (option_copied tree.entry)))) }
+    ensures cause { HasCause (K.faults out.old) (K.faults out.new) result }
+{
+    let mut line = LineBuffer::new();
+    put_tree_part(part, tree, &mut line, out)
+}
+
+fn put_head<K: Sink>(
+    verdict: Verdict,
+    line: &mut LineBuffer,
+    out: &mut K,
+) -> Result<(), PutFailed>
+    requires { AreShort (head_lines verdict) }
+    ensures { IsPut (K.got out.old) (K.got out.new) (K.faults out.old) (K.faults out.new) (text_of (head_lines verdict)) result }
+{
+    line.start(b"ospfcost answer 1");
+    line.put(out)?;
+    write_verdict(verdict, line);
+    line.put(out)
+}
+
+fn put_costs_part<K: Sink>(
+    costs: Option<&Costs>,
+    line: &mut LineBuffer,
+    out: &mut K,
+) -> Result<(), PutFailed>
+    requires { AreShort (costs_lines (option_copied costs)) }
+    ensures { IsPut (K.got out.old) (K.got out.new) (K.faults out.old) (K.faults out.new) (text_of (costs_lines (option_copied costs.entry))) result }
+{
+    match costs {
+        None => {
+            line.start(b"costs none");
+            line.put(out)
+        }
+        Some(costs) => {
+            line.start(b"costs");
+            line.push_number(u128::from(costs.greatest));
+            line.put(out)?;
+            put_cost_lines(costs.lines.as_slice(), line, out)
+        }
+    }
+}
+
+fn put_cost_lines<K: Sink>(
+    costs: &[CostLine],
+    line: &mut LineBuffer,
+    out: &mut K,
+) -> Result<(), PutFailed>
+    requires { AreShort (cost_lines None costs.now) }
+    ensures { IsPut (K.got out.old) (K.got out.new) (K.faults out.old) (K.faults out.new) (text_of (cost_lines None costs.now)) result }
+{
+    let mut before = None;
+    for cost in costs {
+        put_router(before, &cost.router, line, out)?;
+        put_interface(cost, line, out)?;
+        before = Some(&cost.router);
+    }
+    Ok(())
+}
+
+/// Puts the line of a router, unless it is the router of the cost line before.
+fn put_router<K: Sink>(
+    before: Option<&Name>,
+    router: &Name,
+    line: &mut LineBuffer,
+    out: &mut K,
+) -> Result<(), PutFailed>
+    requires { AreShort (router_lines (option_copied before) router.now) }
+    ensures { IsPut (K.got out.old) (K.got out.new) (K.faults out.old) (K.faults out.new) (text_of (router_lines (option_copied before.entry) router.now)) result }
+{
+    if let Some(name) = before {
+        if name.as_bytes() == router.as_bytes() {
+            return Ok(());
+        }
+    }
+    line.start(b"router");
+    line.push_word(router.as_bytes());
+    line.put(out)
+}
+
+fn put_interface<K: Sink>(
+    cost: &CostLine,
+    line: &mut LineBuffer,
+    out: &mut K,
+) -> Result<(), PutFailed>
+    requires { AreShort (interface_lines cost.now) }
+    ensures { IsPut (K.got out.old) (K.got out.new) (K.faults out.old) (K.faults out.new) (text_of (interface_lines cost.now)) result }
+{
+    line.start(b"interface");
+    line.push_word(cost.interface.as_bytes());
+    line.put(out)?;
+    line.start(b" ip ospf cost");
+    line.push_number(u128::from(cost.cost));
+    line.put(out)?;
+    line.start(b"exit");
+    line.put(out)
+}
+
+fn put_floor<K: Sink>(floor: Floor, line: &mut LineBuffer, out: &mut K) -> Result<(), PutFailed>
+    requires { AreShort (floor_line floor ∷ []) }
+    ensures { IsPut (K.got out.old) (K.got out.new) (K.faults out.old) (K.faults out.new) (text_of (floor_line floor ∷ [])) result }
+{
+    write_floor(floor, line);
+    line.put(out)
+}
+
+fn put_rows_part<K: Sink>(
+    rows: &[Row],
+    line: &mut LineBuffer,
+    out: &mut K,
+) -> Result<(), PutFailed>
+    requires { AreShort (rows_lines rows.now) }
+    ensures { IsPut (K.got out.old) (K.got out.new) (K.faults out.old) (K.faults out.new) (text_of (rows_lines rows.now)) result }
+{
+    line.start(b"rows");
+    line.push_number(rows.len() as u128);
+    line.put(out)?;
+    put_each_row(rows, line, out)
+}
+
+fn put_each_row<K: Sink>(
+    rows: &[Row],
+    line: &mut LineBuffer,
+    out: &mut K,
+) -> Result<(), PutFailed>
+    requires { AreShort (map row_line rows.now) }
+    ensures { IsPut (K.got out.old) (K.got out.new) (K.faults out.old) (K.faults out.new) (text_of (map row_line rows.now)) result }
+{
+    for row in rows {
+        write_row(row, line);
+        line.put(out)?;
+    }
+    Ok(())
+}
+
+fn put_tree_part<K: Sink>(
+    part: TreePart,
+    tree: Option<&CapTree>,
+    line: &mut LineBuffer,
+    out: &mut K,
+) -> Result<(), PutFailed>
+    requires { AreShort (tree_lines (part_word part) (option_copied tree)) }
+    ensures { IsPut (K.got out.old) (K.got out.new) (K.faults out.old) (K.faults out.new) (text_of (tree_lines (part_word part) (option_copied tree.entry))) result }
+{
+    line.start(part_word(part));
+    match tree {
+        None => {
+            line.push_word(b"none");
+            line.put(out)
+        }
+        Some(tree) => {
+            let entries = tree.tree.as_slice();
+            line.push_number(u128::from(tree.cap));
+            line.push_number(entries.len() as u128);
+            line.put(out)?;
+            put_each_entry(entries, line, out)
+        }
+    }
+}
+
+fn part_word(part: TreePart) -> &'static [u8]
+    ensures { result.now ≡ part_word part }
+{
+    match part {
+        TreePart::Proof => b"proof",
+        TreePart::Unfinished => b"open",
+    }
+}
+
+fn put_each_entry<K: Sink>(
+    entries: &[Entry],
+    line: &mut LineBuffer,
+    out: &mut K,
+) -> Result<(), PutFailed>
+    requires { AreShort (map entry_line entries.now) }
+    ensures { IsPut (K.got out.old) (K.got out.new) (K.faults out.old) (K.faults out.new) (text_of (map entry_line entries.now)) result }
+{
+    for entry in entries {
+        write_entry(entry, line);
+        line.put(out)?;
+    }
+    Ok(())
+}
+
+fn put_end<K: Sink>(line: &mut LineBuffer, out: &mut K) -> Result<(), PutFailed>
+    ensures { IsPut (K.got out.old) (K.got out.new) (K.faults out.old) (K.faults out.new) (text_of end_lines) result }
+{
+    line.start(b"wide none");
+    line.put(out)?;
+    line.start(b"end");
+    line.put(out)
+}
