@@ -1,9 +1,9 @@
 -- How much a simple path can cost.
-use Rattle.std.proofs.Common.{◌≡◌, ◌≢◌, ℕ, zero, suc, ◌+◌, ◌*◌, ◌^◌, ◌<◌, ◌≤◌, refl, sym, ◌∙◌, ap, subst, List, [], ◌∷◌, All, length, get_or, set, count_by, cond, inl, inr, ◌⊎◌, Bool, true, false, arith}
+use Rattle.std.proofs.Common.{◌≡◌, ℕ, ◌+◌, ◌*◌, ◌^◌, ◌<◌, ◌≤◌, refl, sym, ◌∙◌, ap, subst, List, [], ◌∷◌, length, get_or, set, count_by, cond, inl, inr, Bool, true, false, arith}
 use Rattle.std.proofs.Common.{get_or-set_other, length-set}
 use Rattle.std.proofs.Math.Nat.{mul-le-mul_right}
 use Rattle.std.proofs.lemmas.List.Sums.{sum_by-cons, sum_by-set}
-use Rattle.cost_base.specs.Lists.{Lacks, NoneTwice}
+use Rattle.cost_base.specs.Lists.{NoneTwice}
 use Rattle.area_graph.specs.declared.Point.{Point}
 use Rattle.area_graph.specs.declared.Vertex.{Vertex}
 use Rattle.area_graph.specs.declared.Vertex.TheVariants.{Router, Subnet}

@@ -1,15 +1,15 @@
 -- A path is only cheapest exactly where it leads: where at each of its vertices each other edge leads to a higher cost.
-use Rattle.std.proofs.Common.{◌≡◌, ◌≢◌, ◌↔◌, ℕ, ◌+◌, ◌*◌, ◌^◌, ◌<◌, ◌≤◌, refl, sym, ◌∙◌, ap, subst, List, [], ◌∷◌, All, length, get_or, inl, inr, ◌⊎◌, arith}
+use Rattle.std.proofs.Common.{◌≡◌, ◌≢◌, ◌↔◌, ℕ, ◌+◌, ◌<◌, ◌≤◌, refl, sym, ◌∙◌, ap, subst, List, [], ◌∷◌, length, get_or, inl, inr, arith}
 use Rattle.std.proofs.lemmas.Bool.{cases_lt}
 use Rattle.std.proofs.lemmas.List.Sums.{sum_by-cons}
-use Rattle.cost_base.specs.Lists.{Lacks, NoneTwice}
+use Rattle.cost_base.specs.Lists.{Lacks}
 use Rattle.area_graph.specs.declared.Point.{Point}
-use Rattle.area_graph.specs.Area.{Area, edge_at, no_edge, edges_out, FitsGraph, FitsEdge}
-use Rattle.area_graph.specs.Paths.{Joins, visited, Avoids, Ends, IsPathOf}
+use Rattle.area_graph.specs.Area.{Area, edge_at, no_edge, FitsGraph, FitsEdge}
+use Rattle.area_graph.specs.Paths.{Joins, Avoids, Ends, IsPathOf}
 use Rattle.area_graph.specs.Costs.{price_at, cost, FitsPoint, IsOnlyCheapest}
-use Rattle.area_graph.specs.Distances.{far, WalkWithin, AreReached, through, SettledBelow, IsDearer, Leads}
+use Rattle.area_graph.specs.Distances.{far, AreReached, through, SettledBelow, IsDearer, Leads}
 use Rattle.area_graph.proofs.Walks.{SimpleIn, simple_from_walk, simple_in_walk, potential-le}
-use Rattle.area_graph.proofs.Deviations.{Deviates, Leaves, rival_deviates, deviation_joins, deviation_differs}
+use Rattle.area_graph.proofs.Deviations.{Deviates, rival_deviates, deviation_joins, deviation_differs}
 use Rattle.area_graph.proofs.Numbers.{all_out, out_all}
 
 -- where a path leads, each walk that leaves it costs more
@@ -33,18 +33,17 @@ deviation_dearer g p gone t d settled target u (e ∷ path) (i ∷ rest) joins l
 -- where each walk that leaves a path costs more, the path leads
 pub leads_from_dearer : (g : Area) (p : Point) (gone : List ℕ) (t : ℕ) (d : List ℕ) → FitsGraph g → length d ≡ length g.vertices → AreReached g p gone t d → (u : ℕ) (path : List ℕ) → Joins g u path t → cost g p path < far p → ((walk : List ℕ) → Deviates g gone t u path walk → cost g p path < cost g p walk) → Leads g p gone d path
 leads_from_dearer g p gone t d graph count are u [] joins near dearer = tt
-leads_from_dearer g p gone t d graph count are u (e ∷ path) joins near dearer =
-    (
-      all_out (IsDearer g p gone d e (cost g p (e ∷ path))) g (edge_at g e).from (λ i known from lacks other.
+leads_from_dearer g p gone t d graph count are u (e ∷ path) joins near dearer = (
+  all_out (IsDearer g p gone d e (cost g p (e ∷ path))) g (edge_at g e).from (λ i known from lacks other.
       elim (cases_lt (cost g p (e ∷ path)) (through p (edge_at g i) d)) [
         | inl more ↦ more
         | inr cheap ↦ absurd (rival i known (from ∙ joins.1) lacks other cheap)
       ]),
-      leads_from_dearer g p gone t d graph count are (edge_at g e).to path joins.2 (omega (arith, longer)) (λ walk deviates.
+  leads_from_dearer g p gone t d graph count are (edge_at g e).to path joins.2 (omega (arith, longer)) (λ walk deviates.
       let whole = dearer (e ∷ walk) (inr (refl, deviates)) in
       let longer_walk = sum_by-cons (λ k. price_at p (edge_at g k).price) e walk in
       omega (arith, whole, longer, longer_walk)),
-    )
+)
   where
     longer : cost g p (e ∷ path) ≡ price_at p (edge_at g e).price + cost g p path
     longer = sum_by-cons (λ k. price_at p (edge_at g k).price) e path
@@ -92,13 +91,12 @@ only_dearer g p ends path walk graph fits only deviates =
 
 -- a path of a request leads exactly where it is only cheapest
 pub leads_only : (g : Area) (p : Point) (ends : Ends) (d : List ℕ) (path : List ℕ) → FitsGraph g → FitsPoint g p → length d ≡ length g.vertices → AreReached g p ends.gone ends.end d → SettledBelow (length g.edges) g p ends.gone d → cost g p path < far p → IsPathOf g ends path → Leads g p ends.gone d path ↔ IsOnlyCheapest g p ends path
-leads_only g p ends d path graph fits count are settled near is_path =
-    (
-      λ leads. record {
-        path = is_path;
-        others = λ other is_other differs.
-          deviation_dearer g p ends.gone ends.end d settled are.target ends.start path other is_path.simple.joins leads
-          (rival_deviates g ends.gone ends.end ends.start path other is_path.simple.joins is_path.simple.none_twice is_other.simple.joins is_other.simple.none_twice is_other.kept differs);
-      },
-      λ only. leads_from_dearer g p ends.gone ends.end d graph count are ends.start path is_path.simple.joins near (λ walk deviates. only_dearer g p ends path walk graph fits only deviates),
-    )
+leads_only g p ends d path graph fits count are settled near is_path = (
+  λ leads. record {
+    path = is_path;
+    others = λ other is_other differs.
+        deviation_dearer g p ends.gone ends.end d settled are.target ends.start path other is_path.simple.joins leads
+        (rival_deviates g ends.gone ends.end ends.start path other is_path.simple.joins is_path.simple.none_twice is_other.simple.joins is_other.simple.none_twice is_other.kept differs);
+  },
+  λ only. leads_from_dearer g p ends.gone ends.end d graph count are ends.start path is_path.simple.joins near (λ walk deviates. only_dearer g p ends path walk graph fits only deviates),
+)

@@ -1,8 +1,7 @@
 -- Marks for the edges that are gone.
-use Rattle.std.proofs.Common.{◌≡◌, ◌≢◌, ◌↔◌, ℕ, ◌+◌, ◌<◌, ◌≤◌, refl, sym, ◌∙◌, ap, subst, List, [], ◌∷◌, ◌++◌, length, get_or, set, take, replicate, Bool, true, false, arith, get_or-set_same, get_or-set_other, length-set}
-use Rattle.std.proofs.lemmas.List.{take_more, get_or-replicate, length-replicate}
+use Rattle.std.proofs.Common.{◌≡◌, ℕ, ◌<◌, ◌≤◌, sym, ◌∙◌, ap, List, [], ◌∷◌, ◌++◌, length, get_or, set, replicate, Bool, true, false, arith, get_or-set_same, get_or-set_other, length-set}
+use Rattle.std.proofs.lemmas.List.{get_or-replicate, length-replicate}
 use native.Mathlib.Decide.{ℕ_discrete}
-use Rattle.cost_base.specs.Lists.{Lacks}
 use Rattle.area_graph.specs.Distances.{AreMarks}
 use Rattle.area_graph.proofs.Visits.{lacks_push, lacks_first, lacks_seam}
 

@@ -1,14 +1,12 @@
 -- One pass over the edges: the numbers fall, and stay what walks to the target cost at most.
-use Rattle.std.proofs.Common.{◌≡◌, ◌≢◌, ℕ, ◌+◌, ◌*◌, ◌^◌, ◌<◌, ◌≤◌, refl, sym, ◌∙◌, ap, subst, List, [], ◌∷◌, All, length, get_or, set, sum, Bool, true, false, arith, get_or-set_same, get_or-set_other, length-set, below_more}
+use Rattle.std.proofs.Common.{◌≡◌, ℕ, ◌+◌, ◌<◌, ◌≤◌, refl, sym, ◌∙◌, ap, subst, List, ◌∷◌, All, length, get_or, set, sum, Bool, true, false, arith, get_or-set_same, get_or-set_other, length-set, below_more}
 use Rattle.std.proofs.lemmas.List.Elements.{All-set}
 use Rattle.std.proofs.lemmas.List.Sums.{sum_by-cons, sum_by-set}
 use native.Mathlib.Decide.{ℕ_discrete}
 use Rattle.cost_base.specs.Lists.{Lacks}
 use Rattle.area_graph.specs.declared.Point.{Point}
-use Rattle.area_graph.specs.declared.Edge.{Edge}
 use Rattle.area_graph.specs.Area.{Area, edge_at, no_edge, FitsGraph, FitsEdge}
-use Rattle.area_graph.specs.Paths.{Joins, Avoids}
-use Rattle.area_graph.specs.Costs.{price_at, cost}
+use Rattle.area_graph.specs.Costs.{price_at}
 use Rattle.area_graph.specs.Distances.{far, WalkWithin, AreReached, through, SettledBelow, StaysBy, ShorterBy}
 
 -- what a pass has done after n edges: from `old` to `d`, whether a number was lowered
@@ -87,7 +85,7 @@ reached_lower g p gone n t d edge count bounded known lacks less are = record { 
     reached v within near = elim (ℕ_discrete v (edge_at g n).from) [
       | yes same ↦
           let value : get_or (set d (edge_at g n).from (through p (edge_at g n) d)) v 0 ≡ through p (edge_at g n) d =
-            ap (λ (i : ℕ). get_or (set d (edge_at g n).from (through p (edge_at g n) d)) i 0) same ∙ get_or-set_same d (edge_at g n).from (through p (edge_at g n) d) 0 from_within in
+          ap (λ (i : ℕ). get_or (set d (edge_at g n).from (through p (edge_at g n) d)) i 0) same ∙ get_or-set_same d (edge_at g n).from (through p (edge_at g n) d) 0 from_within in
           let walk = here (subst (λ (x : ℕ). x < far p) value near) in
           subst (λ (x : ℕ). WalkWithin g p gone v t x) (sym value) (subst (λ (u : ℕ). WalkWithin g p gone u t (through p (edge_at g n) d)) (sym same) walk)
       | no other ↦

@@ -1,5 +1,5 @@
 -- The edges at a vertex, on one side of it.
-use Rattle.std.specs.Prelude.{ℕ, ◌==◌, List, length, filter}
+use Rattle.std.specs.Prelude.{ℕ, ◌==◌, List, filter}
 use Rattle.cost_base.specs.Lists.{numbers_from}
 use Rattle.area_graph.specs.declared.Edge.{Edge}
 use Rattle.area_graph.specs.declared.adjacency.Side.{Side}

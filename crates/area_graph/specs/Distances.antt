@@ -1,5 +1,5 @@
 -- Numbers for the vertices that tell of the least costs to a target.
-use Rattle.std.specs.Prelude.{◌≡◌, ◌≢◌, ℕ, ◌+◌, ◌*◌, ◌^◌, ◌<◌, ◌≤◌, ◌↔◌, List, [], ◌∷◌, length, slice_index, slice_index_or, slice_set, All, Bool, true, false, sum}
+use Rattle.std.specs.Prelude.{◌≡◌, ◌≢◌, ℕ, ◌+◌, ◌*◌, ◌^◌, ◌<◌, ◌≤◌, ◌↔◌, List, [], ◌∷◌, length, slice_index, slice_index_or, slice_set, All, Bool, true, false}
 use Rattle.cost_base.specs.Lists.{Lacks}
 use Rattle.area_graph.specs.declared.Edge.{Edge}
 use Rattle.area_graph.specs.declared.Point.{Point}

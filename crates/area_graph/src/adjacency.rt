@@ -77,14 +77,17 @@ fn empty_lists(alloc: Global, count: usize) -> Result<Vec<Numbers>, OutOfMemory>
     Ok(lists)
 }
 
-fn edges_on(alloc: Global, vertices: &[Vertex], edges: &[Edge], side: Side) -> Result<Vec<Numbers>, OutOfMemory>
+fn edges_on(
+    alloc: Global,
+    vertices: &[Vertex],
+    edges: &[Edge],
+    side: Side,
+) -> Result<Vec<Numbers>, OutOfMemory>
     requires ends { All (λ edge. end_on side edge < length vertices.now) edges.now }
     requires few { length edges.now < 2 ^ 32 }
     ensures count { IfOk result (λ lists. length lists.items ≡ length vertices.now) }
-    ensures lists {
-      IfOk result (λ lists. (v : ℕ) → v < length vertices.now →
-        slice_index_or lists.items v [] ≡ listed_below (length edges.now) side (record { vertices = vertices.now; edges = edges.now }) v)
-    }
+    ensures lists { IfOk result (λ lists. (v : ℕ) → v < length vertices.now →
+        slice_index_or lists.items v [] ≡ listed_below (length edges.now) side (record { vertices = vertices.now; edges = edges.now }) v) }
 {
     let mut lists = empty_lists(alloc, vertices.len())?;
     for (number, edge) in edges.iter().enumerate() {
@@ -98,11 +101,11 @@ fn hold_metrics(edges: &[Edge])
     ensures { All (λ edge. IsMetric edge.price) edges.now }
 {
     for edge in edges {
-        is_metric(edge.price);
+        hold_metric(edge.price);
     }
 }
 
-fn is_metric(price: Price)
+fn hold_metric(price: Price)
     ensures { IsMetric price }
 {
     match price {
@@ -112,7 +115,12 @@ fn is_metric(price: Price)
 }
 
 impl Graph {
-    /// A graph of vertices and edges in their order. It takes time in proportion to their number.
+    /// A graph of vertices and edges in their order, with the edges out of and into each vertex in rising order (the
+    /// links of RFC 2328, 16.1, first stage). It takes time in proportion to their number.
+    ///
+    /// # Errors
+    ///
+    /// `OutOfMemory` where the lists of edges got no memory.
     pub fn new(alloc: Global, vertices: Vec<Vertex>, edges: Vec<Edge>) -> Result<Graph, OutOfMemory>
         requires { FitsGraph (record { vertices = vertices.items; edges = edges.items }) }
         ensures { IfOk result (λ graph. graph ≡ record { vertices = vertices.items; edges = edges.items }) }
@@ -129,6 +137,10 @@ impl Graph {
     }
 
     /// An equal graph.
+    ///
+    /// # Errors
+    ///
+    /// `OutOfMemory` where the copy got no memory.
     pub fn copy(&self, alloc: Global) -> Result<Graph, OutOfMemory>
         ensures { IfOk result (λ graph. graph ≡ self.now) }
     {

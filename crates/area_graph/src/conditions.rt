@@ -22,9 +22,7 @@ pub fn fits_graph(vertices: &[Vertex], edges: &[Edge]) -> bool
 }
 
 fn edges_fit(vertices: &[Vertex], edges: &[Edge]) -> bool
-    ensures {
-      IsTrue result ↔ All (FitsEdge (record { vertices = vertices.now; edges = edges.now })) edges.now
-    }
+    ensures { IsTrue result ↔ All (FitsEdge (record { vertices = vertices.now; edges = edges.now })) edges.now }
 {
     for edge in edges {
         if !fits_edge(vertices, *edge) {
@@ -37,7 +35,10 @@ fn edges_fit(vertices: &[Vertex], edges: &[Edge]) -> bool
 fn count_routers(vertices: &[Vertex]) -> usize
     ensures { result ≡ count_by is_router vertices.now }
 {
-    vertices.iter().filter(|vertex| is_router_vertex(**vertex)).count()
+    vertices
+        .iter()
+        .filter(|vertex| is_router_vertex(**vertex))
+        .count()
 }
 
 fn is_router_vertex(vertex: Vertex) -> bool
@@ -92,7 +93,10 @@ pub fn point_fits(graph: &Graph, point: &Point) -> bool
         && point.scale < 1 << 100
         && values.iter().all(|value| point.scale <= *value)
         && values.iter().all(|value| *value <= 65535 * point.scale)
-        && graph.edges().iter().all(|edge| is_priced(values.len(), edge.price))
+        && graph
+            .edges()
+            .iter()
+            .all(|edge| is_priced(values.len(), edge.price))
 }
 
 fn is_priced(values: usize, price: Price) -> bool

@@ -77,9 +77,7 @@ fn shorten(edge: Edge, point: &Point, distances: &mut Vec<u128>) -> bool
     requires from { edge.from < length distances.old.items }
     requires to { edge.to < length distances.old.items }
     requires bounded { All (λ x. x ≤ far point.now) distances.old.items }
-    ensures {
-      MatchBool result (ShorterBy point.now edge distances.old.items distances.new.items) (StaysBy point.now edge distances.old.items distances.new.items)
-    }
+    ensures { MatchBool result (ShorterBy point.now edge distances.old.items distances.new.items) (StaysBy point.now edge distances.old.items distances.new.items) }
 {
     let least = price_of(edge.price, point) + distances[edge.to as usize];
     if least < distances[edge.from as usize] {
@@ -91,18 +89,20 @@ fn shorten(edge: Edge, point: &Point, distances: &mut Vec<u128>) -> bool
 }
 
 /// Looks at one edge, unless it is gone, and tells whether the number of its start was lowered.
-fn visit(graph: &Graph, point: &Point, removal: &Removal, number: u32, distances: &mut Vec<u128>) -> bool
+fn visit(
+    graph: &Graph,
+    point: &Point,
+    removal: &Removal,
+    number: u32,
+    distances: &mut Vec<u128>,
+) -> bool
     requires fits { FitsPoint graph.now point.now }
     requires known { number < length graph.now.edges }
     requires count { length distances.old.items ≡ length graph.now.vertices }
     requires bounded { All (λ x. x ≤ far point.now) distances.old.items }
-    ensures lowered {
-      IsTrue result → Lacks removal.now number × ShorterBy point.now (edge_at graph.now number) distances.old.items distances.new.items
-    }
+    ensures lowered { IsTrue result → Lacks removal.now number × ShorterBy point.now (edge_at graph.now number) distances.old.items distances.new.items }
     ensures same { (result ≡ false) → distances.new.items ≡ distances.old.items }
-    ensures least {
-      (result ≡ false) → Lacks removal.now number → StaysBy point.now (edge_at graph.now number) distances.old.items distances.new.items
-    }
+    ensures least { (result ≡ false) → Lacks removal.now number → StaysBy point.now (edge_at graph.now number) distances.old.items distances.new.items }
 {
     graph.keeps_conditions();
     if removal.leaves(number) {
@@ -119,14 +119,10 @@ fn pass(graph: &Graph, point: &Point, removal: &Removal, distances: &mut Vec<u12
     requires bounded { All (λ x. x ≤ far point.now) distances.old.items }
     ensures count { length distances.new.items ≡ length distances.old.items }
     ensures bounded { All (λ x. x ≤ far point.now) distances.new.items }
-    ensures reached {
-      (t : ℕ) → AreReached graph.now point.now removal.now t distances.old.items →
-        AreReached graph.now point.now removal.now t distances.new.items
-    }
+    ensures reached { (t : ℕ) → AreReached graph.now point.now removal.now t distances.old.items →
+        AreReached graph.now point.now removal.now t distances.new.items }
     ensures lower { IsTrue result → sum distances.new.items < sum distances.old.items }
-    ensures settled {
-      (result ≡ false) → SettledBelow (length graph.now.edges) graph.now point.now removal.now distances.new.items
-    }
+    ensures settled { (result ≡ false) → SettledBelow (length graph.now.edges) graph.now point.now removal.now distances.new.items }
 {
     graph.keeps_conditions();
     let mut lowered = false;
@@ -139,15 +135,19 @@ fn pass(graph: &Graph, point: &Point, removal: &Removal, distances: &mut Vec<u12
 }
 
 /// The least costs of the vertices to a target: a vertex from which no path leads there has 2^26 times the scale.
-fn distances_to(alloc: Global, graph: &Graph, point: &Point, removal: &Removal, target: u32) -> Result<Vec<u128>, OutOfMemory>
+fn distances_to(
+    alloc: Global,
+    graph: &Graph,
+    point: &Point,
+    removal: &Removal,
+    target: u32,
+) -> Result<Vec<u128>, OutOfMemory>
     requires fits { FitsPoint graph.now point.now }
     requires target { target < length graph.now.vertices }
     ensures count { IfOk result (λ d. length d.items ≡ length graph.now.vertices) }
     ensures bounded { IfOk result (λ d. All (λ x. x ≤ far point.now) d.items) }
     ensures reached { IfOk result (λ d. AreReached graph.now point.now removal.now target d.items) }
-    ensures settled {
-      IfOk result (λ d. SettledBelow (length graph.now.edges) graph.now point.now removal.now d.items)
-    }
+    ensures settled { IfOk result (λ d. SettledBelow (length graph.now.edges) graph.now point.now removal.now d.items) }
 {
     let mut distances = match vec![in alloc; (1 << 26) * point.scale; graph.vertices().len()] {
         Ok(distances) => distances,
@@ -162,7 +162,15 @@ fn distances_to(alloc: Global, graph: &Graph, point: &Point, removal: &Removal, 
 }
 
 /// Whether an edge is gone, is the named one, or leads to the target at a cost above `most`.
-fn is_dearer(graph: &Graph, point: &Point, removal: &Removal, distances: &[u128], named: u32, most: u128, other: u32) -> bool
+fn is_dearer(
+    graph: &Graph,
+    point: &Point,
+    removal: &Removal,
+    distances: &[u128],
+    named: u32,
+    most: u128,
+    other: u32,
+) -> bool
     requires fits { FitsPoint graph.now point.now }
     requires known { other < length graph.now.edges }
     requires count { length distances.now ≡ length graph.now.vertices }
@@ -178,15 +186,20 @@ fn is_dearer(graph: &Graph, point: &Point, removal: &Removal, distances: &[u128]
 }
 
 /// Whether each other edge out of the named edge's start is gone or leads to the target at a cost above `most`.
-fn others_are_dearer(graph: &Graph, point: &Point, removal: &Removal, distances: &[u128], named: u32, most: u128) -> bool
+fn others_are_dearer(
+    graph: &Graph,
+    point: &Point,
+    removal: &Removal,
+    distances: &[u128],
+    named: u32,
+    most: u128,
+) -> bool
     requires fits { FitsPoint graph.now point.now }
     requires known { named < length graph.now.edges }
     requires count { length distances.now ≡ length graph.now.vertices }
     requires bounded { All (λ x. x ≤ far point.now) distances.now }
-    ensures {
-      IsTrue result ↔
-        All (IsDearer graph.now point.now removal.now distances.now named most) (edges_out graph.now (edge_at graph.now named).from)
-    }
+    ensures { IsTrue result ↔
+        All (IsDearer graph.now point.now removal.now distances.now named most) (edges_out graph.now (edge_at graph.now named).from) }
 {
     graph.keeps_conditions();
     for other in graph.edges_out(edge_of(graph, named).from) {
@@ -234,13 +247,9 @@ pub fn is_only_cheapest(
     gone: &[u32],
 ) -> Result<bool, OutOfMemory>
     requires fits { FitsPoint graph.now point.now }
-    requires path {
-      IsPathOf graph.now (record { start = path.now.start; end = end; gone = gone.now }) path.now.edges
-    }
-    ensures {
-      IfOk result (λ yes. IsTrue yes ↔
-        IsOnlyCheapest graph.now point.now (record { start = path.now.start; end = end; gone = gone.now }) path.now.edges)
-    }
+    requires path { IsPathOf graph.now (record { start = path.now.start; end = end; gone = gone.now }) path.now.edges }
+    ensures { IfOk result (λ yes. IsTrue yes ↔
+        IsOnlyCheapest graph.now point.now (record { start = path.now.start; end = end; gone = gone.now }) path.now.edges) }
 {
     graph.keeps_conditions();
     let removal = Removal::new(alloc, gone, graph.edges().len())?;

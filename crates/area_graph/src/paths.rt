@@ -41,9 +41,7 @@ pub fn avoids(gone: &[u32], edges: &[u32]) -> bool
 
 /// Whether a path is a simple path to `end` with no edge that is gone. Takes no memory.
 pub fn is_path_of(graph: &Graph, path: &Path, end: u32, gone: &[u32]) -> bool
-    ensures {
-      IsTrue result ↔ IsPathOf graph.now (record { start = path.now.start; end = end; gone = gone.now }) path.now.edges
-    }
+    ensures { IsTrue result ↔ IsPathOf graph.now (record { start = path.now.start; end = end; gone = gone.now }) path.now.edges }
 {
     is_simple(graph, path, end) && avoids(gone, path.edges.as_slice())
 }

@@ -59,9 +59,7 @@ fn holds(outer: &Port, inner: &Port) -> bool
 fn is_second_of_router(before: &[Port], port: &Port) -> bool
     ensures { result ≡ is_second_of_router before.now port.now }
 {
-    before
-        .iter()
-        .any(|other| other.router == port.router && shares_subnet(other, port))
+    before.iter().any(|other| other.router == port.router && shares_subnet(other, port))
 }
 
 /// Whether a port before has the same address.
@@ -156,9 +154,7 @@ pub fn refuse_first(check: Check, ports: &[Port]) -> Result<(), TopologyStop>
 fn lacks_designated(ports: &[Port], port: &Port) -> bool
     ensures { result ≡ lacks_designated ports.now port.now }
 {
-    ports
-        .iter()
-        .all(|other| !shares_subnet(other, port) || other.interface.priority == 0)
+    ports.iter().all(|other| !shares_subnet(other, port) || other.interface.priority == 0)
 }
 
 /// Refuses the first transit subnet at which every member has priority 0, at its first member.

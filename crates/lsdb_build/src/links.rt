@@ -130,7 +130,12 @@ fn far_and_mate(links: &[Port], transit: &[Port], port: &Port) -> (Far, Option<u
 }
 
 /// The link of a linked port.
-fn link_of(alloc: Global, links: &[Port], transit: &[Port], port: &Port) -> Result<Linked, OutOfMemory>
+fn link_of(
+    alloc: Global,
+    links: &[Port],
+    transit: &[Port],
+    port: &Port,
+) -> Result<Linked, OutOfMemory>
     requires links { length links.now ≤ 4000 }
     requires transit { length transit.now ≤ 4000 }
     ensures { IfOk result (λ link. link ≡ link_among links.now transit.now port.now) }

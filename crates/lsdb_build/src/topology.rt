@@ -47,13 +47,15 @@ fn assemble(
     requires links { length links.now ≤ 4000 }
     requires transit { length transit.now ≤ 4000 }
     requires fits { IsDatabase (record {
-        routers = map (λ r. r.name) configs.now;
-        links = map (link_among links.now transit.now) links.now;
-        subnets = map (λ first. places_from 0 (shares_subnet first) links.now) transit.now }) }
+      routers = map (λ r. r.name) configs.now;
+      links = map (link_among links.now transit.now) links.now;
+      subnets = map (λ first. places_from 0 (shares_subnet first) links.now) transit.now;
+    }) }
     ensures { IfOk result (λ d. d ≡ record {
-        routers = map (λ r. r.name) configs.now;
-        links = map (link_among links.now transit.now) links.now;
-        subnets = map (λ first. places_from 0 (shares_subnet first) links.now) transit.now }) }
+      routers = map (λ r. r.name) configs.now;
+      links = map (link_among links.now transit.now) links.now;
+      subnets = map (λ first. places_from 0 (shares_subnet first) links.now) transit.now;
+    }) }
 {
     let routers = names_of(alloc, configs)?;
     let made = links_of(alloc, links, transit)?;

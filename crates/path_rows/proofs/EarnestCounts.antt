@@ -1,6 +1,6 @@
 -- In an earnest tree a run of Tightens has at most two for each variable, so many of its entries have two subtrees.
-use Rattle.std.proofs.Common.{◌≡◌, ◌≢◌, ℕ, zero, suc, ◌+◌, ◌*◌, ◌<◌, ◌≤◌, refl, sym, ◌∙◌, ap, subst, get_or, List, [], ◌∷◌, ◌++◌, map, length, length-set, arith}
-use Rattle.std.specs.Prelude.{Contains, slice_index_or}
+use Rattle.std.proofs.Common.{◌≡◌, ℕ, suc, ◌+◌, ◌*◌, ◌<◌, ◌≤◌, refl, sym, ◌∙◌, List, [], ◌∷◌, map, length, length-set, arith}
+use Rattle.std.specs.Prelude.{Contains}
 use Rattle.std.proofs.lemmas.List.{length-map}
 use Rattle.cost_base.specs.Lists.{Lacks, NoneTwice}
 use Rattle.area_graph.specs.declared.Point.{Point}
@@ -12,10 +12,10 @@ use Rattle.path_rows.specs.declared.tree.Entry.{Entry}
 use Rattle.path_rows.specs.declared.tree.Entry.TheVariants.{Tighten, Split, Halve, Refute, Undone}
 use Rattle.path_rows.specs.Boxes.{with_low, with_high}
 use Rattle.path_rows.specs.Trees.{entry_count, tightened}
-use Rattle.path_rows.specs.Earnest.{Place, Earnest, IsEarnestTree, subplaces, since_after}
+use Rattle.path_rows.specs.Earnest.{Place, Earnest, IsEarnestTree}
 use Rattle.path_rows.specs.ProblemLaws.{cut_count, HasManyCuts}
 use Rattle.path_rows.proofs.PathBounds.{Below, none_twice-le}
-use Rattle.path_rows.proofs.TreeCounts.{undone_mark, mark_small}
+use Rattle.path_rows.proofs.TreeCounts.{undone_mark}
 use Rattle.path_rows.proofs.TreeShapes.{has_mark}
 
 -- a number for each variable and side

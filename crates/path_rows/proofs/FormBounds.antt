@@ -1,5 +1,5 @@
 -- The form of two paths that cost less than 2^26 each has a size below 2^27.
-use Rattle.std.proofs.Common.{◌≡◌, ℕ, zero, suc, ◌+◌, ◌*◌, ◌^◌, ◌<◌, ◌≤◌, refl, sym, ◌∙◌, ap, subst, get_or, List, [], ◌∷◌, map, length, replicate, arith, lit<}
+use Rattle.std.proofs.Common.{◌≡◌, ℕ, zero, suc, ◌+◌, ◌*◌, ◌^◌, ◌<◌, ◌≤◌, sym, ◌∙◌, subst, get_or, List, [], ◌∷◌, map, length, replicate, arith, lit<}
 use Rattle.std.specs.Prelude.{ℤ, pos, ◌-ℤ◌, nat_abs, All, sum_by}
 use Rattle.std.proofs.lemmas.Int.{ints}
 use Rattle.std.proofs.lemmas.List.Sums.{sum_by-cons}
@@ -9,7 +9,6 @@ use Rattle.area_graph.specs.Area.{Area, FitsGraph, HasMetrics}
 use Rattle.area_graph.specs.Paths.{Ends, IsPathOf}
 use Rattle.area_graph.specs.Costs.{cost, at_costs, IsPriced, FitsPoint}
 use Rattle.area_graph.proofs.Bounds.{cost_below}
-use Rattle.path_rows.specs.declared.form.Form.{Form}
 use Rattle.path_rows.specs.Forms.{IsSmallForm, size_of}
 use Rattle.path_rows.specs.Rows.{uses, fixed_cost, form_between}
 use Rattle.path_rows.proofs.FormLaws.{weigh, cost-split}

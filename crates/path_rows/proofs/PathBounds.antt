@@ -1,6 +1,6 @@
 -- What a path of a request is: some edges of the graph, no more than the graph has vertices.
-use Rattle.std.proofs.Common.{◌≡◌, ℕ, zero, suc, ◌+◌, ◌^◌, ◌<◌, ◌≤◌, refl, sym, ◌∙◌, ap, subst, List, [], ◌∷◌, map, length, arith, rules, get_or, Bool, eqb}
-use Rattle.std.specs.Prelude.{true, false, All, slice_get, Option, Some}
+use Rattle.std.proofs.Common.{◌≡◌, ℕ, zero, suc, ◌^◌, ◌<◌, ◌≤◌, refl, List, [], ◌∷◌, length, arith, rules, get_or, eqb}
+use Rattle.std.specs.Prelude.{true, false, All, slice_get, Some}
 use Rattle.std.specs.List.{list_any, AllByRecursion}
 use Rattle.std.specs.List.{IsDistinct}
 use Rattle.std.proofs.lemmas.Map.Steps.{length-le_from_distinct_below}

@@ -1,6 +1,6 @@
 -- What a closed sound tree proves of a problem's costs.
-use Rattle.std.proofs.Common.{◌≡◌, ◌≢◌, ℕ, zero, suc, ◌+◌, ◌<◌, ◌≤◌, refl, sym, ◌∙◌, ap, subst, List, [], ◌∷◌, map, length, get_or, arith, inl, inr}
-use Rattle.std.specs.Prelude.{pos, ◌≤ℤ◌, max, min, fold, All, slice_get, slice_index, slice_index_or, Option, Some, None}
+use Rattle.std.proofs.Common.{◌≡◌, ◌≢◌, ℕ, zero, suc, ◌<◌, ◌≤◌, refl, sym, ◌∙◌, subst, List, [], ◌∷◌, length, get_or, arith, inl, inr}
+use Rattle.std.specs.Prelude.{pos, ◌≤ℤ◌, max, min, fold, All, slice_get, slice_index, Option, Some, None}
 use Rattle.std.proofs.lemmas.Bool.{cases_lt}
 use Rattle.std.proofs.lemmas.List.{length-map, get_or-map, get_or_past}
 use Rattle.std.proofs.lemmas.Int.{ints}
@@ -18,12 +18,11 @@ use Rattle.path_rows.specs.declared.answer.CapTree.{CapTree}
 use Rattle.path_rows.specs.declared.answer.Verdict.{Verdict}
 use Rattle.path_rows.specs.declared.answer.Verdict.TheVariants.{Optimal, Impossible, Budget}
 use Rattle.path_rows.specs.Problems.{DesignProblem, IsProblem, ends_of, no_request}
-use Rattle.path_rows.specs.Forms.{Meets, form_at, value, no_form}
+use Rattle.path_rows.specs.Forms.{Meets, value, no_form}
 use Rattle.path_rows.specs.Boxes.{IsInBox, capped}
 use Rattle.path_rows.specs.Trees.{IsSoundTree, IsClosed}
-use Rattle.path_rows.specs.Rows.{IsFit, IsBest, IsRow, IsRivalOf, box_of, form_between, form_of_row, forms_of_rows, path_edges, greatest_cost}
+use Rattle.path_rows.specs.Rows.{IsFit, IsRow, IsRivalOf, box_of, form_between, form_of_row, forms_of_rows, path_edges, greatest_cost}
 use Rattle.path_rows.specs.Answers.{AnswerParts, Proves, ShowsLeast, GivesCosts, ClaimHolds, IsValid, greatest_bound}
-use Rattle.path_rows.specs.Laws.{MeetsRows, IsMet}
 use Rattle.path_rows.specs.ProblemLaws.{HasNoFit, IsTrueVerdict}
 use Rattle.path_rows.proofs.FormLaws.{fit-iff}
 use Rattle.path_rows.proofs.TreeLaws.{closed_tree_none}
@@ -112,9 +111,9 @@ fit_most : (p : DesignProblem) (w : List ℕ) → IsFit p w → greatest_cost w 
 fit_most p w fit =
     fold_le w 0 (greatest_bound p) (omega arith)
     (λ k k_in.
-      let high = fit.within.below k k_in in
-      let most = le_fold p.high k 0 (omega (arith, fit.within.high_count)) in
-      omega arith)
+    let high = fit.within.below k k_in in
+    let most = le_fold p.high k 0 (omega (arith, fit.within.high_count)) in
+    omega arith)
 
 pub tree_leaves_none : (p : DesignProblem) (rows : List Row) (proof : CapTree) → IsProblem p → All (IsRow p) rows → Proves p rows (greatest_bound p) proof → HasNoFit p
 tree_leaves_none p rows proof kept true_rows proves w fit =

@@ -1,7 +1,6 @@
 -- The paths of a row, and its form.
-use Rattle.std.proofs.Common.{◌≡◌, ℕ, ◌<◌, refl, sym, ◌∙◌, ap, subst, get_or, List, length}
-use Rattle.std.specs.Prelude.{slice_get, Option, Some}
-use Rattle.area_graph.specs.Area.{Area}
+use Rattle.std.proofs.Common.{◌≡◌, ℕ, sym, ◌∙◌, ap, subst, get_or, List, length}
+use Rattle.std.specs.Prelude.{slice_get}
 use Rattle.area_graph.specs.Paths.{IsPathOf}
 use Rattle.path_rows.specs.declared.form.Row.{Row}
 use Rattle.path_rows.specs.declared.problem.Request.{Request}

@@ -1,5 +1,5 @@
 -- Tables of what a path pays: their entries, one by one, are the definition's.
-use Rattle.std.proofs.Common.{◌≡◌, ℕ, zero, suc, ◌+◌, ◌<◌, ◌≤◌, refl, sym, ◌∙◌, ap, get_or, List, [], ◌∷◌, map, length, arith, add-zero, take}
+use Rattle.std.proofs.Common.{◌≡◌, ℕ, zero, suc, ◌+◌, ◌<◌, refl, sym, ◌∙◌, ap, get_or, List, [], ◌∷◌, map, length, arith, add-zero}
 use Rattle.std.specs.Prelude.{ℤ, pos, ◌-ℤ◌}
 use Rattle.std.proofs.lemmas.List.{length-map}
 use Rattle.cost_base.specs.Lists.{numbers_from}
@@ -34,6 +34,6 @@ differences_tabulated zs xs ys f h n differ first second =
     let counted : length xs ≡ n = ap length first ∙ length-map (numbers_from 0 n) f ∙ length-numbers_from 0 n in
     tabulated (pos 0) zs (λ v. pos (f v) -ℤ pos (h v)) n (differ.count ∙ counted)
     (λ v v_in.
-      let at_first : get_or xs v 0 ≡ f v = ap (λ (l : List ℕ). get_or l v 0) first ∙ get_or-tabulated_from 0 f 0 n v v_in ∙ ap f (let e : 0 + v ≡ v = omega arith in e) in
-      let at_second : get_or ys v 0 ≡ h v = ap (λ (l : List ℕ). get_or l v 0) second ∙ get_or-tabulated_from 0 h 0 n v v_in ∙ ap h (let e : 0 + v ≡ v = omega arith in e) in
-      differ.each v (omega arith) ∙ ap (λ a. pos a -ℤ pos (get_or ys v 0)) at_first ∙ ap (λ b. pos (f v) -ℤ pos b) at_second)
+    let at_first : get_or xs v 0 ≡ f v = ap (λ (l : List ℕ). get_or l v 0) first ∙ get_or-tabulated_from 0 f 0 n v v_in ∙ ap f (let e : 0 + v ≡ v = omega arith in e) in
+    let at_second : get_or ys v 0 ≡ h v = ap (λ (l : List ℕ). get_or l v 0) second ∙ get_or-tabulated_from 0 h 0 n v v_in ∙ ap h (let e : 0 + v ≡ v = omega arith in e) in
+    differ.each v (omega arith) ∙ ap (λ a. pos a -ℤ pos (get_or ys v 0)) at_first ∙ ap (λ b. pos (f v) -ℤ pos b) at_second)

@@ -11,7 +11,11 @@ use std::alloc::Global;
 fn cut_to(alloc: Global, numbers: &[u16], cap: u16) -> Result<Vec<u16>, OutOfMemory>
     ensures { IfOk result (λ cut. cut.items ≡ map (λ n. min n cap) numbers.now) }
 {
-    numbers.iter().map(|n| (*n).min(cap)).collect(alloc).map_err(|_| OutOfMemory)
+    numbers
+        .iter()
+        .map(|n| (*n).min(cap))
+        .collect(alloc)
+        .map_err(|_| OutOfMemory)
 }
 
 /// The same numbers.

@@ -1,7 +1,7 @@
 //! Lists of costs.
-use std::marker::Model;
-
 ghost use Rattle.std.specs.Prelude.{◌≡◌};
+
+use std::marker::Model;
 
 /// A cost for each variable. Contracts see the list of the costs.
 #[derive(Drop)]

@@ -71,7 +71,11 @@ fn copied_names(alloc: Global, names: &[VarName]) -> Result<Vec<VarName>, OutOfM
 }
 
 /// The requests of the members, in their order.
-fn requests_of(alloc: Global, requests: &[Request], members: &[u32]) -> Result<Vec<Request>, OutOfMemory>
+fn requests_of(
+    alloc: Global,
+    requests: &[Request],
+    members: &[u32],
+) -> Result<Vec<Request>, OutOfMemory>
     requires { All (λ m. m < length requests.now) members.now }
     ensures { IfOk result (λ kept. kept.items ≡ map (request_at requests.now) members.now) }
 {

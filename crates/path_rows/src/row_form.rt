@@ -39,7 +39,13 @@ fn constant_of(graph: &Graph, wanted: &[u32], rival: &[u32]) -> i64
 }
 
 /// The form cost(rival) - cost(wanted) - 1.
-fn form_of_paths(alloc: Global, graph: &Graph, variables: usize, wanted: &[u32], rival: &[u32]) -> Result<Form, OutOfMemory>
+fn form_of_paths(
+    alloc: Global,
+    graph: &Graph,
+    variables: usize,
+    wanted: &[u32],
+    rival: &[u32],
+) -> Result<Form, OutOfMemory>
     requires wanted_known { All (λ e. e < length graph.now.edges) wanted.now }
     requires wanted_short { length wanted.now < 2 ^ 32 }
     requires rival_known { All (λ e. e < length graph.now.edges) rival.now }
@@ -65,7 +71,16 @@ pub fn form_of(alloc: Global, problem: &Problem, row: &Row) -> Result<Form, OutO
     ensures small { IfOk result (λ form. IsSmallForm (length problem.now.low) form) }
 {
     problem.graph.keeps_conditions();
-    let wanted = problem.paths.as_slice()[row.request as usize].path.edges.as_slice();
+    let wanted = problem.paths.as_slice()[row.request as usize]
+        .path
+        .edges
+        .as_slice();
     let rival = row.rival.edges.as_slice();
-    form_of_paths(alloc, &problem.graph, problem.low.as_slice().len(), wanted, rival)
+    form_of_paths(
+        alloc,
+        &problem.graph,
+        problem.low.as_slice().len(),
+        wanted,
+        rival,
+    )
 }

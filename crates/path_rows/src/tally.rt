@@ -57,7 +57,12 @@ fn zeros(alloc: Global, count: usize) -> Result<Vec<u32>, OutOfMemory>
 }
 
 /// How often a path pays each of the variables.
-pub(crate) fn counts_of(alloc: Global, graph: &Graph, variables: usize, path: &[u32]) -> Result<Vec<u32>, OutOfMemory>
+pub(crate) fn counts_of(
+    alloc: Global,
+    graph: &Graph,
+    variables: usize,
+    path: &[u32],
+) -> Result<Vec<u32>, OutOfMemory>
     requires known { All (λ e. e < length graph.now.edges) path.now }
     requires short { length path.now < 2 ^ 32 }
     requires priced { All (λ edge. IsPriced variables edge.price) graph.now.edges }

@@ -1,5 +1,5 @@
 -- Numbers that are printed are read back.
-use Rattle.std.proofs.Common.{◌≡◌, ◌<◌, ◌≤◌, ◌^◌, ℕ, List, [], ◌∷◌, ◌≢◌, length, leb, ◌&&◌, true, refl, sym, ap, ◌∙◌, arith, Some, None}
+use Rattle.std.proofs.Common.{◌≡◌, ◌<◌, ◌≤◌, ◌^◌, ℕ, List, [], ◌∷◌, ◌≢◌, length, leb, ◌&&◌, refl, ap, ◌∙◌, arith, Some, None}
 use Rattle.std.proofs.lemmas.Bool.{and_from, le-leb, cond-true}
 use Rattle.std.specs.List.{list_all}
 use Rattle.cost_base.specs.Decimal.{is_digit, decimal, decimal_value}

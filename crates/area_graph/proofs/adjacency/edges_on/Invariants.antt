@@ -1,4 +1,4 @@
-use Rattle.std.proofs.Common.{◌≡◌, ℕ, ◌<◌, List, [], length, get_or}
+use Rattle.std.proofs.Common.{◌≡◌, ℕ, ◌<◌, [], length, get_or}
 use Rattle.area_graph.specs.Adjacency.{listed_below}
 use Rattle.area_graph.proofs.adjacency.edges_on.Given as goal
 

@@ -1,4 +1,4 @@
-use Rattle.std.proofs.Common.{◌≡◌, ℕ, List, [], replicate}
+use Rattle.std.proofs.Common.{◌≡◌, [], replicate}
 use Rattle.area_graph.proofs.adjacency.empty_lists.Given as goal
 
 abbrev pub invariant-loop : goal.invariant-loop

@@ -1,4 +1,4 @@
-use Rattle.std.proofs.Common.{refl, length, take, subst, List, IsTrue, true, false, All}
+use Rattle.std.proofs.Common.{refl, subst, List, All}
 use Rattle.std.proofs.lemmas.List.Elements.{All-more}
 use Rattle.std.proofs.lemmas.List.{take_all}
 use Rattle.area_graph.specs.declared.Edge.{Edge}
@@ -20,9 +20,8 @@ loop-edge-preserved c =
     ((c.if-not-fits_edge.ensures c.args.edges.now).0 refl)
 
 pub returns : goal.returns
-returns c =
-    (
-      λ yes. subst (λ (edges : List Edge). All (FitsEdge (record { vertices = c.args.vertices.now; edges = c.args.edges.now })) edges)
+returns c = (
+  λ yes. subst (λ (edges : List Edge). All (FitsEdge (record { vertices = c.args.vertices.now; edges = c.args.edges.now })) edges)
       (take_all c.loop-edge.edge-index c.args.edges.now c.loop-edge-test.false) c.loop-edge.invariant,
-      λ all. refl,
-    )
+  λ all. refl,
+)

@@ -1,4 +1,4 @@
-use Rattle.std.proofs.Common.{◌≡◌, ◌≤◌, ℕ, All, length, sum}
+use Rattle.std.proofs.Common.{◌≡◌, ◌≤◌, All, length, sum}
 use Rattle.area_graph.specs.Distances.{AreReached, far}
 use Rattle.area_graph.proofs.only_cheapest.distances_to.Given as goal
 

@@ -1,4 +1,4 @@
-use Rattle.std.proofs.Common.{◌≡◌, ◌↔◌, ◌<◌, sym, subst, ℕ, List, IsTrue, length}
+use Rattle.std.proofs.Common.{◌↔◌, subst, ℕ, List, IsTrue, length}
 use Rattle.area_graph.specs.Paths.{Ends}
 use Rattle.area_graph.specs.Distances.{AreReached, Leads, SettledBelow}
 use Rattle.area_graph.proofs.Leads.{leads_only}

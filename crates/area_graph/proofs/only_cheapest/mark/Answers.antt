@@ -1,4 +1,4 @@
-use Rattle.std.proofs.Common.{rules, arith, ◌<◌, ◌≤◌, length}
+use Rattle.std.proofs.Common.{rules, ◌<◌, ◌≤◌, length}
 use Rattle.area_graph.proofs.Marks.{marks_more, marks_past}
 use Rattle.area_graph.proofs.only_cheapest.mark.Goals as goal
 

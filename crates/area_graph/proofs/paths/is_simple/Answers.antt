@@ -1,4 +1,4 @@
-use Rattle.std.proofs.Common.{rules, refl}
+use Rattle.std.proofs.Common.{rules}
 use Rattle.area_graph.specs.Paths.{Joins}
 use Rattle.area_graph.proofs.Visits.{joined_known}
 use Rattle.area_graph.proofs.paths.is_simple.Goals as goal

@@ -2,7 +2,7 @@ use Rattle.std.proofs.Common.{◌≡◌, ℕ, ◌∙◌, sym, subst, ap, get_or,
 use Rattle.std.proofs.lemmas.Result.{IfOk-weaker}
 use Rattle.path_rows.specs.declared.problem.Request.{Request}
 use Rattle.path_rows.specs.declared.form.Form.{Form}
-use Rattle.path_rows.specs.Problems.{DesignProblem, ends_of}
+use Rattle.path_rows.specs.Problems.{DesignProblem}
 use Rattle.path_rows.specs.Rows.{HasRoute, form_between, form_of_row}
 use Rattle.path_rows.specs.Forms.{IsSmallForm}
 use Rattle.path_rows.specs.contracts.problem.Problem.{the_view}

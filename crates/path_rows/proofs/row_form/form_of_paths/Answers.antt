@@ -1,9 +1,8 @@
-use Rattle.std.proofs.Common.{◌≡◌, ◌∙◌, sym, subst, ap, rules, List, SFits, w64, length}
+use Rattle.std.proofs.Common.{◌≡◌, ◌∙◌, rules, List, SFits, w64}
 use Rattle.std.specs.Prelude.{ℤ}
 use Rattle.std.proofs.lemmas.Int.{to_z-of_z}
 use Rattle.path_rows.specs.declared.form.Form.{Form}
-use Rattle.path_rows.specs.Differences.{IsDifference}
-use Rattle.path_rows.specs.Rows.{uses, form_between}
+use Rattle.path_rows.specs.Rows.{uses}
 use Rattle.path_rows.proofs.Tallies.{differences_tabulated}
 use Rattle.path_rows.proofs.row_form.form_of_paths.Goals as goal
 

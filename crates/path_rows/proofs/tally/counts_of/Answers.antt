@@ -1,4 +1,4 @@
-use Rattle.std.proofs.Common.{ℕ, ◌+◌, ◌<◌, ◌≤◌, ◌≡◌, ◌∙◌, sym, subst, arith, length, take, get_or, ap, List}
+use Rattle.std.proofs.Common.{ℕ, ◌≤◌, ◌≡◌, ◌∙◌, arith, length, take, get_or, ap, List}
 use Rattle.std.proofs.Math.Seq.{take-length}
 use Rattle.std.proofs.lemmas.List.{length-take-le}
 use Rattle.std.proofs.lemmas.List.Sums.{count_by-le-length}
@@ -28,6 +28,6 @@ count_price-requires-clause-room c k d k_in =
 pub returns : goal.returns
 returns c = tabulated 0 c.loop-e.counts.items (uses c.args.graph.now c.args.path.now) c.args.variables c.loop-e.invariant.count
     (λ v v_in.
-      let whole : c.loop-e.e-index ≡ length c.args.path.now = omega arith in
-      let all : take c.loop-e.e-index c.args.path.now ≡ c.args.path.now = ap (λ n. take n c.args.path.now) whole ∙ take-length c.args.path.now in
-      c.loop-e.invariant.so_far v v_in ∙ ap (λ (es : List ℕ). uses c.args.graph.now es v) all)
+    let whole : c.loop-e.e-index ≡ length c.args.path.now = omega arith in
+    let all : take c.loop-e.e-index c.args.path.now ≡ c.args.path.now = ap (λ n. take n c.args.path.now) whole ∙ take-length c.args.path.now in
+    c.loop-e.invariant.so_far v v_in ∙ ap (λ (es : List ℕ). uses c.args.graph.now es v) all)

@@ -1,4 +1,4 @@
-use Rattle.std.proofs.Common.{◌≡◌, ℕ, ◌<◌, ◌≤◌, take, get_or, length}
+use Rattle.std.proofs.Common.{◌≡◌, ℕ, ◌<◌, take, get_or, length}
 use Rattle.path_rows.specs.Rows.{uses}
 use Rattle.path_rows.proofs.tally.counts_of.Given as goal
 

@@ -1,4 +1,4 @@
-use Rattle.std.proofs.Common.{◌+◌, arith, add-one, length}
+use Rattle.std.proofs.Common.{◌+◌, arith, add-one}
 use Rattle.std.proofs.lemmas.List.{take_rest}
 use Rattle.text_lines.proofs.Pieces.{first_line-at, first_line-none}
 use Rattle.text_lines.proofs.line_reader.first_line.Goals as goal

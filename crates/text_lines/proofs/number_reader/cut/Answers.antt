@@ -1,4 +1,4 @@
-use Rattle.std.proofs.Common.{◌+◌, arith, add-one, length}
+use Rattle.std.proofs.Common.{◌+◌, arith, add-one}
 use Rattle.std.proofs.lemmas.List.{take_rest}
 use Rattle.text_lines.proofs.Pieces.{split-at, split-none}
 use Rattle.text_lines.proofs.number_reader.cut.Goals as goal

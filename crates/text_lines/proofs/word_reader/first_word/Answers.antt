@@ -1,4 +1,4 @@
-use Rattle.std.proofs.Common.{◌≡◌, ◌==◌, true, false, sym, ap, ◌∙◌, length}
+use Rattle.std.proofs.Common.{◌≡◌, ◌==◌, false, sym, ap, ◌∙◌, length}
 use Rattle.std.proofs.lemmas.Bool.{false_from_ne_true}
 use Rattle.text_lines.specs.Lines.{ends_word}
 use Rattle.text_lines.proofs.WordSteps.{words-cut}

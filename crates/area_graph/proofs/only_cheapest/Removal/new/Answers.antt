@@ -1,4 +1,4 @@
-use Rattle.std.proofs.Common.{rules, arith, ℕ, List, subst, sym, take}
+use Rattle.std.proofs.Common.{ℕ, List, subst, sym, take}
 use Rattle.std.proofs.lemmas.List.{take_more}
 use Rattle.area_graph.specs.Distances.{AreMarks}
 use Rattle.area_graph.proofs.only_cheapest.Removal.new.Goals as goal

@@ -1,0 +1,77 @@
+-- Fractions that a `Frac` can hold: what keeps them in lowest terms and within 127 bits.
+use Rattle.std.proofs.Common.{◌≡◌, ◌≢◌, ℕ, zero, suc, ◌^◌, ◌<◌, ◌≤◌, ◌-◌, ◌*◌, ◌/◌, ◌%◌, refl, sym, ◌∙◌, ap, subst, arith}
+use Rattle.std.specs.Prelude.{ℤ, pos, negsuc, neg_ℤ, nat_abs, ◌<ℤ◌, ◌≤ℤ◌}
+use Rattle.std.proofs.lemmas.Nat.{one_shl, pow_pos}
+use Rattle.std.proofs.lemmas.Int.{ints, to_z_pos}
+use mir.Syntax.{w128}
+use mir.Val.{to_z}
+use mathlib.Core.Path.{ap₂}
+use native.Mathlib.Nat.{div-le_self, pow-le-pow_right}
+use Rattle.whole_numbers.specs.Fractions.{Fraction, gcd, over, reduced, inverse, inverted}
+use Rattle.whole_numbers.proofs.Divisors.{gcd-swap}
+use Rattle.whole_numbers.proofs.FractionLaws.{nat_abs-over, nat_abs-neg, reduced_lowest}
+use Rattle.wide_fraction.specs.Widths.{IsKept}
+
+-- the greatest number of some bits, as the code shifts for it
+pub shifted : (bits : ℕ) → bits ≤ 127 → (1 * 2 ^ bits) % 2 ^ 128 - 1 ≡ 2 ^ bits - 1
+shifted bits h = ap (λ n. n - 1) (one_shl bits 128 (omega arith))
+
+pub shifted_below : (bits : ℕ) → bits ≤ 127 → 2 ^ bits - 1 < 2 ^ 127
+shifted_below bits h = let two : 0 < 2 = omega arith in omega (arith, pow_pos bits, pow-le-pow_right two h)
+
+-- the number that the code casts from it
+pub top_view : (bits : ℕ) → bits ≤ 127 → to_z w128 ((1 * 2 ^ bits) % 2 ^ 128 - 1) ≡ pos (2 ^ bits - 1)
+top_view bits h = ap (to_z w128) (shifted bits h) ∙ to_z_pos w128 (2 ^ bits - 1) (shifted_below bits h)
+
+-- a fraction that is reduced keeps within its old size
+pub reduced_kept : (n : ℤ) (d : ℕ) → 0 < d → nat_abs n < 2 ^ 127 → d < 2 ^ 127 → IsKept (reduced n d)
+reduced_kept n d d_positive n_fits d_fits = record {
+  lowest = reduced_lowest n d d_positive;
+  numerator = omega (arith, nat_abs-over n (gcd (nat_abs n) d), div-le_self (nat_abs n) (gcd (nat_abs n) d));
+  denominator = omega (arith, div-le_self d (gcd (nat_abs n) d));
+}
+
+-- the fraction upside down
+inverted_kept : (n : ℤ) (d : ℕ) → 0 < d → gcd (nat_abs n) d ≡ 1 → nat_abs n < 2 ^ 127 → d < 2 ^ 127 → n ≢ pos 0 → IsKept (inverted n d)
+inverted_kept (pos zero) d d_positive lowest n_fits d_fits not_zero = absurd (not_zero refl)
+inverted_kept (pos (suc n)) d d_positive lowest n_fits d_fits not_zero = record {
+  lowest = record { positive = omega arith; lowest = gcd-swap d (suc n) ∙ lowest };
+  numerator = d_fits;
+  denominator = n_fits;
+}
+inverted_kept (negsuc n) d d_positive lowest n_fits d_fits not_zero = record {
+  lowest = record { positive = omega arith; lowest = ap (λ m. gcd m (suc n)) (nat_abs-neg d) ∙ gcd-swap d (suc n) ∙ lowest };
+  numerator = omega (arith, nat_abs-neg d);
+  denominator = n_fits;
+}
+
+pub inverse_kept : (q : Fraction) → IsKept q → q.numerator ≢ pos 0 → IsKept (inverse q)
+inverse_kept q kept not_zero =
+    inverted_kept q.numerator q.denominator kept.lowest.positive kept.lowest.lowest kept.numerator kept.denominator not_zero
+
+pub inverted_negative : (n : ℤ) (d : ℕ) → n <ℤ pos 0 → record { numerator = neg_ℤ (pos d); denominator = nat_abs n } ≡ inverted n d
+inverted_negative (pos n) d h = absurd (omega (arith, ints))
+inverted_negative (negsuc n) d h = refl
+
+pub inverted_positive : (n : ℤ) (d : ℕ) → pos 0 ≤ℤ n → n ≢ pos 0 → record { numerator = pos d; denominator = nat_abs n } ≡ inverted n d
+inverted_positive (pos zero) d h not_zero = absurd (not_zero refl)
+inverted_positive (pos (suc n)) d h not_zero = refl
+inverted_positive (negsuc n) d h not_zero = absurd (omega (arith, ints))
+
+-- a fraction below 0 upside down, as the code makes its numbers
+pub upside_negative : (n : ℤ) (d : ℕ) (z : ℤ) (m : ℕ) → IsKept (record { numerator = n; denominator = d }) → n <ℤ pos 0 → z ≡ neg_ℤ (pos d) → m ≡ nat_abs n → IsKept (record { numerator = z; denominator = m })
+upside_negative n d z m kept negative z_is m_is =
+    let not_zero : n ≢ pos 0 = λ e. absurd (omega (arith, ints, e)) in
+    let turned : IsKept (inverted n d) = inverted_kept n d kept.lowest.positive kept.lowest.lowest kept.numerator kept.denominator not_zero in
+    subst (λ (q : Fraction). IsKept q) (sym (ap₂ (λ (t : ℤ) (b : ℕ). record { numerator = t; denominator = b }) z_is m_is ∙ inverted_negative n d negative)) turned
+
+-- and one that isn't
+pub upside_positive : (n : ℤ) (d : ℕ) (z : ℤ) (m : ℕ) → IsKept (record { numerator = n; denominator = d }) → pos 0 ≤ℤ n → n ≢ pos 0 → z ≡ pos d → m ≡ nat_abs n → IsKept (record { numerator = z; denominator = m })
+upside_positive n d z m kept not_negative not_zero z_is m_is =
+    let turned : IsKept (inverted n d) = inverted_kept n d kept.lowest.positive kept.lowest.lowest kept.numerator kept.denominator not_zero in
+    subst (λ (q : Fraction). IsKept q) (sym (ap₂ (λ (t : ℤ) (b : ℕ). record { numerator = t; denominator = b }) z_is m_is ∙ inverted_positive n d not_negative not_zero)) turned
+
+-- a fraction with the numbers of a reduced one
+pub reduced_seen : (n : ℤ) (d : ℕ) (z : ℤ) (m : ℕ) → 0 < d → nat_abs n < 2 ^ 127 → d < 2 ^ 127 → z ≡ over n (gcd (nat_abs n) d) → m ≡ d / gcd (nat_abs n) d → IsKept (record { numerator = z; denominator = m })
+reduced_seen n d z m d_positive n_fits d_fits z_is m_is =
+    subst (λ (q : Fraction). IsKept q) (sym (ap₂ (λ (t : ℤ) (b : ℕ). record { numerator = t; denominator = b }) z_is m_is)) (reduced_kept n d d_positive n_fits d_fits)
