@@ -1,4 +1,5 @@
 //! The top call: from words and files to printed costs.
 #![tactic(auto)]
 
+mod thin_config;
 mod words;
