@@ -1,0 +1,5 @@
+use Rattle.designer_command.proofs.ThinSteps.{length-said}
+use Rattle.designer_command.proofs.thin_config.place_of.Goals as goal
+
+pub returns : goal.returns
+returns c = ?
