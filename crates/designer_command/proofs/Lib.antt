@@ -1,1 +1,3 @@
 pub mod ThinSteps
+pub mod ThinForm
+pub mod ThinReading

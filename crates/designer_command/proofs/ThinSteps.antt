@@ -226,12 +226,12 @@ interface_set all s name line router block thin may =
     ∙ ap (with_statement s.statement) (sym plain)
 
 -- a head at a place of mapped heads
-record HeadAt {Y : Type 0} (heads : List (List ℕ × ℕ)) (F : List ℕ × ℕ → Y) (k : ℕ) (y : Y) : Type 0 where
-  head : List ℕ × ℕ
-  at : slice_get heads k ≡ Some head
-  gives : F head ≡ y
+pub record HeadAt {Y : Type 0} (heads : List (List ℕ × ℕ)) (F : List ℕ × ℕ → Y) (k : ℕ) (y : Y) : Type 0 where
+  pub head : List ℕ × ℕ
+  pub at : slice_get heads k ≡ Some head
+  pub gives : F head ≡ y
 
-head_at : {Y : Type 0} (heads : List (List ℕ × ℕ)) (F : List ℕ × ℕ → Y) (k : ℕ) (y : Y) → slice_get (map F heads) k ≡ Some y → HeadAt heads F k y
+pub head_at : {Y : Type 0} (heads : List (List ℕ × ℕ)) (F : List ℕ × ℕ → Y) (k : ℕ) (y : Y) → slice_get (map F heads) k ≡ Some y → HeadAt heads F k y
 head_at [] F k y e = absurd (cc)
 head_at (h ∷ heads) F zero y e = record { head = h; at = refl; gives = cc }
 head_at (h ∷ heads) F (suc k) y e = let found = head_at heads F k y e in record { head = found.head; at = found.at; gives = found.gives }
