@@ -1,3 +1,4 @@
 pub mod ThinSteps
 pub mod ThinForm
 pub mod ThinReading
+pub mod ThinPlaces

@@ -1,5 +1,5 @@
 //! Reads the configurations of the form that is read for now.
-ghost use Rattle.std.specs.Prelude.{◌≡◌, ℕ, ◌+◌, ◌-◌, ◌^◌, ◌<◌, ◌≤◌, List, [], ◌∷◌, ◌++◌, length, true, false, map, slice_get, codes, MatchOption, OnOk, IfOk, IsErrOf, Some, None};
+ghost use Rattle.std.specs.Prelude.{◌≡◌, ℕ, ◌+◌, ◌-◌, ◌^◌, ◌<◌, ◌≤◌, List, [], ◌∷◌, ◌++◌, length, true, false, map, position, slice_get, codes, MatchOption, OnOk, IfOk, IsErrOf, Some, None};
 ghost use Rattle.std.specs.Bool.{OnTrue, OnFalse};
 ghost use Rattle.std.specs.Option.{ForSome};
 ghost use Rattle.cost_base.specs.Lists.{same_bytes};
@@ -129,18 +129,29 @@ impl Reader {
         ensures interfaces { OnOk result (self.new.interfaces.items ≡ thin.with_interface name.now line self.old.interfaces.items) }
         ensures open { OnOk result (thin.IsOpen self.new.interfaces.items self.new.block (OfInterface name.now)) }
     {
-        let place = match place_of(&self.interfaces, name) {
-            Some(place) => place,
-            None => {
-                let interface = new_interface(Name::from_bytes(alloc, name)?, line);
-                if self.interfaces.push(interface).is_err() {
-                    return Err(OutOfMemory);
-                }
-                self.interfaces.len() - 1
+        match place_of(&self.interfaces, name) {
+            Some(place) => {
+                self.block = Some(place);
+                Ok(())
             }
-        };
-        self.block = Some(place);
-        Ok(())
+            None => self.add_interface(alloc, name, line),
+        }
+    }
+
+    /// Adds an interface of which nothing is said, and opens its block.
+    fn add_interface(&mut self, alloc: Global, name: &[u8], line: u32) -> Result<(), OutOfMemory>
+        ensures interfaces { OnOk result (self.new.interfaces.items ≡ self.old.interfaces.items ++ thin.new_interface name.now line ∷ []) }
+        ensures block { OnOk result (self.new.block ≡ Some (length self.old.interfaces.items)) }
+    {
+        let name = Name::from_bytes(alloc, name)?;
+        let place = self.interfaces.len();
+        match self.interfaces.push(new_interface(name, line)) {
+            Ok(()) => {
+                self.block = Some(place);
+                Ok(())
+            }
+            Err(_) => Err(OutOfMemory),
+        }
     }
 
     /// Reads a line of a block; tells whether it is of the form.
@@ -198,7 +209,7 @@ fn interface_head<'a>(first: &[u8], name: &'a [u8], more: &[u8]) -> Option<Head<
 
 /// The place of the first interface of a name.
 fn place_of(interfaces: &[Interface], name: &[u8]) -> Option<usize>
-    ensures { MatchOption result (thin.is_named name.now interfaces.now ≡ false) (λ k. (thin.is_named name.now interfaces.now ≡ true) × thin.IsOpen interfaces.now (Some k) (OfInterface name.now)) }
+    ensures { result ≡ position (λ i. same_bytes name.now i.name) interfaces.now }
 {
     interfaces.iter().position(|interface| same(name, interface.name.as_bytes()))
 }
