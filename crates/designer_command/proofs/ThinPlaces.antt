@@ -13,7 +13,8 @@ use Rattle.designer_command.specs.ThinConfigs.{is_thin_setting}
 use Rattle.designer_command.specs.declared.thin_config.Setting.{Setting}
 use Rattle.designer_command.specs.ThinReads.{IsOpen, IsSettingOf, is_named, with_interface, new_interface}
 
-slice_get-within : {X : Type 0} (xs : List X) (k : ℕ) (d : X) → k < length xs → slice_get xs k ≡ Some (get_or xs k d)
+-- an element within a list
+pub slice_get-within : {X : Type 0} (xs : List X) (k : ℕ) (d : X) → k < length xs → slice_get xs k ≡ Some (get_or xs k d)
 slice_get-within [] k d within = absurd (omega arith)
 slice_get-within (x ∷ xs) zero d within = refl
 slice_get-within (x ∷ xs) (suc k) d within = slice_get-within xs k d (omega arith)

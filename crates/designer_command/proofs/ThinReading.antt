@@ -1,8 +1,12 @@
 -- A reader of configurations stands for the lines that it read.
-use Rattle.std.proofs.Common.{◌≡◌, ◌≢◌, ℕ, zero, suc, ◌+◌, ◌<◌, ◌≤◌, List, [], ◌∷◌, ◌++◌, length, map, set, Bool, cond, true, false, ◌&&◌, ◌⊎◌, ⊎_elim, refl, sym, ap, ◌∙◌, subst, arith, Option, Some, None, leb}
+use Rattle.std.proofs.Common.{◌≡◌, ◌≢◌, ℕ, zero, suc, ◌+◌, ◌<◌, ◌≤◌, List, [], ◌∷◌, ◌++◌, length, map, set, Bool, cond, true, false, ◌&&◌, ◌⊎◌, ⊎_elim, append_assoc, append-nil, length-append, refl, sym, ap, ◌∙◌, subst, arith, Option, Some, None, leb}
 use Rattle.std.specs.Prelude.{codes, slice_get}
-use Rattle.std.proofs.lemmas.Bool.{false≢true, and_parts, and_from, and_left, and_right, le-leb}
-use Rattle.text_lines.specs.Lines.{words, kind_of, is_head, is_head_kind}
+use Rattle.std.proofs.lemmas.Bool.{false≢true, and_parts, and_from, and_left, and_right, le-leb, lt-leb}
+use Rattle.text_lines.specs.TextLeft.{TextLeft}
+use Rattle.text_lines.specs.Reading.{IsLineRead, IsLongLine}
+use Rattle.text_lines.specs.declared.line_reader.Line.{Line}
+use Rattle.text_lines.specs.declared.line_reader.LongLine.{LongLine}
+use Rattle.text_lines.specs.Lines.{lines, words, kind_of, is_head, is_head_kind}
 use Rattle.text_lines.specs.declared.LineKind.{LineKind}
 use Rattle.text_lines.specs.declared.LineKind.TheVariants.{Blank, Comment, Head, Indented}
 use Rattle.interface_model.specs.declared.Interface.{Interface}
@@ -17,7 +21,7 @@ use Rattle.designer_command.specs.ThinConfigs.{is_thin, is_thin_line, is_thin_he
 use Rattle.designer_command.specs.declared.thin_config.Reader.{Reader}
 use Rattle.designer_command.specs.declared.thin_config.Setting.{Setting}
 use Rattle.designer_command.specs.declared.thin_config.Setting.TheVariants.{Address, Area, Cost, PointToPoint}
-use Rattle.designer_command.specs.ThinReads.{is_thin_file, StandsFor, IsOpen, with_interface, with_statement, takes, statement_of}
+use Rattle.designer_command.specs.ThinReads.{is_thin_file, StandsFor, ReadsOn, GoesOff, IsOpen, with_interface, with_statement, takes, statement_of}
 use Rattle.designer_command.proofs.ThinSteps.{IsPlainFile, plain_file, interfaces-silent, interfaces-opened, interfaces-set, HeadAt, head_at}
 use Rattle.designer_command.proofs.ThinForm.{on_form, off_line, off_takes, keeps-takes}
 
@@ -206,3 +210,49 @@ place_known file reader k placed stands = go reader.interfaces.items k (open_at 
     go [] n i e = absurd (cc)
     go (x ∷ is) zero i e = omega arith
     go (x ∷ is) (suc n) i e = let h = go is n i e in omega arith
+
+-- a reader that read the lines of a text up to some bytes
+pub record ReadTo (bytes : List ℕ) (left : TextLeft) (reader : Reader) : Type 0 where
+  pub file : List (List ℕ)
+  pub split : lines bytes ≡ file ++ lines left.bytes
+  pub counted : left.read ≡ length file
+  pub longest : left.longest ≡ 4096
+  pub stands : StandsFor file reader
+
+pub read_none : (bytes : List ℕ) (left : TextLeft) (reader : Reader) → left ≡ record { bytes = bytes; read = 0; ended = true; longest = 4096 } → StandsFor [] reader → ReadTo bytes left reader
+read_none bytes left reader start stands = record {
+  file = [];
+  split = ap (λ (t : TextLeft). lines t.bytes) (sym start);
+  counted = ap (λ (t : TextLeft). t.read) start;
+  longest = ap (λ (t : TextLeft). t.longest) start;
+  stands = stands;
+}
+
+-- one more line
+pub read_more : (bytes : List ℕ) (old new : TextLeft) (reader reader' : Reader) (line : Line) → ReadTo bytes old reader → IsLineRead old new line → ReadsOn reader reader' line.text.now line.number → ReadTo bytes new reader'
+read_more bytes old new reader reader' line so_far is_line on =
+    record {
+      file = so_far.file ++ line.text.now ∷ [];
+      split = so_far.split ∙ ap (λ ls. so_far.file ++ ls) is_line.0.first.first ∙ sym (append_assoc so_far.file (line.text.now ∷ []) (lines new.bytes));
+      counted = is_line.0.read ∙ omega (arith, so_far.counted, length-append so_far.file (line.text.now ∷ []));
+      longest = is_line.0.longest ∙ so_far.longest;
+      stands = on so_far.file so_far.stands (is_line.1.counted ∙ ap (λ n. n + 1) so_far.counted);
+    }
+
+-- the whole text
+pub read_all : (bytes : List ℕ) (left : TextLeft) (reader : Reader) → ReadTo bytes left reader → left.bytes ≡ [] → (is_thin_file (lines bytes) ≡ true) × (reader.interfaces.items ≡ interfaces_of (lines bytes))
+read_all bytes left reader so_far done =
+    let whole : lines bytes ≡ so_far.file = so_far.split ∙ ap (λ b. so_far.file ++ lines b) done ∙ append-nil so_far.file in
+    (ap is_thin_file whole ∙ so_far.stands.form, so_far.stands.interfaces ∙ ap interfaces_of (sym whole))
+
+-- a line off the form
+pub read_off : (bytes : List ℕ) (old new : TextLeft) (reader : Reader) (line : Line) → ReadTo bytes old reader → IsLineRead old new line → GoesOff reader line.text.now → is_thin_file (lines bytes) ≡ false
+read_off bytes old new reader line so_far is_line off =
+    ap is_thin_file (so_far.split ∙ ap (λ ls. so_far.file ++ ls) is_line.0.first.first) ∙ off so_far.file (lines new.bytes) so_far.stands
+
+-- a line that is too long
+pub read_long : (bytes : List ℕ) (old new : TextLeft) (reader : Reader) (long : LongLine) → ReadTo bytes old reader → IsLongLine old new long → is_thin_file (lines bytes) ≡ false
+read_long bytes old new reader long so_far is_long =
+    let over : 4096 < length is_long.0 = omega (arith, is_long.2.over, so_far.longest) in
+    ap is_thin_file (so_far.split ∙ ap (λ ls. so_far.file ++ ls) is_long.1.first.first)
+    ∙ off_line so_far.file is_long.0 (lines new.bytes) (and_left (leb (length is_long.0) 4096) _ (lt-leb (length is_long.0) 4096 over))
