@@ -1,5 +1,5 @@
 -- Whether a configuration is of the form, with one more line.
-use Rattle.std.proofs.Common.{◌≡◌, ◌≢◌, ℕ, zero, suc, ◌+◌, List, [], ◌∷◌, ◌++◌, length, map, Bool, cond, true, false, ◌&&◌, refl, sym, ap, ◌∙◌, append-nil, Option, Some, None}
+use Rattle.std.proofs.Common.{◌≡◌, ◌≢◌, ℕ, zero, suc, ◌+◌, List, [], ◌∷◌, ◌++◌, length, map, Bool, cond, true, false, ◌&&◌, refl, sym, ap, ◌∙◌, subst, append-nil, Option, Some, None}
 use Rattle.std.specs.Prelude.{◌==◌}
 use Rattle.std.specs.List.{filter, filter_map, list_all}
 use Rattle.std.specs.Option.{option_or}
@@ -11,13 +11,19 @@ use Rattle.cost_base.specs.Lists.{first_of, same_bytes}
 use Rattle.text_lines.specs.Numbers.{Prefix}
 use Rattle.interface_model.specs.declared.Interface.{Interface}
 use Rattle.config_reader.specs.Statements.{Statement, AddressIs, AreaIs, CostIs, KindIs, PriorityIs, PassiveIs, DownIs, RouterIdIs, NetworkIs, PassiveInterfaceIs, Refused, Unread, Block, OfInterface, OfRouter, OfOther}
-use Rattle.config_reader.specs.Settings.{Said, said, about, is_of, interface_of, address_of, address_part, length_part, address_said}
+use Rattle.config_reader.specs.Settings.{Said, said, about, about_router, setting, router_id_said, is_of, interface_of, address_of, address_part, length_part, address_said}
+use Rattle.text_lines.specs.Lines.{lines, words, kind_of}
+use Rattle.interface_model.specs.Records.{Router, IsRouter}
+use Rattle.config_reader.specs.Configs.{config_of}
+use Rattle.config_reader.specs.Faults.{router_name, is_router_name, before_first_dot, after_last_slash}
+use Rattle.config_reader.specs.Reading.{interfaces_of}
+use Rattle.config_reader.proofs.RouterFacts.{is_short_line, router_kept}
 use Rattle.config_reader.proofs.Places.{same_bytes-refl}
 use Rattle.config_reader.proofs.SaidSteps.{said_after, said-push}
 use Rattle.config_reader.proofs.SettingSteps.{about-push, said_where, first_said-push}
-use Rattle.designer_command.specs.ThinConfigs.{is_thin, is_thin_setting, all_thin, same_prefix, keeps_address, keeps_address_in}
+use Rattle.designer_command.specs.ThinConfigs.{is_thin, is_thin_line, is_thin_config, is_thin_setting, all_thin, same_prefix, keeps_address, keeps_address_in}
 use Rattle.designer_command.specs.ThinReads.{is_thin_file, takes, no_other}
-use Rattle.designer_command.proofs.ThinSteps.{length-said, all_thin-push, all_thin-off, said-behind}
+use Rattle.designer_command.proofs.ThinSteps.{plain_file, length-said, all_thin-push, all_thin-off, said-behind}
 
 -- the first address of an interface stays the first
 pub address_of-more : (all more : List Said) (name : List ℕ) (q : Prefix) → address_of all name ≡ Some q → address_of (all ++ more) name ≡ Some q
@@ -147,3 +153,49 @@ off_takes file line more name n block may_not = by_statement (said_after file li
     by_statement (PassiveInterfaceIs other) says h = absurd (false≢true (sym h))
     by_statement (Refused fault) says h = absurd (false≢true (sym h))
     by_statement Unread says h = absurd (false≢true (sym h))
+
+-- no line of a file of the form is too long
+pub thin_short : (file : List (List ℕ)) (ss : List Said) → all_thin file ss ≡ true → list_all is_short_line file ≡ true
+thin_short [] ss thin = refl
+thin_short (line ∷ file) [] thin = absurd (false≢true thin)
+thin_short (line ∷ file) (s ∷ ss) thin =
+    let parts = and_parts (is_thin line s) (all_thin file ss) thin in
+    let short = (and_parts (is_short_line line) (is_thin_line (kind_of line) (words line) s) parts.0).0 in
+    rw short (thin_short file ss parts.1)
+
+-- what a configuration of the form says
+pub record IsThinRouter (file_name bytes : List ℕ) (r : Router) : Type 0 where
+  pub form : is_thin_config file_name bytes ≡ true
+  pub same : r ≡ config_of file_name bytes
+  pub kept : IsRouter r
+
+-- a router of the name that its file tells and of the interfaces that were read
+pub thin_router : (file_name bytes name : List ℕ) (interfaces : List Interface) → name ≡ before_first_dot (after_last_slash file_name) → is_router_name name ≡ true → is_thin_file (lines bytes) ≡ true → interfaces ≡ interfaces_of (lines bytes) →
+    IsThinRouter file_name bytes (record { name = name; router_id = None; interfaces = interfaces })
+thin_router file_name bytes name interfaces told named form read =
+    let parts = and_parts (all_thin (lines bytes) (said (lines bytes))) (list_all (keeps_address (said (lines bytes))) (said (lines bytes))) form in
+    let plain = plain_file (lines bytes) parts.0 in
+    let own : (router_name file_name (lines bytes)).0 ≡ name = ap (λ (p : List ℕ × ℕ). p.0) (plain.named file_name) ∙ sym told in
+    let good : is_router_name (router_name file_name (lines bytes)).0 ≡ true = ap is_router_name own ∙ named in
+    let id : setting router_id_said (about_router (said (lines bytes))) ≡ None = ap (setting router_id_said) plain.router in
+    let same : (record { name = name; router_id = None; interfaces = interfaces }) ≡ config_of file_name bytes = cc (own, id, read) in
+    record {
+      form = and_from (is_thin_file (lines bytes)) (is_router_name (router_name file_name (lines bytes)).0) form good;
+      same = same;
+      kept = subst IsRouter (sym same) (router_kept file_name bytes (thin_short (lines bytes) (said (lines bytes)) parts.0) good);
+    }
+
+-- off the form by the router's name, where the lines are of the form; or by the lines
+pub off_name : (file_name bytes : List ℕ) → is_router_name (before_first_dot (after_last_slash file_name)) ≡ false → is_thin_config file_name bytes ≡ false
+off_name file_name bytes off = cases (all_thin (lines bytes) (said (lines bytes))) refl
+  where
+    cases : (b : Bool) → all_thin (lines bytes) (said (lines bytes)) ≡ b → is_thin_config file_name bytes ≡ false
+    cases true thin =
+        and_right (is_thin_file (lines bytes)) (is_router_name (router_name file_name (lines bytes)).0)
+        (ap (λ (p : List ℕ × ℕ). is_router_name p.0) ((plain_file (lines bytes) thin).named file_name) ∙ off)
+    cases false thin =
+        and_left (is_thin_file (lines bytes)) (is_router_name (router_name file_name (lines bytes)).0)
+        (and_left (all_thin (lines bytes) (said (lines bytes))) (list_all (keeps_address (said (lines bytes))) (said (lines bytes))) thin)
+
+pub off_lines : (file_name bytes : List ℕ) → is_thin_file (lines bytes) ≡ false → is_thin_config file_name bytes ≡ false
+off_lines file_name bytes off = and_left (is_thin_file (lines bytes)) (is_router_name (router_name file_name (lines bytes)).0) off
