@@ -81,8 +81,8 @@ on_form file line form thin keeps =
     (ap (λ ss. list_all (keeps_address ss) ss) (said-push file line)
     ∙ list_all-append (keeps_address (said file ++ said_after file line ∷ [])) (said file) (said_after file line ∷ [])
     ∙ and_from (list_all (keeps_address (said file ++ said_after file line ∷ [])) (said file)) (list_all (keeps_address (said file ++ said_after file line ∷ [])) (said_after file line ∷ []))
-      (list_all-weaker (keeps_address (said file)) (keeps_address (said file ++ said_after file line ∷ [])) (said file) (λ t h. keeps_in-more (said file) (said_after file line ∷ []) t.block t.statement h) parts.1)
-      (and_from (keeps_address (said file ++ said_after file line ∷ []) (said_after file line)) true keeps refl))
+    (list_all-weaker (keeps_address (said file)) (keeps_address (said file ++ said_after file line ∷ [])) (said file) (λ t h. keeps_in-more (said file) (said_after file line ∷ []) t.block t.statement h) parts.1)
+    (and_from (keeps_address (said file ++ said_after file line ∷ []) (said_after file line)) true keeps refl))
 
 -- no file with a line off the form is of the form
 pub off_line : (file : List (List ℕ)) (line : List ℕ) (more : List (List ℕ)) → is_thin line (said_after file line) ≡ false → is_thin_file (file ++ line ∷ more) ≡ false
@@ -99,10 +99,10 @@ off_address file line more name p q block says first differs =
     and_right (all_thin (file ++ line ∷ more) (said (file ++ line ∷ more))) (list_all (keeps_address (said (file ++ line ∷ more))) (said (file ++ line ∷ more)))
     (ap (λ ss. list_all (keeps_address ss) ss) behind.says
     ∙ list_all-off (keeps_address (said file ++ said_after file line ∷ behind.rest)) (said file) (said_after file line) behind.rest
-      (ap (λ b. keeps_address_in (said file ++ said_after file line ∷ behind.rest) b (said_after file line).statement) block
-      ∙ ap (keeps_address_in (said file ++ said_after file line ∷ behind.rest) (OfInterface name)) says
-      ∙ ap (same_prefix p) (address_of-more (said file) (said_after file line ∷ behind.rest) name q first)
-      ∙ differs))
+    (ap (λ b. keeps_address_in (said file ++ said_after file line ∷ behind.rest) b (said_after file line).statement) block
+    ∙ ap (keeps_address_in (said file ++ said_after file line ∷ behind.rest) (OfInterface name)) says
+    ∙ ap (same_prefix p) (address_of-more (said file) (said_after file line ∷ behind.rest) name q first)
+    ∙ differs))
 
 -- a setting that may be made keeps the address
 pub keeps-takes : (all : List Said) (s : Said) (name : List ℕ) (line : ℕ) → s.block ≡ OfInterface name → takes s.statement (interface_of all name line) ≡ true → keeps_address (all ++ s ∷ []) s ≡ true

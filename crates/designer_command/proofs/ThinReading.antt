@@ -167,24 +167,26 @@ reads_setting file old new line k i setting indented short placed at says may ma
     let set_it : new.interfaces.items ≡ set (interfaces_of file) k (with_statement (statement_of setting) i) = made ∙ ap (λ is. set is k (with_statement (statement_of setting) i)) stands.interfaces in
     let block_new : open_block (file ++ line ∷ []) ≡ OfInterface i.name = open_block-push file line ∙ ap (λ b. block_with b line (open_block file)) headless ∙ here in
     let form_new : is_thin_file (file ++ line ∷ []) ≡ true =
-        on_form file line stands.form (thin_there file line indented short i.name here ∙ ap is_thin_setting says ∙ statement_thin setting)
-        (keeps-takes (said file) (said_after file line) found.head.0 found.head.1 (block ∙ ap (λ (x : Interface). OfInterface x.name) (sym found.gives)) (ap (takes (said_after file line).statement) found.gives ∙ may_it)) in
+    on_form file line stands.form (thin_there file line indented short i.name here ∙ ap is_thin_setting says ∙ statement_thin setting)
+    (keeps-takes (said file) (said_after file line) found.head.0 found.head.1 (block ∙ ap (λ (x : Interface). OfInterface x.name) (sym found.gives)) (ap (takes (said_after file line).statement) found.gives ∙ may_it)) in
     record {
       form = form_new;
       interfaces =
           set_it
           ∙ ap (λ s. set (interfaces_of file) k (with_statement s i)) (sym says_it)
           ∙ sym (interfaces-set file line i.name k i (plain file stands.form).router block thin (heads_by file line opens) at_it refl may_it);
-      block = subst (λ (o : Option ℕ). IsOpen new.interfaces.items o (open_block (file ++ line ∷ []))) (sym (kept ∙ placed))
-          (with_statement (statement_of setting) i,
-          ap (λ is. slice_get is k) made ∙ get-set old.interfaces.items k i (with_statement (statement_of setting) i) at,
-          block_new ∙ ap (λ n. OfInterface n) (sym (name_kept setting i)));
+      block = subst (λ (o : Option ℕ). IsOpen new.interfaces.items o (open_block (file ++ line ∷ []))) (sym (kept ∙ placed)) (
+        with_statement (statement_of setting) i,
+        ap (λ is. slice_get is k) made ∙ get-set old.interfaces.items k i (with_statement (statement_of setting) i) at,
+        block_new ∙ ap (λ n. OfInterface n) (sym (name_kept setting i)),
+      );
     }
   where
     get-set : (is : List Interface) (n : ℕ) (j y : Interface) → slice_get is n ≡ Some j → slice_get (set is n y) n ≡ Some y
     get-set [] n j y e = absurd (cc)
     get-set (x ∷ is) zero j y e = refl
     get-set (x ∷ is) (suc n) j y e = get-set is n j y e
+
     name_kept : (s : Setting) (j : Interface) → (with_statement (statement_of s) j).name ≡ j.name
     name_kept (Address a l) j = refl
     name_kept (Area a) j = refl

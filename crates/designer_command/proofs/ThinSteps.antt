@@ -128,8 +128,10 @@ plain_file = by_lines (λ file. all_thin file (said file) ≡ true → IsPlainFi
         parts =
             and_parts (all_thin file (said file)) (is_thin line (said_after file line))
             (sym (all_thin-push file (said file) line (said_after file line) (length-said file)) ∙ ap (λ ss. all_thin (file ++ line ∷ []) ss) (sym (said-push file line)) ∙ thin)
+
         earlier : IsPlainFile file
         earlier = before parts.0
+
         plain : IsPlainAt (kind_of line) (length file + 1) (open_block file) (words line)
         plain = plain-thin file line parts.1
 
@@ -139,7 +141,7 @@ interfaces-silent file line silent heads =
     ap (λ hs. map (λ head. interface_of (said (file ++ line ∷ [])) head.0 head.1) hs) heads
     ∙ ap (λ all. map (λ head. interface_of all head.0 head.1) (first_heads file)) (said-push file line)
     ∙ map_agree (λ head. interface_of (said file ++ said_after file line ∷ []) head.0 head.1) (λ head. interface_of (said file) head.0 head.1) (first_heads file)
-      (λ head. interface_of-other (said file) (said_after file line) head.0 head.1 (ap (is_of head.0) silent) (ap is_of_router silent))
+    (λ head. interface_of-other (said file) (said_after file line) head.0 head.1 (ap (is_of head.0) silent) (ap is_of_router silent))
 
 -- of a new interface nothing is said
 new_here : (file : List (List ℕ)) (name : List ℕ) (n : ℕ) → about_router (said file) ≡ [] → is_headed name (first_heads file) ≡ false → interface_of (said file) name n ≡ new_interface name n
@@ -160,7 +162,7 @@ interfaces-opened file line name router silent opened =
     ap (λ hs. map (λ head. interface_of (said (file ++ line ∷ [])) head.0 head.1) hs) (first_heads-push file line ∙ ap (λ o. heads_with o (first_heads file)) opened)
     ∙ ap (λ all. map (λ head. interface_of all head.0 head.1) (heads_with (Some (name, length file + 1)) (first_heads file))) (said-push file line)
     ∙ map_agree (λ head. interface_of (said file ++ said_after file line ∷ []) head.0 head.1) (λ head. interface_of (said file) head.0 head.1) (heads_with (Some (name, length file + 1)) (first_heads file))
-      (λ head. interface_of-other (said file) (said_after file line) head.0 head.1 (ap (is_of head.0) silent) (ap is_of_router silent))
+    (λ head. interface_of-other (said file) (said_after file line) head.0 head.1 (ap (is_of head.0) silent) (ap is_of_router silent))
     ∙ cases (is_headed name (first_heads file)) refl
   where
     cases : (b : Bool) → is_headed name (first_heads file) ≡ b →
@@ -186,6 +188,7 @@ thin_set own name line (AddressIs p) thin may = interface_from-push own [] name 
   where
     by_address : Option Prefix → Interface
     by_address o = interface_by name line o (setting area_said own) (setting cost_said own) (setting kind_said own) (setting passive_said own) (setting down_said own) (setting priority_said own) []
+
     cases : (o : Option Prefix) → takes (AddressIs p) (by_address o) ≡ true → by_address (option_or o (Some p)) ≡ with_statement (AddressIs p) (by_address o)
     cases None h = refl
     cases (Some q) h =
@@ -195,6 +198,7 @@ thin_set own name line (AreaIs a) thin may = interface_from-push own [] name lin
   where
     by_address : Option Prefix → Option ℕ → Interface
     by_address o area = interface_by name line o area (setting cost_said own) (setting kind_said own) (setting passive_said own) (setting down_said own) (setting priority_said own) []
+
     cases : (o : Option Prefix) → by_address (option_or o None) (Some a) ≡ with_statement (AreaIs a) (by_address o (setting area_said own))
     cases None = refl
     cases (Some q) = refl
@@ -203,6 +207,7 @@ thin_set own name line (KindIs kind) thin may = interface_from-push own [] name 
   where
     by_address : Option Prefix → Option Kind → Interface
     by_address o k = interface_by name line o (setting area_said own) (setting cost_said own) k (setting passive_said own) (setting down_said own) (setting priority_said own) []
+
     cases : (o : Option Prefix) → by_address (option_or o None) (Some kind) ≡ with_statement (KindIs kind) (by_address o (setting kind_said own))
     cases None = refl
     cases (Some q) = refl
@@ -271,8 +276,8 @@ interfaces-set file line name k i router block thin heads at named may =
     ap (λ hs. map (λ head. interface_of (said (file ++ line ∷ [])) head.0 head.1) hs) heads
     ∙ ap (λ all. map (λ head. interface_of all head.0 head.1) (first_heads file)) (said-push file line)
     ∙ set_one (first_heads file) k found.head name (firsts-apart [] (filter_map (opened_at file) (numbers_from 0 (length file)))) found.at own
-      (λ head. interface_of (said file) head.0 head.1) (λ head. interface_of (said file ++ said_after file line ∷ []) head.0 head.1)
-      (λ h other. interface_of-other (said file) (said_after file line) h.0 h.1 (ap (is_of h.0) block ∙ false_from_ne_true (same_bytes h.0 name) (λ same. other (same_bytes-true h.0 name same))) (ap is_of_router block))
+    (λ head. interface_of (said file) head.0 head.1) (λ head. interface_of (said file ++ said_after file line ∷ []) head.0 head.1)
+    (λ h other. interface_of-other (said file) (said_after file line) h.0 h.1 (ap (is_of h.0) block ∙ false_from_ne_true (same_bytes h.0 name) (λ same. other (same_bytes-true h.0 name same))) (ap is_of_router block))
     ∙ ap (set (interfaces_of file) k)
-      (interface_set (said file) (said_after file line) found.head.0 found.head.1 router (block ∙ ap (λ n. OfInterface n) (sym own)) thin (ap (takes (said_after file line).statement) found.gives ∙ may)
-      ∙ ap (with_statement (said_after file line).statement) found.gives)
+    (interface_set (said file) (said_after file line) found.head.0 found.head.1 router (block ∙ ap (λ n. OfInterface n) (sym own)) thin (ap (takes (said_after file line).statement) found.gives ∙ may)
+    ∙ ap (with_statement (said_after file line).statement) found.gives)

@@ -29,7 +29,11 @@ pub enum ThinStop {
 
 /// Reads a configuration: blank lines, comments, heads `interface NAME` and `exit`, and in a block of an interface its
 /// address, area, cost and `ip ospf network point-to-point`. The router is named by its file.
-pub(crate) fn read_thin_config(alloc: Global, file_name: &[u8], bytes: &[u8]) -> Result<RouterConfig, ThinStop>
+pub(crate) fn read_thin_config(
+    alloc: Global,
+    file_name: &[u8],
+    bytes: &[u8],
+) -> Result<RouterConfig, ThinStop>
     requires { length bytes.now < 2 ^ 32 - 1 }
     ensures read { IfOk result (λ c. (is_thin_config file_name.now bytes.now ≡ true) × (c ≡ config_of file_name.now bytes.now)) }
     ensures off_form { IsErrOf result ThinStop.OffForm → is_thin_config file_name.now bytes.now ≡ false }
@@ -194,7 +198,11 @@ fn head_of(text: &[u8]) -> Option<Head<'_>>
 fn exit_head(word: &[u8]) -> Option<Head<'_>>
     ensures { MatchOption result (is_thin_head (word.now ∷ []) ≡ false) (thin.IsHeadOf (word.now ∷ [])) }
 {
-    if same(b"exit", word) { Some(Head::Exit) } else { None }
+    if same(b"exit", word) {
+        Some(Head::Exit)
+    } else {
+        None
+    }
 }
 
 /// The head of two words and of those that stand behind them.
@@ -211,7 +219,9 @@ fn interface_head<'a>(first: &[u8], name: &'a [u8], more: &[u8]) -> Option<Head<
 fn place_of(interfaces: &[Interface], name: &[u8]) -> Option<usize>
     ensures { result ≡ position (λ i. same_bytes name.now i.name) interfaces.now }
 {
-    interfaces.iter().position(|interface| same(name, interface.name.as_bytes()))
+    interfaces
+        .iter()
+        .position(|interface| same(name, interface.name.as_bytes()))
 }
 
 /// An interface of which nothing is said.
@@ -312,7 +322,11 @@ fn ospf_setting(key: &[u8], rest: &[u8]) -> Option<Setting>
 fn network_setting(value: &[u8]) -> Option<Setting>
     ensures { (more : List (List ℕ)) → thin.IsSettingOf (codes "ip" ∷ codes "ospf" ∷ codes "network" ∷ value.now ∷ more) result }
 {
-    if same(value, b"point-to-point") { Some(Setting::PointToPoint) } else { None }
+    if same(value, b"point-to-point") {
+        Some(Setting::PointToPoint)
+    } else {
+        None
+    }
 }
 
 /// The setting of `ip ospf area X`.
@@ -361,5 +375,70 @@ fn set_address(interface: &mut Interface, address: u32, length: u8) -> bool
             true
         }
         Some(first) => address == first && length == interface.length,
+    }
+}
+
+#[cfg(test)]
+mod tests {
+    use super::*;
+    use std::test::Fail;
+
+    const PAIR: &[u8] =
+        b"interface eth0\n ip address 10.0.0.1/30\n ip ospf area 0\n ip ospf cost 10\n ip ospf network point-to-point\nexit\n";
+
+    fn is_off_form(rt: &HostRuntime, bytes: &[u8]) -> bool
+        requires { length bytes.now < 2 ^ 32 - 1 }
+    {
+        match read_thin_config(rt.alloc(), b"R1.conf", bytes) {
+            Err(ThinStop::OffForm) => true,
+            _ => false,
+        }
+    }
+
+    #[test]
+    fn one_end_of_a_link(rt: HostRuntime) -> Result<(), Fail> {
+        let config = read_thin_config(rt.alloc(), b"sites/R1.conf", PAIR)?;
+        assert!(rt; config.name.as_bytes() == b"R1".as_slice());
+        let interfaces = config.interfaces.as_slice();
+        assert_eq!(rt; interfaces.len(), 1);
+        assert!(rt; interfaces[0].name.as_bytes() == b"eth0".as_slice());
+        assert_eq!(rt; interfaces[0].line, 1);
+        assert_eq!(rt; interfaces[0].address, Some(167772161));
+        assert_eq!(rt; interfaces[0].length, 30);
+        assert_eq!(rt; interfaces[0].area, Some(0));
+        assert_eq!(rt; interfaces[0].cost, Some(10));
+        assert_eq!(rt; interfaces[0].kind, Kind::PointToPoint);
+        Ok(())
+    }
+
+    #[test]
+    fn last_cost_of_two_blocks(rt: HostRuntime) -> Result<(), Fail> {
+        let text =
+            b"interface a\n ip ospf cost 10\ninterface b\ninterface a\r\n ip ospf cost 20\r\nexit\r\n";
+        let config = read_thin_config(rt.alloc(), b"R1", text)?;
+        let interfaces = config.interfaces.as_slice();
+        assert_eq!(rt; interfaces.len(), 2);
+        assert_eq!(rt; interfaces[0].cost, Some(20));
+        assert_eq!(rt; interfaces[1].cost, None);
+        Ok(())
+    }
+
+    #[test]
+    fn lines_off_the_form(rt: HostRuntime) {
+        assert!(rt; is_off_form(&rt, b"hostname R1\n"));
+        assert!(rt;
+            is_off_form(
+                &rt,
+                b"interface a\n ip address 10.0.0.1/30\n ip address 10.0.0.5/30\n"
+            )
+        );
+        assert!(rt;
+            !is_off_form(
+                &rt,
+                b"interface a\n ip address 10.0.0.1/30\n ip address 10.0.0.1/30\n"
+            )
+        );
+        assert!(rt; is_off_form(&rt, b"interface a\nexit\n ip ospf cost 10\n"));
+        assert!(rt; is_off_form(&rt, b"interface a\n ip ospf cost 0\n"));
     }
 }

@@ -16,6 +16,6 @@ invariant_of-result c =
 pub returns-in-Ok-clause-read : goal.returns-in-Ok-clause-read
 returns-in-Ok-clause-read c =
     let r =
-        thin_router c.args.file_name.now c.args.bytes.now c.in-Ok.name c.from_items.result (c.in-Ok.ensures ∙ c.name_of_file-name.ensures)
-        (ap is_router_name c.in-Ok.ensures ∙ sym c.is_router_name.ensures ∙ c.if-not-is_router_name.false) c.in_ok-interfaces.ensures.read.0 (c.from_items.ensures ∙ c.in_ok-interfaces.ensures.read.1) in
+    thin_router c.args.file_name.now c.args.bytes.now c.in-Ok.name c.from_items.result (c.in-Ok.ensures ∙ c.name_of_file-name.ensures)
+    (ap is_router_name c.in-Ok.ensures ∙ sym c.is_router_name.ensures ∙ c.if-not-is_router_name.false) c.in_ok-interfaces.ensures.read.0 (c.from_items.ensures ∙ c.in_ok-interfaces.ensures.read.1) in
     (r.form, r.same)

@@ -20,15 +20,15 @@ returns-in-Some-clause-open c =
 pub returns-in-None-clause-interfaces : goal.returns-in-None-clause-interfaces
 returns-in-None-clause-interfaces c =
     let new =
-        placed_new c.args.name.now c.args.line c.args.self.now.interfaces.items
-        (ap (position (λ (i : Interface). same_bytes c.args.name.now i.name)) (sym c.deref.ensures.value) ∙ sym c.place_of.ensures ∙ c.in-None.is) in
+    placed_new c.args.name.now c.args.line c.args.self.now.interfaces.items
+    (ap (position (λ (i : Interface). same_bytes c.args.name.now i.name)) (sym c.deref.ensures.value) ∙ sym c.place_of.ensures ∙ c.in-None.is) in
     ok_both c.add_interface.result (λ items block. items ∙ new.0) c.add_interface.ensures.interfaces c.add_interface.ensures.block
 
 pub returns-in-None-clause-open : goal.returns-in-None-clause-open
 returns-in-None-clause-open c =
     let new =
-        placed_new c.args.name.now c.args.line c.args.self.now.interfaces.items
-        (ap (position (λ (i : Interface). same_bytes c.args.name.now i.name)) (sym c.deref.ensures.value) ∙ sym c.place_of.ensures ∙ c.in-None.is) in
+    placed_new c.args.name.now c.args.line c.args.self.now.interfaces.items
+    (ap (position (λ (i : Interface). same_bytes c.args.name.now i.name)) (sym c.deref.ensures.value) ∙ sym c.place_of.ensures ∙ c.in-None.is) in
     ok_both c.add_interface.result
     (λ items block. open_at_same c.args.name.now new.1 (sym items) (sym block))
     c.add_interface.ensures.interfaces c.add_interface.ensures.block

@@ -25,9 +25,9 @@ returns-clause-read c =
     let new : Reader = record { interfaces = with_item c.args.self.now.interfaces c.in-Some.place c.set.new.interface; block = c.args.self.now.block } in
     OnTrue_from c.set.result _
     (λ ok file stands.
-        reads_setting file c.args.self.now new c.args.text.now c.in-Some.place old c.in-Some-setting_of.setting c.requires.indented c.requires.short c.in-Some.is
-        (slice_get-within c.args.self.now.interfaces.items c.in-Some.place old within ∙ ap (λ (i : Interface). Some i) (sym c.index_mut.ensures.value))
-        c.in-Some-setting_of.ensures (sym c.set.ensures.may ∙ ok) (ap (set c.args.self.now.interfaces.items c.in-Some.place) (OnTrue_at ok c.set.ensures.made)) refl stands)
+    reads_setting file c.args.self.now new c.args.text.now c.in-Some.place old c.in-Some-setting_of.setting c.requires.indented c.requires.short c.in-Some.is
+    (slice_get-within c.args.self.now.interfaces.items c.in-Some.place old within ∙ ap (λ (i : Interface). Some i) (sym c.index_mut.ensures.value))
+    c.in-Some-setting_of.ensures (sym c.set.ensures.may ∙ ok) (ap (set c.args.self.now.interfaces.items c.in-Some.place) (OnTrue_at ok c.set.ensures.made)) refl stands)
 
 pub returns-clause-off_form : goal.returns-clause-off_form
 returns-clause-off_form c =
@@ -35,6 +35,6 @@ returns-clause-off_form c =
     let old = c.index_mut.result.now in
     OnFalse_from c.set.result _
     (λ no_set file more stands.
-        off_setting file more c.args.self.now c.args.text.now c.in-Some.place old c.in-Some-setting_of.setting c.requires.indented c.requires.short c.in-Some.is
-        (slice_get-within c.args.self.now.interfaces.items c.in-Some.place old within ∙ ap (λ (i : Interface). Some i) (sym c.index_mut.ensures.value))
-        c.in-Some-setting_of.ensures (sym c.set.ensures.may ∙ no_set) stands)
+    off_setting file more c.args.self.now c.args.text.now c.in-Some.place old c.in-Some-setting_of.setting c.requires.indented c.requires.short c.in-Some.is
+    (slice_get-within c.args.self.now.interfaces.items c.in-Some.place old within ∙ ap (λ (i : Interface). Some i) (sym c.index_mut.ensures.value))
+    c.in-Some-setting_of.ensures (sym c.set.ensures.may ∙ no_set) stands)
