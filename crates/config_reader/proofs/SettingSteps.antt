@@ -64,7 +64,7 @@ area_from own None networks = or_if_none own None
 area_from own (Some address) networks = or_if_none own (first_of (map (λ n. n.area) (filter (matches address) networks)))
 
 -- an interface by its settings and by what the router blocks say
-pub interface_by : List ℕ → ℕ → Option Prefix → Option ℕ → Option ℕ → Option Kind → Option Bool → Option Bool → Option ℕ → List Statement → Interface
+unfoldable pub interface_by : List ℕ → ℕ → Option Prefix → Option ℕ → Option ℕ → Option Kind → Option Bool → Option Bool → Option ℕ → List Statement → Interface
 interface_by name line address area cost kind passive down priority router = record {
   name = name;
   line = line;
@@ -79,7 +79,7 @@ interface_by name line address area cost kind passive down priority router = rec
 }
 
 -- an interface by what its blocks and the router blocks say
-pub interface_from : List Statement → List Statement → List ℕ → ℕ → Interface
+unfoldable pub interface_from : List Statement → List Statement → List ℕ → ℕ → Interface
 interface_from own router name line =
     interface_by name line (first_of (filter_map address_said own)) (setting area_said own) (setting cost_said own) (setting kind_said own)
     (setting passive_said own) (setting down_said own) (setting priority_said own) router
@@ -101,7 +101,8 @@ unfolding interface_from
 interface_from-push own router name line s =
     cc (first_said-push address_said own s, setting-push area_said own s, setting-push cost_said own s, setting-push kind_said own s, setting-push passive_said own s, setting-push down_said own s, setting-push priority_said own s)
 
-option_or-none : {X : Type 0} (o : Option X) → option_or o None ≡ o
+-- nothing said changes nothing
+pub option_or-none : {X : Type 0} (o : Option X) → option_or o None ≡ o
 option_or-none None = refl
 option_or-none (Some x) = refl
 

@@ -12,3 +12,7 @@ pub mod ThinRequestLaws
 pub mod DesignedLaws
 mod Examples
 pub mod Runs
+pub mod ThinSteps
+pub mod ThinForm
+pub mod ThinReading
+pub mod ThinPlaces
