@@ -1,7 +1,7 @@
 -- Decimal digits.
-use Rattle.std.proofs.Common.{◌≡◌, ◌≢◌, ℕ, zero, suc, ◌+◌, ◌-◌, ◌*◌, ◌/◌, ◌%◌, ◌^◌, ◌<◌, ◌≤◌, List, [], ◌∷◌, ◌++◌, length, map, get_or, take, drop, take-append-drop, set, eqb, leb, ◌&&◌, true, false, refl, sym, ap, ◌∙◌, arith, add-one, length-append}
+use Rattle.std.proofs.Common.{◌≡◌, ℕ, zero, suc, ◌+◌, ◌-◌, ◌*◌, ◌/◌, ◌%◌, ◌^◌, ◌<◌, ◌≤◌, List, [], ◌∷◌, ◌++◌, length, map, get_or, take, drop, take-append-drop, set, eqb, leb, true, false, refl, sym, ap, ◌∙◌, arith, add-one, length-append}
 use Rattle.std.proofs.Math.Nat.{pow-suc}
-use Rattle.std.proofs.lemmas.Bool.{ne_eqb, and_parts, leb-true, and_from}
+use Rattle.std.proofs.lemmas.Bool.{ne_eqb, and_parts, leb-true}
 use Rattle.std.proofs.lemmas.List.{map-append, length-map, take_more, take_more_set}
 use Rattle.std.proofs.lemmas.List.Folds.{list_all-append}
 use Rattle.std.proofs.lemmas.Int.Digits.{number_push, digits_of_step, length-digits_of-le, number_after_append, number_after_ge, number_lt}
@@ -66,8 +66,8 @@ digit_put room front i n within before =
 pub decimal_value-take-le : (s : List ℕ) (i : ℕ) → decimal_value (take i s) ≤ decimal_value s
 decimal_value-take-le s i =
     let whole : decimal_value s ≡ number_from_digits_after 10 (decimal_value (take i s)) (map (λ c. c - 48) (drop i s)) =
-        ap decimal_value (sym (take-append-drop i s)) ∙ ap (number_from_digits 10) (map-append (λ c. c - 48) (take i s) (drop i s))
-        ∙ number_after_append 10 0 (map (λ c. c - 48) (take i s)) (map (λ c. c - 48) (drop i s)) in
+    ap decimal_value (sym (take-append-drop i s)) ∙ ap (number_from_digits 10) (map-append (λ c. c - 48) (take i s) (drop i s))
+    ∙ number_after_append 10 0 (map (λ c. c - 48) (take i s)) (map (λ c. c - 48) (drop i s)) in
     omega (arith, whole, number_after_ge 10 (decimal_value (take i s)) (map (λ c. c - 48) (drop i s)) (omega arith))
 
 -- digits have a value below the power of their number

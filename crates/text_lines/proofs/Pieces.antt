@@ -1,9 +1,9 @@
 -- Texts cut at the first of some byte, and lines.
-use Rattle.std.proofs.Common.{◌≡◌, ◌≢◌, ℕ, zero, suc, ◌+◌, ◌-◌, ◌<◌, ◌≤◌, List, [], ◌∷◌, ◌++◌, length, get_or, take, drop, eqb, Bool, cond, true, false, refl, sym, ap, ◌∙◌, arith, length-take, length-drop, append-nil}
+use Rattle.std.proofs.Common.{◌≡◌, ◌≢◌, ℕ, zero, suc, ◌-◌, ◌<◌, ◌≤◌, List, [], ◌∷◌, ◌++◌, length, get_or, take, drop, eqb, Bool, cond, true, false, refl, sym, ap, ◌∙◌, arith, length-take, length-drop, append-nil}
 use Rattle.std.proofs.lemmas.Bool.{false_from_ne_true, eqb-true}
 use Rattle.text_lines.specs.Lines.{lines, grow, ends_line}
 use Rattle.text_lines.specs.Numbers.{split}
-use Rattle.text_lines.specs.Reading.{IsFirstLine, line_end}
+use Rattle.text_lines.specs.Reading.{IsFirstLine}
 
 -- the byte c stands at no place before k
 abbrev pub LacksBefore : ℕ → List ℕ → ℕ → Type 0

@@ -30,8 +30,8 @@ moved_digits [] below = refl
 moved_digits (d ∷ ds) below =
     let low : d < 10 = below.0 in
     and_from (is_digit (d + 48)) (list_all is_digit (map (λ x. x + 48) ds))
-      (and_from (leb 48 (d + 48)) (leb (d + 48) 57) (le-leb 48 (d + 48) (omega arith)) (le-leb (d + 48) 57 (omega arith)))
-      (moved_digits ds below.1)
+    (and_from (leb 48 (d + 48)) (leb (d + 48) 57) (le-leb 48 (d + 48) (omega arith)) (le-leb (d + 48) 57 (omega arith)))
+    (moved_digits ds below.1)
 
 -- the digits of a number are digits
 pub decimal-digits : (n : ℕ) → list_all is_digit (decimal n) ≡ true

@@ -20,7 +20,7 @@ joined_quad-more a b c d (p ∷ ps) some =
 pub quad-long : (text a b c d r s t e : List ℕ) → split 46 text ≡ a ∷ split 46 r → split 46 r ≡ b ∷ split 46 s → split 46 s ≡ c ∷ split 46 t → split 46 t ≡ d ∷ split 46 e → quad text ≡ None
 quad-long text a b c d r s t e first second third fourth =
     let pieces : split 46 text ≡ a ∷ b ∷ c ∷ d ∷ split 46 e =
-        first ∙ ap (λ ps. a ∷ ps) (second ∙ ap (λ ps. b ∷ ps) (third ∙ ap (λ ps. c ∷ ps) fourth)) in
+    first ∙ ap (λ ps. a ∷ ps) (second ∙ ap (λ ps. b ∷ ps) (third ∙ ap (λ ps. c ∷ ps) fourth)) in
     ap (λ ps. joined_quad (map (number_within 3 255) ps)) pieces ∙ joined_quad-more a b c d (split 46 e) (split-some 46 e)
 
 prefix_of_pieces-more : (a b : List ℕ) (ps : List (List ℕ)) → ps ≢ [] → prefix_of_pieces (a ∷ b ∷ ps) ≡ None

@@ -1,6 +1,6 @@
 -- The first word of a text.
-use Rattle.std.proofs.Common.{◌≡◌, ◌≢◌, ℕ, List, [], ◌∷◌, ◌++◌, All, ◌+◌, ◌≤◌, length, take, drop, Bool, cond, true, false, refl, sym, ap, ◌∙◌, arith, take-append-drop}
-use Rattle.std.proofs.lemmas.List.Elements.{All-head, All-tail, All-append}
+use Rattle.std.proofs.Common.{◌≡◌, ◌≢◌, ℕ, List, [], ◌∷◌, ◌++◌, All, ◌≤◌, length, take, drop, Bool, cond, true, false, refl, sym, ap, ◌∙◌, arith, take-append-drop}
+use Rattle.std.proofs.lemmas.List.Elements.{All-head, All-tail}
 use Rattle.cost_base.specs.Words.{is_blank}
 use Rattle.text_lines.specs.Lines.{words, ends_word, grow}
 

@@ -1,4 +1,4 @@
-use Rattle.std.proofs.Common.{◌≡◌, ◌<◌, ◌≤◌, ◌^◌, ◌*◌, ◌+◌, arith, get_or, sym, ◌∙◌, true}
+use Rattle.std.proofs.Common.{◌≡◌, ◌<◌, ◌^◌, ◌*◌, ◌+◌, arith, get_or, sym, ◌∙◌, true}
 use Rattle.cost_base.specs.Decimal.{is_digit}
 use Rattle.text_lines.proofs.Digits.{digits-more, decimal_value-more, decimal_value-take-le}
 use Rattle.text_lines.proofs.number_reader.digits_value.Goals as goal

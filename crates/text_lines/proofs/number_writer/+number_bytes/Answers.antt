@@ -1,5 +1,4 @@
-use Rattle.std.proofs.Common.{◌≡◌, ◌<◌, ◌≤◌, ◌^◌, ◌+◌, ◌/◌, arith, length, lit≤, sym, ◌∙◌, ap, take, [], ◌∷◌, ◌++◌}
-use Rattle.std.proofs.lemmas.List.{take_more_set}
+use Rattle.std.proofs.Common.{◌≡◌, ◌≤◌, ◌^◌, ◌+◌, ◌/◌, arith, length, lit≤, sym, ◌∙◌, ap, take, []}
 use Rattle.cost_base.specs.Decimal.{decimal}
 use Rattle.text_lines.proofs.Digits.{decimal-step, decimal-small, length-decimal-le, length-decimal-step, digit_put}
 use Rattle.text_lines.proofs.number_writer.+number_bytes.Goals as goal
