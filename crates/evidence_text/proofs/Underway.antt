@@ -1,8 +1,13 @@
 -- Lines put one after another.
-use Rattle.std.proofs.Common.{◌≡◌, ℕ, ◌+◌, ◌<◌, ◌≤◌, List, [], ◌∷◌, ◌++◌, length, get_or, refl, sym, ap, ◌∙◌, subst, append_assoc, append-nil, length-append, arith, Option, Some, None, Result, Ok, Err}
-use Rattle.std.proofs.lemmas.List.{get_or_append_left, get_or-append-add}
+use Rattle.std.proofs.Common.{◌≡◌, ℕ, ◌+◌, ◌<◌, ◌≤◌, List, [], ◌∷◌, ◌++◌, length, map, get_or, drop, refl, sym, ap, ◌∙◌, subst, append_assoc, append-nil, length-append, arith, Option, Some, None, Result, Ok, Err}
+use Rattle.std.proofs.lemmas.List.{get_or_append_left, get_or-append-add, at_drop_more}
+use Rattle.std.proofs.lemmas.Bool.{false≢true}
+use Rattle.std.specs.Result.{IsErr}
 use Rattle.cost_base.specs.Outside.{GotWhole, GotPart, HasCause}
 use Rattle.cost_base.proofs.Puts.{whole_whole, whole_part, part_more}
+use Rattle.path_rows.specs.declared.answer.CostLine.{CostLine}
+use Rattle.path_rows.specs.Text.{router_lines, cost_lines}
+use Rattle.evidence_text.specs.Parts.{interface_lines}
 use Rattle.evidence_text.specs.Lines.{text_of, AreShort, IsPut}
 
 -- of the whole text the sink got all but the lines that are left, which are short
@@ -81,3 +86,22 @@ finish {T} {E} {a} {b} {f0} {f1} {total} {x} u =
 pub last : {T E : Type 0} {a b c : Option (List ℕ)} {f0 f1 f2 : ℕ} {left : List (List ℕ)} {total : List ℕ} (result : Result T E) (lines : List (List ℕ)) → left ≡ lines → IsUnderway a b f0 f1 left total → IsPut b c f1 f2 (text_of lines) result → IsPut a c f0 f2 total result
 last (Ok x) lines e u p = finish (turn lines [] (e ∙ sym (append-nil lines)) u p)
 last (Err x) lines e u p = stop lines [] (e ∙ sym (append-nil lines)) u p
+
+-- at the exit of a `?`: the sink refused one of the next lines
+pub stop_at : {T E F : Type 0} {a b c : Option (List ℕ)} {f0 f1 f2 : ℕ} {left : List (List ℕ)} {total : List ℕ} {x : E} (result : Result T F) → IsErr result → (lines rest : List (List ℕ)) → left ≡ lines ++ rest → IsUnderway a b f0 f1 left total → IsPut {T = T} {E = E} b c f1 f2 (text_of lines) (Err x) → IsPut a c f0 f2 total result
+stop_at (Ok x) h lines rest e u p = absurd (false≢true h)
+stop_at (Err y) h lines rest e u p = stop lines rest e u p
+
+-- a line under its other name
+pub put_as : {T E : Type 0} {a b : Option (List ℕ)} {f0 f1 : ℕ} {written line : List ℕ} {result : Result T E} → written ≡ line → IsPut a b f0 f1 (text_of (written ∷ [])) result → IsPut a b f0 f1 (text_of (line ∷ [])) result
+put_as {T} {E} {a} {b} {f0} {f1} {written} {line} {result} e p = subst (λ (bytes : List ℕ). IsPut a b f0 f1 (text_of (bytes ∷ [])) result) e p
+
+-- the lines of the items that are left, one more item taken
+pub items_turn : {X : Type 0} (f : X → List ℕ) (xs : List X) (i : ℕ) (item : X) → i < length xs → item ≡ get_or xs i item → map f (drop i xs) ≡ f item ∷ map f (drop (i + 1) xs)
+items_turn f xs i item h e = at_drop_more (λ rest. map f rest) xs i item h ∙ ap (λ x. f x ∷ map f (drop (i + 1) xs)) (sym e)
+
+-- the lines of the costs that are left, one more cost taken
+pub costs_turn : (before : Option (List ℕ)) (costs : List CostLine) (i : ℕ) (item : CostLine) → i < length costs → item ≡ get_or costs i item → cost_lines before (drop i costs) ≡ router_lines before item.router ++ (interface_lines item ++ cost_lines (Some item.router) (drop (i + 1) costs))
+costs_turn before costs i item h e =
+    at_drop_more (λ rest. cost_lines before rest) costs i item h
+    ∙ ap (λ (x : CostLine). router_lines before x.router ++ (interface_lines x ++ cost_lines (Some x.router) (drop (i + 1) costs))) (sym e)
