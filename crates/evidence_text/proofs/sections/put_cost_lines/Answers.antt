@@ -36,7 +36,14 @@ put_interface-requires g c =
     next_short (interface_lines item) others refl (turn (router_lines before item.router) (interface_lines item ++ others) step c.loop-cost.invariant c.in_ok-put_router.ensures)
 
 pub returns-in_err-put_interface : goal.returns-in_err-put_interface
-returns-in_err-put_interface g c = ?
+returns-in_err-put_interface g c =
+    let item = c.cost-item.result in
+    let i = c.loop-cost.cost-index in
+    let costs = c.args.costs.now in
+    let before = option_copied c.loop-cost.before in
+    let others = cost_lines (Some item.router) (drop (i + 1) costs) in
+    let step = costs_turn before costs i item c.loop-cost-test.true c.cost-item.is in
+    stop_at c.from_residual-in_err-put_interface.result c.from_residual-in_err-put_interface.ensures.0 (interface_lines item) others refl (turn (router_lines before item.router) (interface_lines item ++ others) step c.loop-cost.invariant c.in_ok-put_router.ensures) c.in_err-put_interface.ensures
 
 pub loop-cost-preserved : goal.loop-cost-preserved
 loop-cost-preserved g c =

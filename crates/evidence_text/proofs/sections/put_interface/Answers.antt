@@ -17,7 +17,10 @@ pub write_cost-requires : goal.write_cost-requires
 write_cost-requires g c = c.requires 1 [] (omega arith)
 
 pub returns-in_err-put-2 : goal.returns-in_err-put-2
-returns-in_err-put-2 g c = ?
+returns-in_err-put-2 g c =
+    let cost = c.args.cost.now in
+    let first = turn (c.write_interface.new.line ∷ []) (cost_line cost.cost ∷ codes "exit" ∷ []) (ap (λ (l : List ℕ). l ∷ cost_line cost.cost ∷ codes "exit" ∷ []) (sym c.write_interface.ensures)) (begin (g.K.Sink.got c.args.out.now) (g.K.Sink.faults c.args.out.now) (interface_lines cost) c.requires) c.in_ok-put.ensures in
+    stop_at c.from_residual-in_err-put-2.result c.from_residual-in_err-put-2.ensures.0 (c.write_cost.new.line ∷ []) (codes "exit" ∷ []) (ap (λ (l : List ℕ). l ∷ codes "exit" ∷ []) (sym c.write_cost.ensures)) first c.in_err-put-2.ensures
 
 pub returns : goal.returns
 returns g c =
