@@ -31,7 +31,12 @@ pub fn put_answer<K: Sink>(answer: &Answer, out: &mut K) -> Result<(), PutFailed
     put_floor(answer.floor, &mut line, out)?;
     put_rows_part(answer.rows.as_slice(), &mut line, out)?;
     put_tree_part(TreePart::Proof, answer.proof.as_ref(), &mut line, out)?;
-    put_tree_part(TreePart::Unfinished, answer.unfinished.as_ref(), &mut line, out)?;
+    put_tree_part(
+        TreePart::Unfinished,
+        answer.unfinished.as_ref(),
+        &mut line,
+        out,
+    )?;
     put_end(&mut line, out)
 }
 
@@ -84,11 +89,7 @@ pub fn put_tree<K: Sink>(
     put_tree_part(part, tree, &mut line, out)
 }
 
-fn put_head<K: Sink>(
-    verdict: Verdict,
-    line: &mut LineBuffer,
-    out: &mut K,
-) -> Result<(), PutFailed>
+fn put_head<K: Sink>(verdict: Verdict, line: &mut LineBuffer, out: &mut K) -> Result<(), PutFailed>
     requires { AreShort (head_lines verdict) }
     ensures { IsPut (K.got out.old) (K.got out.new) (K.faults out.old) (K.faults out.new) (text_of (head_lines verdict)) result }
 {
@@ -189,11 +190,7 @@ fn put_floor<K: Sink>(floor: Floor, line: &mut LineBuffer, out: &mut K) -> Resul
     line.put(out)
 }
 
-fn put_rows_part<K: Sink>(
-    rows: &[Row],
-    line: &mut LineBuffer,
-    out: &mut K,
-) -> Result<(), PutFailed>
+fn put_rows_part<K: Sink>(rows: &[Row], line: &mut LineBuffer, out: &mut K) -> Result<(), PutFailed>
     requires { AreShort (rows_lines rows.now) }
     ensures { IsPut (K.got out.old) (K.got out.new) (K.faults out.old) (K.faults out.new) (text_of (rows_lines rows.now)) result }
 {
@@ -202,11 +199,7 @@ fn put_rows_part<K: Sink>(
     put_each_row(rows, line, out)
 }
 
-fn put_each_row<K: Sink>(
-    rows: &[Row],
-    line: &mut LineBuffer,
-    out: &mut K,
-) -> Result<(), PutFailed>
+fn put_each_row<K: Sink>(rows: &[Row], line: &mut LineBuffer, out: &mut K) -> Result<(), PutFailed>
     requires { AreShort (map row_line rows.now) }
     ensures { IsPut (K.got out.old) (K.got out.new) (K.faults out.old) (K.faults out.new) (text_of (map row_line rows.now)) result }
 {

@@ -17,9 +17,9 @@ push_members-requires c =
     let wide = c.args.wide.now in
     let first = pushed c.start.new.self c.push_number.new.self c.push_number-2.new.self c.push_word.new.self c.push_ratio.new.line c.push_ratio-2.new.line (decimal c.args.var) (decimal c.args.value) (step_word wide.step) (ratio_word wide.left) (ratio_word wide.right) 0 0 (codes "halve") c.start.ensures (c.push_number.ensures ∙ ap (λ (n : ℕ). c.start.new.self ++ 32 ∷ decimal n) c.from.ensures) (c.push_number-2.ensures ∙ ap (λ (n : ℕ). c.push_number.new.self ++ 32 ∷ decimal n) c.from-2.ensures) (c.push_word.ensures ∙ ap (λ (w : List ℕ). c.push_number-2.new.self ++ 32 ∷ w) c.step_word.ensures) c.push_ratio.ensures c.push_ratio-2.ensures in
     let same =
-        spaced-with (codes "halve") (decimal c.args.var ∷ decimal c.args.value ∷ step_word wide.step ∷ ratio_word wide.left ∷ ratio_word wide.right ∷ members_words wide.basis)
-        ∙ ap (λ (l : List ℕ). with_words l (members_words wide.basis)) (sym first)
-        ∙ ap (λ (members : List Member). with_words c.push_ratio-2.new.line (members_words members)) (sym c.as_slice.ensures)
+    spaced-with (codes "halve") (decimal c.args.var ∷ decimal c.args.value ∷ step_word wide.step ∷ ratio_word wide.left ∷ ratio_word wide.right ∷ members_words wide.basis)
+    ∙ ap (λ (l : List ℕ). with_words l (members_words wide.basis)) (sym first)
+    ∙ ap (λ (members : List Member). with_words c.push_ratio-2.new.line (members_words members)) (sym c.as_slice.ensures)
     in subst (λ (l : List ℕ). length l ≤ 65536) same c.requires
 
 pub returns : goal.returns

@@ -14,9 +14,9 @@ push_numbers-requires c =
     let row = c.args.row.now in
     let first = begun c.start.new.self c.start.new.self c.push_number.new.self c.from.result row.request c.start.ensures c.from.ensures c.push_number.ensures in
     let same : row_line row ≡ with_words c.push_number.new.self (map decimal c.as_slice.result.now) =
-        spaced-with (codes "row") (decimal row.request ∷ map decimal row.rival.edges)
-        ∙ ap (λ (l : List ℕ). with_words l (map decimal row.rival.edges)) (sym first)
-        ∙ ap (λ (edges : List ℕ). with_words c.push_number.new.self (map decimal edges)) (sym c.as_slice.ensures)
+    spaced-with (codes "row") (decimal row.request ∷ map decimal row.rival.edges)
+    ∙ ap (λ (l : List ℕ). with_words l (map decimal row.rival.edges)) (sym first)
+    ∙ ap (λ (edges : List ℕ). with_words c.push_number.new.self (map decimal edges)) (sym c.as_slice.ensures)
     in subst (λ (l : List ℕ). length l ≤ 65536) same c.requires
 
 pub returns : goal.returns
