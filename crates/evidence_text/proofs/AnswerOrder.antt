@@ -1,7 +1,7 @@
 -- The parts of an answer's text, in their order.
-use Rattle.std.proofs.Common.{◌≡◌, ℕ, List, [], ◌∷◌, ◌++◌, map, codes, append_assoc, ◌∙◌}
+use Rattle.std.proofs.Common.{◌≡◌, ℕ, List, ◌∷◌, ◌++◌, codes, append_assoc, ◌∙◌}
 use Rattle.path_rows.specs.Answers.{AnswerParts}
-use Rattle.path_rows.specs.Text.{costs_lines, row_line, tree_lines, answer_lines}
+use Rattle.path_rows.specs.Text.{costs_lines, tree_lines, answer_lines}
 use Rattle.evidence_text.specs.Parts.{head_lines, floor_line, rows_lines, end_lines}
 
 -- what follows the proof

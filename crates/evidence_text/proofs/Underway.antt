@@ -3,7 +3,7 @@ use Rattle.std.proofs.Common.{◌≡◌, ℕ, ◌+◌, ◌<◌, ◌≤◌, List,
 use Rattle.std.proofs.lemmas.List.{get_or_append_left, get_or-append-add, at_drop_more}
 use Rattle.std.proofs.lemmas.Bool.{false≢true}
 use Rattle.std.specs.Result.{IsErr}
-use Rattle.cost_base.specs.Outside.{GotWhole, GotPart, HasCause}
+use Rattle.cost_base.specs.Outside.{GotWhole, GotPart}
 use Rattle.cost_base.proofs.Puts.{whole_whole, whole_part, part_more}
 use Rattle.path_rows.specs.declared.answer.CostLine.{CostLine}
 use Rattle.path_rows.specs.Text.{router_lines, cost_lines}

@@ -1,6 +1,5 @@
-use Rattle.std.proofs.Common.{◌≡◌, map, drop}
-use Rattle.cost_base.specs.Decimal.{decimal}
-use Rattle.path_rows.specs.Text.{members_words, part_words}
+use Rattle.std.proofs.Common.{◌≡◌, drop}
+use Rattle.path_rows.specs.Text.{members_words}
 use Rattle.evidence_text.specs.Lines.{with_words}
 use Rattle.evidence_text.proofs.lines.push_members.Given as goal
 

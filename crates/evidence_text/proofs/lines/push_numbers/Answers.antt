@@ -1,4 +1,4 @@
-use Rattle.std.proofs.Common.{◌≡◌, ◌+◌, List, ◌∷◌, ◌++◌, map, drop, get_or, sym, ap, ◌∙◌, subst, ℕ, ◌≤◌, length}
+use Rattle.std.proofs.Common.{◌+◌, ◌∷◌, ◌++◌, map, drop, get_or, sym, ◌∙◌, subst, ℕ, ◌≤◌, length}
 use Rattle.cost_base.specs.Decimal.{decimal}
 use Rattle.evidence_text.proofs.WordLaws.{numbers_turn, room_left}
 use Rattle.evidence_text.proofs.lines.push_numbers.Goals as goal

@@ -1,8 +1,8 @@
-use Rattle.std.proofs.Common.{◌≡◌, ◌+◌, ◌∷◌, ◌++◌, ◌<◌, ℕ, List, [], map, drop, codes, length, sym, refl, subst, ap, ◌∙◌, arith, Some, None}
+use Rattle.std.proofs.Common.{◌+◌, ◌++◌, drop, refl, Some}
 use Rattle.std.specs.Option.{option_copied}
-use Rattle.path_rows.specs.Text.{row_line, entry_line, cost_lines, router_lines}
-use Rattle.evidence_text.specs.Parts.{head_lines, verdict_line, interface_lines, interface_line, cost_line, costs_line, rows_line, rows_lines, tree_line, no_tree_line, part_word, end_lines}
-use Rattle.evidence_text.proofs.Underway.{IsUnderway, begin, turn, stop_at, last, put_as, next_short, items_turn, costs_turn}
+use Rattle.path_rows.specs.Text.{cost_lines, router_lines}
+use Rattle.evidence_text.specs.Parts.{interface_lines}
+use Rattle.evidence_text.proofs.Underway.{turn, stop_at, next_short, costs_turn}
 use Rattle.evidence_text.proofs.sections.put_cost_lines.Goals as goal
 
 pub put_router-requires : goal.put_router-requires

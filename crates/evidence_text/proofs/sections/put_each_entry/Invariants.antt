@@ -1,6 +1,5 @@
 use Rattle.std.proofs.Common.{map, drop}
-use Rattle.std.specs.Option.{option_copied}
-use Rattle.path_rows.specs.Text.{row_line, entry_line, cost_lines}
+use Rattle.path_rows.specs.Text.{entry_line}
 use Rattle.evidence_text.specs.Lines.{text_of}
 use Rattle.evidence_text.proofs.Underway.{IsUnderway}
 use Rattle.evidence_text.proofs.sections.put_each_entry.Given as goal
