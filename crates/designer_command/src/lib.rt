@@ -7,7 +7,7 @@ mod floor;
 mod lines;
 mod problem;
 mod reading;
-//mod run;
+mod run;
 mod stop;
 mod thin;
 mod thin_config;
@@ -15,4 +15,4 @@ mod thin_request;
 mod thin_resolve;
 mod words;
 
-//pub use run::run;
+pub use run::run;
