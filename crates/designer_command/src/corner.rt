@@ -1,5 +1,5 @@
 //! Whether the lower bounds themselves are fit costs.
-ghost use Rattle.std.specs.Prelude.{◌≡◌, ◌↔◌, IsTrue, IfOk};
+ghost use Rattle.std.specs.Prelude.{◌≡◌, ◌↔◌, ◌<◌, ◌≤◌, ℕ, length, slice_index, IsTrue, IfOk};
 ghost use Rattle.area_graph.specs.Costs.{at_costs};
 ghost use Rattle.path_rows.specs.Rows.{IsFit};
 
@@ -10,14 +10,13 @@ use std::alloc::Global;
 
 /// The point at which each variable has its lower bound.
 fn low_point(alloc: Global, problem: &Problem) -> Result<Point, OutOfMemory>
-    ensures { IfOk result (λ p. p ≡ at_costs problem.now.low) }
+    ensures point { IfOk result (λ p. p ≡ at_costs problem.now.low) }
+    ensures most { (k : ℕ) → k < length problem.now.low → slice_index problem.now.low k ≤ 65535 }
 {
+    let bounds = problem.low.as_slice();
     let mut values = Vec::new(alloc);
-    for low in problem.low.as_slice() {
-        match values.push(u128::from(*low)) {
-            Ok(()) => {}
-            Err(_) => return Err(OutOfMemory),
-        }
+    for low in bounds {
+        values.push(u128::from(*low))?;
     }
     Ok(Point {
         scale: 1,
