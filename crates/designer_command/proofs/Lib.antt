@@ -10,5 +10,7 @@ pub mod LineRuns
 pub mod ReadBackLaws
 pub mod ThinRequestLaws
 pub mod DesignedLaws
+pub mod RequestReading
+pub mod RouteReading
 mod Examples
 pub mod Runs
