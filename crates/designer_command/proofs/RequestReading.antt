@@ -1,15 +1,14 @@
 -- The lines of a request, one after another.
-use Rattle.std.proofs.Common.{◌≡◌, ℕ, zero, suc, ◌+◌, ◌≤◌, ◌<◌, refl, sym, ◌∙◌, ap, subst, List, [], ◌∷◌, ◌++◌, length, map, Bool, true, false, cond, leb, ◌&&◌, Option, Some, None, arith, append_assoc, append-nil, length-append, ◌⊎◌, inl, inr}
-use Rattle.std.specs.Prelude.{nat_le, All, count_by}
+use Rattle.std.proofs.Common.{◌≡◌, ℕ, ◌+◌, ◌≤◌, ◌<◌, refl, sym, ◌∙◌, ap, subst, List, [], ◌∷◌, ◌++◌, length, map, Bool, true, false, cond, ◌&&◌, Option, Some, None, arith, append_assoc, length-append, ◌⊎◌, inl, inr}
+use Rattle.std.specs.Prelude.{nat_le, All}
 use Rattle.std.specs.List.{list_all}
 use Rattle.std.proofs.lemmas.Bool.{leb-true, leb-false, le-leb, lt-leb, cases_Bool, and_left, and_right, cond-true, cond-false}
 use Rattle.std.proofs.lemmas.List.{length-map}
 use Rattle.std.proofs.lemmas.List.Elements.{All-cons, All-weaker}
 use Rattle.text_lines.specs.Lines.{lines, words}
 use Rattle.text_lines.specs.TextLeft.{TextLeft}
-use Rattle.text_lines.specs.Reading.{IsLineRead, IsLongLine}
+use Rattle.text_lines.specs.Reading.{IsLineRead}
 use Rattle.text_lines.specs.declared.line_reader.Line.{Line}
-use Rattle.text_lines.specs.declared.line_reader.LongLine.{LongLine}
 use Rattle.path_requests.specs.declared.Wish.{Wish}
 use Rattle.path_requests.specs.declared.Wish.TheVariants.{FreeAll, Path}
 use Rattle.path_requests.specs.declared.Item.{Item}
@@ -19,7 +18,7 @@ use Rattle.designer_command.specs.declared.thin_request.Bounds.{Bounds}
 use Rattle.designer_command.specs.declared.thin_request.Head.{Head}
 use Rattle.designer_command.specs.ThinRequests.{is_header, area_said, free_said, path_said, with_item, paths_from, asked_of, asked_by_lines, thin_request, IsThin}
 use Rattle.designer_command.specs.RequestReads.{is_short, begins_short, asked_in, items_in, wish_of, path_within, AddsPath, GoesOverHead}
-use Rattle.designer_command.proofs.ThinRequestLaws.{when_some, IsThinRequest, thin_request_is}
+use Rattle.designer_command.proofs.ThinRequestLaws.{when_some, thin_request_is}
 
 -- nothing either way
 none_both : {A : Type 0} (b : Bool) (o : Option A) → o ≡ None → cond b o None ≡ None

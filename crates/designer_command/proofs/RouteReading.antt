@@ -1,5 +1,5 @@
 -- The words of a route, one after another.
-use Rattle.std.specs.Prelude.{◌==◌, ◌||◌}
+use Rattle.std.specs.Prelude.{◌==◌}
 use Rattle.std.proofs.Common.{◌≡◌, ◌≢◌, ℕ, refl, sym, ◌∙◌, ap, List, [], ◌∷◌, ◌++◌, length, Bool, true, false, cond, eqb, Option, Some, None, append_assoc, append-nil, eq-eqb, arith}
 use Rattle.std.proofs.lemmas.Bool.{eqb-true}
 use Rattle.text_lines.specs.Lines.{words, grow}

@@ -1,12 +1,11 @@
 -- What reading a request line by line says of it.
-use Rattle.std.specs.Prelude.{◌≡◌, ℕ, ◌+◌, ◌<◌, ◌≤◌, List, [], ◌∷◌, ◌++◌, ◌==◌, ◌&&◌, nat_le, if◌then◌else◌, Bool, true, false, Option, Some, None, codes, length, map}
+use Rattle.std.specs.Prelude.{◌≡◌, ℕ, ◌+◌, List, [], ◌∷◌, ◌++◌, ◌&&◌, nat_le, if◌then◌else◌, Bool, true, false, Option, Some, None, codes, length, map}
 use Rattle.std.specs.List.{list_all}
 use Rattle.text_lines.specs.Lines.{lines, words}
 use Rattle.text_lines.specs.TextLeft.{TextLeft}
 use Rattle.path_requests.specs.declared.Wish.{Wish}
 use Rattle.path_requests.specs.declared.Wish.TheVariants.{FreeAll}
 use Rattle.path_requests.specs.declared.Item.{Item}
-use Rattle.path_requests.specs.Wishes.{Route}
 use Rattle.path_requests.specs.Meaning.{Asked}
 use Rattle.designer_command.specs.declared.thin_request.Head.{Head}
 use Rattle.designer_command.specs.declared.thin_request.Bounds.{Bounds}

@@ -114,12 +114,7 @@ fn add(items: &mut Vec<Item>, line: u32, what: Wish) -> Result<(), OutOfMemory>
 }
 
 /// Adds the path of a line, where that is of the form and there aren't too many.
-fn add_path(
-    alloc: Global,
-    items: &mut Vec<Item>,
-    line: u32,
-    text: &[u8],
-) -> Result<(), ThinStop>
+fn add_path(alloc: Global, items: &mut Vec<Item>, line: u32, text: &[u8]) -> Result<(), ThinStop>
     ensures read { OnOk result (AddsPath items.old.items items.new.items line (words text.now)) }
     ensures off_form { IsErrOf result ThinStop.OffForm → path_within (length items.old.items) (words text.now) ≡ None }
 {
@@ -286,4 +281,61 @@ fn read_hop(alloc: Global, word: &[u8]) -> Result<(Name, Name), ThinStop>
     let router = Name::from_bytes(alloc, router)?;
     let interface = Name::from_bytes(alloc, interface)?;
     Ok((router, interface))
+}
+
+#[cfg(test)]
+mod tests {
+    use super::*;
+    use std::test::Fail;
+
+    const PAIR: &[u8] = b"ospfcost request 1\narea 0\nfree all 1 65535\npath A:eth0 B\n";
+
+    fn hops_of(item: &Item) -> Option<&Hops> {
+        match &item.what {
+            Wish::Path(hops, _) => Some(hops),
+            _ => None,
+        }
+    }
+
+    fn is_off_form(rt: &HostRuntime, bytes: &[u8]) -> bool
+        requires { length bytes.now < 2 ^ 32 - 1 }
+    {
+        match read_thin_request(rt.alloc(), bytes) {
+            Err(ThinStop::OffForm) => true,
+            _ => false,
+        }
+    }
+
+    #[test]
+    fn pair(rt: HostRuntime) -> Result<(), Fail> {
+        let requests = read_thin_request(rt.alloc(), PAIR)?;
+        assert_eq!(rt; requests.area, 0);
+        assert_eq!(rt; requests.default_cost, None);
+        let items = requests.items.as_slice();
+        assert_eq!(rt; items.len(), 2);
+        assert_eq!(rt; items[0].line, 3);
+        assert!(rt; matches!(&items[0].what, Wish::FreeAll(1, 65535)));
+        assert_eq!(rt; items[1].line, 4);
+        let route = hops_of(&items[1]).ok_or("no path")?;
+        let hops = route.as_slice();
+        assert_eq!(rt; hops.len(), 1);
+        assert!(rt; hops[0].0.as_bytes() == b"A".as_slice());
+        assert!(rt; hops[0].1.as_bytes() == b"eth0".as_slice());
+        assert!(rt; route.last().as_bytes() == b"B".as_slice());
+        Ok(())
+    }
+
+    #[test]
+    fn requests_off_the_form(rt: HostRuntime) {
+        assert!(rt; is_off_form(&rt, b"ospfcost request 2\narea 0\nfree all 1 9\n"));
+        assert!(rt; is_off_form(&rt, b"ospfcost request 1\narea 0\nfree all 0 5\n"));
+        assert!(rt;
+            is_off_form(
+                &rt,
+                b"ospfcost request 1\narea 0\nfree all 1 9\npath A:eth0 B without C\n"
+            )
+        );
+        assert!(rt; is_off_form(&rt, b"# costs\nospfcost request 1\narea 0\nfree all 1 9\n"));
+        assert!(rt; !is_off_form(&rt, b"ospfcost request 1\narea 0\nfree all 1 9\n"));
+    }
 }
