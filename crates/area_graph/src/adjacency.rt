@@ -101,11 +101,11 @@ fn hold_metrics(edges: &[Edge])
     ensures { All (λ edge. IsMetric edge.price) edges.now }
 {
     for edge in edges {
-        is_metric(edge.price);
+        hold_metric(edge.price);
     }
 }
 
-fn is_metric(price: Price)
+fn hold_metric(price: Price)
     ensures { IsMetric price }
 {
     match price {

@@ -90,11 +90,11 @@ fn is_simple_at(alloc: Global, graph: &Graph, edges: &[u32], end: u32) -> Result
 
 fn cost_at(
     rt: &impl Abort,
+    alloc: Global,
     graph: &Graph,
     edges: &[u32],
     end: u32,
     point: &Point,
-    alloc: Global,
 ) -> Result<u128, Fail>
     requires { FitsPoint graph.now point.now }
 {
@@ -164,9 +164,9 @@ fn triangle_costs_at_scales(rt: HostRuntime) -> Result<(), Fail> {
     let alloc = rt.alloc();
     let graph = graph_of(&rt, alloc, 3, &TRIANGLE, true)?;
     let whole = point_of(&rt, alloc, &graph, 1, &[1, 1, 5, 1, 1, 1])?;
-    assert_eq!(rt; cost_at(&rt, &graph, &[0, 2], 2, &whole, alloc)?, 8);
+    assert_eq!(rt; cost_at(&rt, alloc, &graph, &[0, 2], 2, &whole)?, 8);
     let halves = point_of(&rt, alloc, &graph, 2, &[2, 2, 7, 2, 2, 2])?;
-    assert_eq!(rt; cost_at(&rt, &graph, &[0, 2], 2, &halves, alloc)?, 13);
+    assert_eq!(rt; cost_at(&rt, alloc, &graph, &[0, 2], 2, &halves)?, 13);
     Ok(())
 }
 

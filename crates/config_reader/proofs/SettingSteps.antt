@@ -10,7 +10,7 @@ use Rattle.text_lines.specs.Numbers.{Prefix}
 use Rattle.interface_model.specs.declared.Interface.{Interface}
 use Rattle.interface_model.specs.declared.Kind.{Kind}
 use Rattle.interface_model.specs.declared.Kind.TheVariants.{Broadcast}
-use Rattle.config_reader.specs.Statements.{Statement, AddressIs, AreaIs, CostIs, KindIs, Network, Block, OfInterface, OfRouter, OfOther}
+use Rattle.config_reader.specs.Statements.{Statement, CostIs, Network}
 use Rattle.config_reader.specs.Settings.{Said, about, about_router, is_of, is_of_router, setting, interface_of, address_of, networks, area_by_networks, address_said, area_said, cost_said, kind_said, passive_said, down_said, priority_said, network_said, passive_name_said, matches, or_if_none, address_part, length_part}
 use Rattle.config_reader.proofs.Places.{last_of-push, first_of-push}
 
@@ -64,7 +64,7 @@ area_from own None networks = or_if_none own None
 area_from own (Some address) networks = or_if_none own (first_of (map (λ n. n.area) (filter (matches address) networks)))
 
 -- an interface by its settings and by what the router blocks say
-pub interface_by : List ℕ → ℕ → Option Prefix → Option ℕ → Option ℕ → Option Kind → Option Bool → Option Bool → Option ℕ → List Statement → Interface
+unfoldable pub interface_by : List ℕ → ℕ → Option Prefix → Option ℕ → Option ℕ → Option Kind → Option Bool → Option Bool → Option ℕ → List Statement → Interface
 interface_by name line address area cost kind passive down priority router = record {
   name = name;
   line = line;
@@ -79,7 +79,7 @@ interface_by name line address area cost kind passive down priority router = rec
 }
 
 -- an interface by what its blocks and the router blocks say
-pub interface_from : List Statement → List Statement → List ℕ → ℕ → Interface
+unfoldable pub interface_from : List Statement → List Statement → List ℕ → ℕ → Interface
 interface_from own router name line =
     interface_by name line (first_of (filter_map address_said own)) (setting area_said own) (setting cost_said own) (setting kind_said own)
     (setting passive_said own) (setting down_said own) (setting priority_said own) router
@@ -101,7 +101,8 @@ unfolding interface_from
 interface_from-push own router name line s =
     cc (first_said-push address_said own s, setting-push area_said own s, setting-push cost_said own s, setting-push kind_said own s, setting-push passive_said own s, setting-push down_said own s, setting-push priority_said own s)
 
-option_or-none : {X : Type 0} (o : Option X) → option_or o None ≡ o
+-- nothing said changes nothing
+pub option_or-none : {X : Type 0} (o : Option X) → option_or o None ≡ o
 option_or-none None = refl
 option_or-none (Some x) = refl
 
@@ -115,6 +116,7 @@ interface_from-cost own router name line n = interface_from-push own router name
     by_address address =
         interface_by name line address (setting area_said own) (Some n) (setting kind_said own)
         (setting passive_said own) (setting down_said own) (setting priority_said own) router
+
     set : by_address (first_of (filter_map address_said own)) ≡ record (interface_from own router name line) { cost = Some n }
     set = refl
 

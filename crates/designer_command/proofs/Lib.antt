@@ -14,3 +14,7 @@ pub mod RequestReading
 pub mod RouteReading
 mod Examples
 pub mod Runs
+pub mod ThinSteps
+pub mod ThinForm
+pub mod ThinReading
+pub mod ThinPlaces

@@ -1,5 +1,6 @@
 pub mod Jobs
 pub mod ThinConfigs
+pub mod ThinReads
 pub mod ThinRequests
 pub mod Outcomes
 pub mod Texts

@@ -7,12 +7,13 @@ mod floor;
 mod lines;
 mod problem;
 mod reading;
-mod run;
+
 mod stop;
 mod thin;
 mod thin_config;
 mod thin_request;
 mod thin_resolve;
+mod top_call;
 mod words;
 
-pub use run::run;
+pub use top_call::run;

@@ -1,25 +1,23 @@
 -- The database of faultless configurations is one: links have mates, and a subnet's members are the links that lead to it.
-use Rattle.std.proofs.Common.{◌≡◌, ◌≢◌, ℕ, zero, suc, ◌+◌, ◌<◌, ◌≤◌, ◌==◌, ◌++◌, ◌⊎◌, inl, inr, Bool, true, false, cond, ◌||◌, ◌&&◌, not, eqb, eq-eqb, ltb, List, [], ◌∷◌, Option, Some, None, length, get_or, map, count_by, refl, sym, ap, ◌∙◌, subst, arith, zero-add, slice_get, slice_index_or, All, AllPairs, unwrap_or}
-use Rattle.std.specs.List.{list_any, filter}
-use Rattle.std.proofs.lemmas.Bool.{false≢true, and_parts, and_from, and_left, and_right, cases_Bool, eqb-true, ne_eqb, not_from_true, false_from_ne_true, ltb-false, cases_order}
-use Rattle.std.proofs.lemmas.Option.{none-some, same_Some, slice_get_within, get_or_from_slice_get, slice_get-get_or}
-use Rattle.std.proofs.lemmas.List.{length-map, get_or-map}
-use Rattle.std.proofs.lemmas.List.Elements.{All-nil, All-cons, All-head, All-tail, All-weaker, All-filter, All-map, filter_passes}
+use Rattle.std.proofs.Common.{◌≡◌, ◌≢◌, ℕ, zero, suc, ◌+◌, ◌<◌, ◌≤◌, ◌==◌, ◌⊎◌, inl, inr, Bool, true, false, cond, not, eq-eqb, List, [], ◌∷◌, Some, None, length, map, count_by, refl, sym, ap, ◌∙◌, subst, arith, zero-add, slice_get, slice_index_or, All, AllPairs, unwrap_or}
+use Rattle.std.specs.List.{filter}
+use Rattle.std.proofs.lemmas.Bool.{false≢true, and_parts, and_from, and_right, cases_Bool, eqb-true, ne_eqb, false_from_ne_true, cases_order}
+use Rattle.std.proofs.lemmas.Option.{none-some, same_Some, slice_get_within, slice_get-get_or}
+use Rattle.std.proofs.lemmas.List.{length-map}
+use Rattle.std.proofs.lemmas.List.Elements.{All-weaker, All-filter, All-map, filter_passes}
 use Rattle.std.proofs.lemmas.List.Kept.{AllPairs-cons, AllPairs-filter}
 use Rattle.std.proofs.lemmas.List.Sums.{length-filter, count_by-le-length}
 use Rattle.cost_base.specs.Lists.{numbers_from}
 use Rattle.cost_base.specs.Words.{IsWord}
 use Rattle.interface_model.specs.declared.Kind.{Kind}
 use Rattle.interface_model.specs.declared.Kind.TheVariants.{PointToPoint, Broadcast}
-use Rattle.interface_model.specs.Records.{Router, IsInterface, IsRouter}
-use Rattle.lsdb_build.specs.declared.Far.{Far}
-use Rattle.lsdb_build.specs.declared.Far.TheVariants.{Router as ToRouter, Subnet as ToSubnet}
-use Rattle.lsdb_build.specs.declared.Linked.{Linked}
-use Rattle.lsdb_build.specs.Neighbours.{Port, ports, shares_subnet, is_linked, is_linked_kind, linked, is_broadcast, is_broadcast_kind, first_members, transit_subnets, place_from, is_port, is_other}
-use Rattle.lsdb_build.specs.Graphs.{Database, IsDatabase, IsLink, IsFar, HasMate, IsMateOf, link_leads_to, leads_to, members_of}
+use Rattle.interface_model.specs.Records.{Router, IsRouter}
+use Rattle.lsdb_build.specs.declared.Far.TheVariants.{Router as ToRouter}
+use Rattle.lsdb_build.specs.Neighbours.{Port, ports, shares_subnet, is_linked, is_linked_kind, linked, is_broadcast, is_broadcast_kind, transit_subnets, place_from, is_port, is_other}
+use Rattle.lsdb_build.specs.Graphs.{IsDatabase, IsLink, IsFar, HasMate, IsMateOf, link_leads_to, leads_to, members_of}
 use Rattle.lsdb_build.specs.Topology.{is_second_of_router, is_second_of_address, is_mismatch, is_crowding, is_overlap, lacks_designated, first_where, at_port, at_config, past, second_of_name, topology_fault, router_at, far_of, mate_of, link_of, places_from, database_of}
-use Rattle.lsdb_build.proofs.Pairs.{all_at, all_from_at, pair_at, pairs_nil, pairs_head, pairs_tail, pairs_weaker, map_at, at_map, count_agree, count_filter, OtherPlace, other_place}
-use Rattle.lsdb_build.proofs.Subnets.{shares_itself, shares_back, shares_on, shares_alike, none_passes, differs_in_kind, kinds_at, place_only, firsts_all, firsts_length, AreFirst, firsts_are_first, FirstOf, first_found}
+use Rattle.lsdb_build.proofs.Pairs.{all_at, all_from_at, pair_at, pairs_nil, pairs_head, pairs_tail, pairs_weaker, map_at, at_map, count_agree, count_filter, other_place}
+use Rattle.lsdb_build.proofs.Subnets.{shares_itself, shares_back, shares_on, shares_alike, none_passes, differs_in_kind, kinds_at, place_only, firsts_all, firsts_length, firsts_are_first, FirstOf, first_found}
 use Rattle.lsdb_build.proofs.Found.{IsPortFrom, InOrder, ports_from_all, ports_from_pairs, no_first, no_port, no_config, within, none_past, names_differ}
 
 -- what the ports of a topology without a fault keep

@@ -1,5 +1,5 @@
 -- The first place that a check meets, one step of a loop on.
-use Rattle.std.proofs.Common.{◌≡◌, ℕ, ◌+◌, ◌<◌, ◌++◌, Bool, true, false, cond, ◌&&◌, not, List, [], ◌∷◌, Option, Some, None, length, get_or, take, drop, reverse, count_by, refl, sym, ap, ◌∙◌, subst, arith, zero-add, add-zero, map}
+use Rattle.std.proofs.Common.{◌≡◌, ℕ, ◌+◌, ◌<◌, Bool, cond, ◌&&◌, not, List, [], ◌∷◌, Some, length, get_or, take, drop, reverse, count_by, refl, sym, ap, ◌∙◌, map}
 use Rattle.std.specs.List.{list_any}
 use Rattle.std.proofs.lemmas.List.{at_drop_more, take_more, reverse-append, map-append}
 use Rattle.std.proofs.lemmas.List.Sorted.{list_any-IsPermutation, sum_by-IsPermutation, IsPermutation-reverse}

@@ -4,9 +4,9 @@ use Rattle.std.proofs.lemmas.Option.{none-some}
 use Rattle.interface_model.specs.Records.{Router, IsRouter}
 use Rattle.lsdb_build.specs.declared.TopologyStop.{TopologyStop}
 use Rattle.lsdb_build.specs.declared.TopologyStop.TheVariants.{Refused, OutOfMemory}
-use Rattle.lsdb_build.specs.Neighbours.{Port, ports, linked, first_members, transit_subnets, shares_subnet}
+use Rattle.lsdb_build.specs.Neighbours.{Port, ports, linked, transit_subnets, shares_subnet}
 use Rattle.lsdb_build.specs.Graphs.{IsDatabase}
-use Rattle.lsdb_build.specs.Topology.{TopologyFault, is_second_of_router, is_second_of_address, is_mismatch, is_crowding, is_overlap, lacks_designated, first_where, at_port, at_config, past, second_of_name, first_some, topology_fault, places_from, link_of, database_of, Tells}
+use Rattle.lsdb_build.specs.Topology.{TopologyFault, is_second_of_router, is_second_of_address, is_mismatch, is_crowding, is_overlap, lacks_designated, first_where, at_port, at_config, past, second_of_name, first_some, topology_fault, places_from, Tells}
 use Rattle.lsdb_build.specs.Checks.{link_among}
 use Rattle.lsdb_build.proofs.Databases.{database_is, linked_length, transit_length}
 

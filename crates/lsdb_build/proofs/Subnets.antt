@@ -1,16 +1,16 @@
 -- Ports on one subnet, and the first members of transit subnets.
-use Rattle.std.proofs.Common.{◌≡◌, ◌≢◌, ℕ, zero, suc, ◌+◌, ◌<◌, ◌≤◌, ◌++◌, ◌⊎◌, inl, inr, Bool, true, false, cond, ◌||◌, ◌&&◌, not, eqb, eq-eqb, List, [], ◌∷◌, Option, Some, None, length, get_or, count_by, refl, sym, ap, ◌∙◌, subst, arith, slice_get, All, AllPairs}
-use Rattle.std.specs.List.{list_any, filter}
-use Rattle.std.proofs.lemmas.Bool.{false≢true, or_parts, and_parts, and_from, cases_Bool, eqb-true, not-false, not_from_true, both_ways, false_from_ne_true, not-true, or_left, or_right, cases_order}
+use Rattle.std.proofs.Common.{◌≡◌, ℕ, zero, suc, ◌+◌, ◌<◌, ◌≤◌, ◌⊎◌, inl, inr, Bool, true, false, cond, ◌||◌, ◌&&◌, not, eqb, eq-eqb, List, [], ◌∷◌, Option, Some, None, length, refl, sym, ap, ◌∙◌, arith, slice_get, All, AllPairs}
+use Rattle.std.specs.List.{list_any}
+use Rattle.std.proofs.lemmas.Bool.{false≢true, or_parts, and_parts, and_from, cases_Bool, eqb-true, false_from_ne_true, not-true, cases_order}
 use Rattle.std.proofs.lemmas.Option.{none-some, same_Some}
 use Rattle.std.proofs.lemmas.List.Elements.{All-nil, All-cons, All-head, All-tail, All-weaker}
 use Rattle.std.proofs.lemmas.List.Kept.{AllPairs-cons}
 use Rattle.interface_model.specs.declared.Kind.{Kind}
 use Rattle.interface_model.specs.declared.Kind.TheVariants.{PointToPoint, Broadcast}
 use Rattle.interface_model.specs.Addresses.{subnet}
-use Rattle.lsdb_build.specs.Neighbours.{Port, shares_subnet, is_broadcast, is_broadcast_kind, first_members, place_from, is_port, is_other}
+use Rattle.lsdb_build.specs.Neighbours.{Port, shares_subnet, is_broadcast, first_members, place_from}
 use Rattle.lsdb_build.specs.Topology.{first_where, same_kind}
-use Rattle.lsdb_build.proofs.Pairs.{all_at, pair_at, pairs_nil, pairs_head, pairs_tail}
+use Rattle.lsdb_build.proofs.Pairs.{pair_at, pairs_nil}
 
 -- equal tests, one implied by the other both ways
 same_tests : (a b : Bool) → (a ≡ true → b ≡ true) → (b ≡ true → a ≡ true) → a ≡ b

@@ -1,4 +1,4 @@
-use Rattle.std.proofs.Common.{◌≡◌, ℕ, ◌+◌, Bool, cond, Some, None, drop, take, reverse, ap, sym, ◌∙◌, rules, arith}
+use Rattle.std.proofs.Common.{◌+◌, cond, Some, drop, take, reverse, ap, sym, ◌∙◌}
 use Rattle.std.proofs.lemmas.List.{at_drop_all}
 use Rattle.lsdb_build.specs.Topology.{first_where, at_port}
 use Rattle.lsdb_build.specs.Checks.{meets, number_of}

@@ -1,4 +1,4 @@
-use Rattle.std.proofs.Common.{◌≡◌, ◌+◌, cond, List, Some, None, drop, take, reverse, map, ap, sym, ◌∙◌}
+use Rattle.std.proofs.Common.{◌+◌, cond, Some, drop, take, reverse, map, ap, sym, ◌∙◌}
 use Rattle.std.specs.List.{list_any}
 use Rattle.std.proofs.lemmas.List.{at_drop_all}
 use Rattle.cost_base.specs.Lists.{same_bytes}

@@ -1,4 +1,4 @@
-use Rattle.std.proofs.Common.{◌≡◌, ◌+◌, cond, List, Some, None, drop, take, reverse, ap, sym, ◌∙◌}
+use Rattle.std.proofs.Common.{◌+◌, cond, List, Some, drop, take, reverse, ap, sym, ◌∙◌}
 use Rattle.std.proofs.lemmas.List.{at_drop_all}
 use Rattle.lsdb_build.specs.Neighbours.{Port}
 use Rattle.lsdb_build.specs.Topology.{first_where, lacks_designated, at_port}

@@ -1,4 +1,3 @@
-use Rattle.std.proofs.Common.{◌≡◌}
 use Rattle.lsdb_build.proofs.GraphLaws.{members_below, graph_fits}
 use Rattle.lsdb_build.proofs.graphs.graph_of.Goals as goal
 

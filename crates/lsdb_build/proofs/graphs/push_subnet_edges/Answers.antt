@@ -1,4 +1,4 @@
-use Rattle.std.proofs.Common.{◌≡◌, ◌++◌, ap, sym, ◌∙◌, append_assoc}
+use Rattle.std.proofs.Common.{◌++◌, ap, sym, ◌∙◌, append_assoc}
 use Rattle.lsdb_build.proofs.GraphLaws.{subnet_edges_step}
 use Rattle.lsdb_build.proofs.graphs.push_subnet_edges.Goals as goal
 

@@ -1,5 +1,5 @@
-use Rattle.std.proofs.Common.{◌≡◌, ◌+◌, ◌++◌, ◌∷◌, [], cond, not, true, is_ok, List, drop, take, reverse, ap, sym, ◌∙◌, append_assoc, arith}
-use Rattle.lsdb_build.specs.Neighbours.{Port, first_members}
+use Rattle.std.proofs.Common.{◌≡◌, ◌+◌, ◌++◌, ◌∷◌, cond, not, true, is_ok, drop, take, reverse, ap, sym, ◌∙◌, append_assoc}
+use Rattle.lsdb_build.specs.Neighbours.{first_members}
 use Rattle.lsdb_build.proofs.Firsts.{first_members-more}
 use Rattle.lsdb_build.proofs.links.transit_ports.Goals as goal
 use Rattle.lsdb_build.proofs.links.transit_ports.Goals.{else-is_first_member-via-then-is_first_member+else-is_err, else-is_first_member-via-else-is_first_member}

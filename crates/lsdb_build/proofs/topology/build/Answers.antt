@@ -1,4 +1,4 @@
-use Rattle.std.proofs.Common.{◌≡◌, ap, sym, ◌∙◌, [], arith}
+use Rattle.std.proofs.Common.{ap, ◌∙◌, []}
 use Rattle.std.proofs.lemmas.Result.{err_from_is_err_and}
 use Rattle.lsdb_build.specs.Neighbours.{linked, first_members}
 use Rattle.lsdb_build.proofs.Refusals.{tells_designated, tells_overlap, none_found, made_is, few_links, few_subnets}
