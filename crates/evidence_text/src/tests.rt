@@ -1,8 +1,8 @@
 //! Worked cases of the text of an answer.
 ghost use Rattle.std.specs.Prelude.{◌≡◌, IfOk, Some, codes};
-ghost use Rattle.path_rows.specs.Text.{tree_lines, row_line};
+ghost use Rattle.path_rows.specs.Text.{tree_lines};
 ghost use Rattle.evidence_text.specs.Lines.{AreShort};
-ghost use Rattle.evidence_text.specs.Parts.{part_word, rows_lines};
+ghost use Rattle.evidence_text.specs.Parts.{part_word};
 
 use crate::{TreePart, put_answer, put_costs, put_rows, put_tree};
 use cost_base::{Listed, MemorySink, Name, OutOfMemory};
