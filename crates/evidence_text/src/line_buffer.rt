@@ -8,12 +8,15 @@ use cost_base::{PutFailed, Sink};
 use std::marker::Model;
 use text_lines::number_bytes;
 
+/// Room for the longest line, of 65,536 bytes, and its LF.
+const ROOM: usize = 65_537;
+
 /// A line without its LF, in a fixed array that has room for the longest line and the LF.
 ///
 /// Contracts see the list of the bytes that were gathered.
 #[derive(Drop)]
 pub(crate) struct LineBuffer {
-    bytes: [u8; 65537],
+    bytes: [u8; ROOM],
     count: usize,
 }
 
@@ -31,7 +34,7 @@ impl LineBuffer {
         ensures { result ≡ [] }
     {
         LineBuffer {
-            bytes: [0; 65537],
+            bytes: [0; ROOM],
             count: 0,
         }
     }

@@ -1,10 +1,15 @@
 //! Worked cases of the text of an answer.
-ghost use Rattle.std.specs.Prelude.{◌≡◌, IfOk};
-ghost use Rattle.std.specs.Prelude.{codes};
+ghost use Rattle.std.specs.Prelude.{◌≡◌, IfOk, Some, codes};
+ghost use Rattle.path_rows.specs.Text.{tree_lines};
+ghost use Rattle.evidence_text.specs.Lines.{AreShort};
+ghost use Rattle.evidence_text.specs.Parts.{part_word};
 
 use crate::{TreePart, put_answer, put_costs, put_rows, put_tree};
 use cost_base::{Listed, MemorySink, Name, OutOfMemory};
-use path_rows::{Answer, CostLine, Costs, Floor, Verdict};
+use path_rows::{
+    Answer, CapTree, CostLine, Costs, Entry, Floor, Member, Parts, Ratio, Side, StepName, Tree,
+    Verdict, WideAt,
+};
 use std::alloc::Global;
 use std::test::Fail;
 
@@ -55,5 +60,70 @@ fn refused_line_leaves_a_prefix(rt: HostRuntime) -> Result<(), Fail> {
     let mut sink = MemorySink::new(alloc, 300, [(1u64, 4usize)].to_vec(alloc)?)?;
     assert!(rt; put_answer(&pair(alloc)?, &mut sink).is_err());
     assert_eq!(rt; sink.got(), b"ospfcost answer 1\nverd".as_slice());
+    Ok(())
+}
+
+/// A tree with an entry of each kind, at cap 2.
+fn every_entry(alloc: Global) -> Result<CapTree, OutOfMemory>
+    ensures { IfOk result (λ tree. AreShort (tree_lines (part_word TreePart.Proof) (Some tree))) }
+{
+    let basis = Vec::from_array(
+        alloc,
+        [Member::Low(0, 1), Member::High(1, 2), Member::Row(7)],
+    )?;
+    let wide = WideAt {
+        step: StepName::Add,
+        left: Ratio {
+            numerator: 1,
+            denominator: 16384,
+        },
+        right: Ratio {
+            numerator: -1,
+            denominator: 3,
+        },
+        basis: Listed::from_items(basis),
+    };
+    let parts = Vec::from_array(alloc, [(0u64, 1u128), (2, 3)])?;
+    let entries = Vec::from_array(
+        alloc,
+        [
+            Entry::Tighten {
+                var: 0,
+                side: Side::Low,
+                value: 2,
+                row: 0,
+            },
+            Entry::Halve {
+                var: 1,
+                value: 1,
+                wide,
+            },
+            Entry::Refute {
+                parts: Parts::from_items(parts),
+            },
+            Entry::Split { var: 0, value: 1 },
+            Entry::Undone,
+            Entry::Undone,
+        ],
+    )?;
+    Ok(CapTree {
+        cap: 2,
+        tree: Tree::from_items(entries),
+    })
+}
+
+#[test]
+fn parts_are_put_by_their_own_calls(rt: HostRuntime) -> Result<(), Fail> {
+    let alloc = rt.alloc();
+    let mut sink = MemorySink::new(alloc, 300, Vec::new(alloc))?;
+    assert!(rt; put_costs(None, &mut sink).is_ok());
+    assert!(rt; put_rows(&[], &mut sink).is_ok());
+    let tree = every_entry(alloc)?;
+    assert!(rt; put_tree(TreePart::Proof, Some(&tree), &mut sink).is_ok());
+    assert!(rt; put_tree(TreePart::Unfinished, None, &mut sink).is_ok());
+    assert_eq!(rt;
+        sink.got(),
+        b"costs none\nrows 0\nproof 2 6\ntighten 0 low 2 0\nhalve 1 1 add 1/16384 -1/3 low 0 1 high 1 2 row 7\nrefute 0 1 2 3\nsplit 0 1\nopen\nopen\nopen none\n".as_slice()
+    );
     Ok(())
 }
