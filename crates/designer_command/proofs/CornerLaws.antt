@@ -5,7 +5,8 @@ use Rattle.std.proofs.Common.{get_or, lit<, inl, inr, ◌∙◌}
 use Rattle.std.specs.Prelude.{◌⊎◌}
 use Rattle.std.proofs.lemmas.Bool.{cases_lt}
 use Rattle.std.proofs.lemmas.List.{get_or_default, take_more}
-use Rattle.std.proofs.Common.{take, ap}
+use Rattle.std.proofs.Common.{take, ap, subst}
+use Rattle.path_rows.specs.declared.form.Row.{Row}
 use Rattle.path_rows.specs.declared.problem.VarName.{VarName}
 use Rattle.std.proofs.lemmas.List.Elements.{All-nil}
 use Rattle.std.specs.List.{AllZip}
@@ -140,3 +141,13 @@ line_of_name low names i name lines line below is zip same more pushed =
     let here : R name line = (ap (λ (l : CostLine). l.router) same, ap (λ (l : CostLine). l.interface) same, ap (λ (l : CostLine). l.cost) same) in
     let names_are : take (i + 1) names ≡ take i names ++ name ∷ [] = take_more names i name below ∙ ap (λ (n : VarName). take i names ++ n ∷ []) (sym is) in
     rw (pushed, names_are) (zip_push R (take i names) lines name line zip here)
+
+-- the same of numbers and lists that are equal to these
+pub low_answers_as : (p : DesignProblem) (k : ℕ) (printed lines : List CostLine) (floor : Floor) (rows : List Row) → IsFit p p.low → LowLines p.low p.vars lines → ShowsFloor p.low floor →
+    k ≡ greatest_cost p.low → printed ≡ lines → rows ≡ [] →
+    AnswersLow p (record { verdict = Optimal k; costs = Some (record { greatest = k; lines = printed }); floor = floor; rows = rows; proof = None; unfinished = None })
+low_answers_as p k printed lines floor rows fit zip shows greatest same none =
+    let printed_zip : LowLines p.low p.vars printed = subst (λ (ls : List CostLine). LowLines p.low p.vars ls) (sym same) zip in
+    let with_rows : (rs : List Row) → rs ≡ [] → AnswersLow p (record { verdict = Optimal (greatest_cost p.low); costs = Some (record { greatest = greatest_cost p.low; lines = printed }); floor = floor; rows = rs; proof = None; unfinished = None })
+        = λ rs e. rw e (low_answers p printed floor fit printed_zip shows) in
+    rw greatest (with_rows rows none)

@@ -19,3 +19,4 @@ pub mod ThinForm
 pub mod ThinReading
 pub mod ThinPlaces
 pub mod CornerLaws
+pub mod Pieces

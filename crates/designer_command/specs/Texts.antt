@@ -1,6 +1,7 @@
 -- The lines that a run writes beside an answer.
 use Rattle.std.specs.Prelude.{ℕ, List, [], ◌∷◌, ◌++◌, codes}
 use Rattle.std.specs.List.{join_with_byte}
+use Rattle.std.specs.Borrow.{Bor}
 use Rattle.cost_base.specs.Decimal.{decimal}
 use Rattle.config_reader.specs.Sections.{with_ends}
 
@@ -40,3 +41,7 @@ usage_lines =
 
 abbrev pub usage : List ℕ
 usage = with_ends usage_lines
+
+-- pieces of text, one after another
+abbrev pub joined : List (Bor (List ℕ)) → List ℕ
+joined pieces = concat (map (λ piece. piece.now) pieces)

@@ -1,8 +1,8 @@
 //! The lines that a run writes beside an answer.
-ghost use Rattle.std.specs.Prelude.{◌≡◌, ◌∷◌, [], ◌++◌, List, ℕ, IfOk, OnOk, OnErr, map, string_bytes, codes};
+ghost use Rattle.std.specs.Prelude.{◌≡◌, ◌++◌, IfOk, OnOk, string_bytes};
 ghost use Rattle.cost_base.specs.Decimal.{decimal};
-ghost use Rattle.cost_base.specs.Outside.{HasCause, GotWhole, GotPart};
-ghost use Rattle.designer_command.specs.Texts.{refused_line, read_fault_line, usage};
+ghost use Rattle.evidence_text.specs.Lines.{IsPut};
+ghost use Rattle.designer_command.specs.Texts.{refused_line, read_fault_line, usage, joined};
 
 use cost_base::{OutOfMemory, PutFailed, Sink};
 use std::alloc::Global;
@@ -24,12 +24,17 @@ const USAGE: [&str; 10] = [
 
 /// Puts the lines that tell how the program is called.
 pub(crate) fn put_usage<K: Sink>(out: &mut K) -> Result<(), PutFailed>
-    ensures whole { OnOk result (GotWhole (K.got out.old) (K.got out.new) usage) }
-    ensures part { OnErr result (GotPart (K.got out.old) (K.got out.new) usage) }
-    ensures cause { HasCause (K.faults out.old) (K.faults out.new) result }
+    ensures { IsPut (K.got out.old) (K.got out.new) (K.faults out.old) (K.faults out.new) usage result }
 {
-    for line in USAGE {
-        out.put(line.as_bytes())?;
+    put_pieces(&USAGE, out)
+}
+
+/// Puts pieces one after another.
+fn put_pieces<K: Sink>(pieces: &[&str], out: &mut K) -> Result<(), PutFailed>
+    ensures { IsPut (K.got out.old) (K.got out.new) (K.faults out.old) (K.faults out.new) (joined pieces.now) result }
+{
+    for piece in pieces {
+        out.put(piece.as_bytes())?;
     }
     Ok(())
 }
@@ -38,10 +43,8 @@ pub(crate) fn put_usage<K: Sink>(out: &mut K) -> Result<(), PutFailed>
 fn push_bytes(line: &mut Vec<u8>, bytes: &[u8]) -> Result<(), OutOfMemory>
     ensures { OnOk result (line.new.items ≡ line.old.items ++ bytes.now) }
 {
-    match line.extend_from_slice(bytes) {
-        Ok(()) => Ok(()),
-        Err(_) => Err(OutOfMemory),
-    }
+    line.extend_from_slice(bytes)?;
+    Ok(())
 }
 
 /// Adds the decimal digits of a number at the end.

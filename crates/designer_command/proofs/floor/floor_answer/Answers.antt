@@ -1,0 +1,15 @@
+-- The answer at the lower bounds is valid and best, and its text is in the grammar.
+use Rattle.std.proofs.Common.{◌≡◌, ℕ, List, ◌∙◌, ap, subst}
+use Rattle.path_rows.specs.Problems.{DesignProblem}
+use Rattle.path_rows.specs.Rows.{greatest_cost}
+use Rattle.designer_command.specs.Corners.{ShowsFloor}
+use Rattle.designer_command.proofs.CornerLaws.{low_answers_as}
+use Rattle.designer_command.proofs.floor.floor_answer.Goals as goal
+
+pub returns : goal.returns
+returns c =
+    let p = c.args.problem.now in
+    let low_is : c.as_slice-low.result.now ≡ p.low = c.as_slice-low.ensures ∙ ap (λ (q : DesignProblem). q.low) c.problem.view_is in
+    low_answers_as p c.greatest_of-greatest.result c.from_items.result c.in_ok-lines.lines.items c.floor_of.result c.from_items-2.result c.requires c.in_ok-lines.ensures
+    (subst (λ (ls : List ℕ). ShowsFloor ls c.floor_of.result) low_is c.floor_of.ensures)
+    (c.greatest_of-greatest.ensures ∙ ap greatest_cost low_is) c.from_items.ensures (c.from_items-2.ensures ∙ c.new.ensures.items)
