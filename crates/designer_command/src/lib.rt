@@ -11,8 +11,10 @@ mod run;
 mod stop;
 mod thin;
 mod thin_config;
+mod thin_lookup;
 mod thin_request;
 mod thin_resolve;
+mod thin_route;
 mod words;
 
 pub use run::run;
