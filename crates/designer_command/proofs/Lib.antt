@@ -17,3 +17,4 @@ pub mod ThinForm
 pub mod ThinReading
 pub mod ThinPlaces
 pub mod ThinFirstPlaces
+pub mod ThinResolving
