@@ -1,15 +1,16 @@
 -- When the routes of thin requests resolve, and the problem that they then make.
 use Rattle.std.proofs.Common.{◌≡◌, ◌↔◌, ℕ, ◌<◌, ◌≤◌, refl, sym, ◌∙◌, ap, subst, List, [], ◌∷◌, length, map, replicate, arith, Bool, true, false}
-use Rattle.std.specs.Prelude.{IsTrue, nat_le, not, ◌&&◌, ◌==◌}
+use Rattle.std.specs.Prelude.{All, IsTrue, nat_le, not, ◌&&◌, ◌==◌}
 use Rattle.std.specs.List.{list_any, list_all}
 use Rattle.std.proofs.lemmas.List.{length-map}
+use Rattle.std.proofs.lemmas.List.Elements.{All-map}
 use Rattle.std.proofs.lemmas.Bool.{and_from, and_left, and_right, or_from, ne_eqb, not_from_false, false_from_ne_true, iff_false, le-leb, lt-leb}
 use Rattle.cost_base.specs.Lists.{numbers_from, Lacks, NoneTwice}
 use Rattle.area_graph.specs.declared.Price.{Price}
 use Rattle.area_graph.specs.declared.Price.TheVariants.{Var}
 use Rattle.area_graph.specs.Area.{Area}
 use Rattle.area_graph.specs.Paths.{visited, IsSimple}
-use Rattle.lsdb_build.specs.Graphs.{Database, IsDatabase, graph_at}
+use Rattle.lsdb_build.specs.Graphs.{Database, IsDatabase, IsLinkPrice, graph_at}
 use Rattle.path_rows.specs.declared.problem.Request.{Request}
 use Rattle.path_rows.specs.Problems.{DesignProblem, IsProblem}
 use Rattle.path_requests.specs.declared.Item.{Item}
@@ -22,6 +23,13 @@ use Rattle.path_requests.proofs.ThinProblems.{plain_request, routes_of, thin_own
 use Rattle.path_requests.proofs.ProblemLaws.{same_problem, plain_problem, thin_problem_plain, thin_is_problem}
 use Rattle.designer_command.specs.ThinRequests.{IsThin}
 use Rattle.designer_command.specs.ThinResolution.{IsPlainGraph, first_range, problem_with}
+
+-- the variables of so many links are as many, and each may be a link's price
+pub variables_count : (n : ℕ) → length (map Var (numbers_from 0 n)) ≡ n
+variables_count n = length-map {B = Price} (numbers_from 0 n) Var ∙ numbers_length 0 n
+
+pub variables_priced : (n : ℕ) → All IsLinkPrice (map Var (numbers_from 0 n))
+variables_priced n = All-map IsLinkPrice Var (numbers_from 0 n) (λ k v below. tt)
 
 lacks_test : (ys : List ℕ) (x : ℕ) → Lacks ys x → list_any (λ y. x == y) ys ≡ false
 lacks_test [] x lacks = refl
@@ -45,7 +53,7 @@ route_resolves d g route request simple is known joined test holds =
 pub route_loops : (d : Database) (g : Area) (route : Route) (request : Request) (simple : Bool) → IsDatabase d → IsPlainGraph d g → request ≡ plain_request d g route → (IsTrue simple ↔ IsSimple g request.path.start request.path.edges request.end) → simple ≡ false → resolves_route d g route ≡ false
 route_loops d g route request simple base plain is test fails =
     let prices : List Price = map Var (numbers_from 0 (length d.links)) in
-    let priced : length prices ≡ length d.links = length-map {B = Price} (numbers_from 0 (length d.links)) Var ∙ numbers_length 0 (length d.links) in
+    let priced : length prices ≡ length d.links = variables_count (length d.links) in
     false_from_ne_true (resolves_route d g route)
     (λ whole. iff_false test fails
     (subst (λ (r : Request). IsSimple g r.path.start r.path.edges r.end) (sym is)
