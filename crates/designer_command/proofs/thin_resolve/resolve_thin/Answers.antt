@@ -1,14 +1,20 @@
 -- The requests resolve exactly where there are few enough links and each path resolves; then the parts make their problem.
-use Rattle.std.proofs.Common.{◌≡◌, ℕ, List, length, map, ap, sym, subst, ◌∙◌, arith, true, false}
+use Rattle.std.proofs.Common.{Result, Err, ◌≡◌, ℕ, List, length, map, ap, sym, subst, ◌∙◌, arith, true, false}
 use Rattle.std.specs.List.{list_all}
 use Rattle.std.proofs.lemmas.Result.{err_from_is_err_and}
 use Rattle.path_rows.specs.Problems.{IsProblem}
 use Rattle.path_requests.specs.declared.Item.{Item}
 use Rattle.path_requests.specs.Resolution.{resolves_wish}
 use Rattle.path_requests.proofs.ThinProblems.{plain_request, routes_of}
+use Rattle.designer_command.specs.declared.thin.ThinStop.{ThinStop}
+use Rattle.designer_command.specs.declared.thin.ThinStop.TheVariants.{OffForm}
 use Rattle.designer_command.specs.ThinResolution.{first_range, problem_with}
 use Rattle.designer_command.proofs.ThinResolving.{many_links, items_fail, items_resolve}
 use Rattle.designer_command.proofs.thin_resolve.resolve_thin.Goals as goal
+
+-- an error that one type of results has is one of another
+same_error : {T U : Type 0} (x y : ThinStop) → ◌≡◌ {A = Result T ThinStop} (Err x) (Err y) → ◌≡◌ {A = Result U ThinStop} (Err x) (Err y)
+same_error {T} {U} x y same = let inner : x ≡ y = cc in ap (λ (e : ThinStop). Err e) inner
 
 pub returns-then-links-gt-MOST_VARIABLES-clause-off_form :
     goal.returns-then-links-gt-MOST_VARIABLES-clause-off_form
@@ -22,7 +28,7 @@ returns-in_err-paths-clause-off_form c =
     let p = err_from_is_err_and c.from_residual-in_err-paths.result c.from_residual-in_err-paths.ensures.1 in
     rw (p.1, p.2)
     (λ off. items_fail c.args.requests.now d g c.requires c.in_ok-graph.ensures
-    (subst (λ (items : List Item). list_all (λ item. resolves_wish d g item.what) items ≡ false) c.items-lines.ensures.value (c.in_err-paths.ensures.off_form off)))
+    (subst (λ (items : List Item). list_all (λ item. resolves_wish d g item.what) items ≡ false) c.items-lines.ensures.value (c.in_err-paths.ensures.off_form (same_error c.in_err-paths.field-0.0 OffForm off))))
 
 pub problem_with-requires-clause-keeps : goal.problem_with-requires-clause-keeps
 problem_with-requires-clause-keeps c =
