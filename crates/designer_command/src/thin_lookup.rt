@@ -61,9 +61,7 @@ pub(crate) fn router_of(lsdb: &Lsdb, link: u32) -> u32
 pub(crate) fn knows_router(lsdb: &Lsdb, name: &[u8]) -> bool
     ensures { result ≡ knows_router lsdb.now name.now }
 {
-    routers(lsdb)
-        .iter()
-        .any(|router| name == router.as_bytes())
+    routers(lsdb).iter().any(|router| name == router.as_bytes())
 }
 
 /// Whether a link is the interface of that router.

@@ -52,8 +52,7 @@ fn next_name<'a>(hops: &'a [(Name, Name)], last: &'a [u8]) -> &'a [u8]
 fn knows_hop(lsdb: &Lsdb, hop: &(Name, Name)) -> bool
     ensures { result ≡ (knows_router lsdb.now hop.now.0 && knows_link lsdb.now hop.now.0 hop.now.1) }
 {
-    knows_router(lsdb, hop.0.as_bytes())
-        && knows_link(lsdb, hop.0.as_bytes(), hop.1.as_bytes())
+    knows_router(lsdb, hop.0.as_bytes()) && knows_link(lsdb, hop.0.as_bytes(), hop.1.as_bytes())
 }
 
 /// Whether each hop's names are known, and the last router's.
@@ -142,7 +141,13 @@ fn route_edges(
 {
     let mut edges = Vec::new(alloc);
     for (i, hop) in hops.iter().enumerate() {
-        push_hop(lsdb, graph, hop, next_name(&hops[i + 1..], last), &mut edges)?;
+        push_hop(
+            lsdb,
+            graph,
+            hop,
+            next_name(&hops[i + 1..], last),
+            &mut edges,
+        )?;
     }
     Ok(edges)
 }
