@@ -1,20 +1,19 @@
 -- Blocks, first heads and what is said of interfaces, for every file.
-use Rattle.std.proofs.Common.{◌≡◌, ◌≢◌, ℕ, zero, suc, ◌+◌, ◌<◌, ◌≤◌, List, [], ◌∷◌, ◌++◌, length, map, Bool, cond, true, false, ◌&&◌, ◌||◌, refl, sym, ap, ◌∙◌, subst, append-nil, append_assoc, Option, Some, None}
-use Rattle.std.specs.Prelude.{if◌then◌else◌}
-use Rattle.std.specs.List.{filter, filter_map, cons_option, list_any}
-use Rattle.std.proofs.lemmas.Bool.{cases_Bool, false≢true, or_parts, or_right, or_left, false_from_ne_true}
+use Rattle.std.proofs.Common.{◌≡◌, ℕ, ◌+◌, List, [], ◌∷◌, ◌++◌, length, map, Bool, cond, true, false, ◌||◌, refl, sym, ap, ◌∙◌, subst, append-nil, append_assoc, Option, Some, None}
+use Rattle.std.specs.List.{filter, list_any}
+use Rattle.std.proofs.lemmas.Bool.{false≢true, or_right, or_left, false_from_ne_true}
 use Rattle.std.proofs.lemmas.List.Folds.{list_any-append}
 use Rattle.std.proofs.lemmas.List.Elements.{filter-append}
-use Rattle.cost_base.specs.Lists.{numbers_from, last_of, same_bytes}
+use Rattle.cost_base.specs.Lists.{last_of, same_bytes}
 use Rattle.text_lines.specs.Lines.{words, kind_of, is_head}
 use Rattle.text_lines.specs.declared.LineKind.{LineKind}
 use Rattle.text_lines.specs.declared.LineKind.TheVariants.{Blank, Comment, Head, Indented}
-use Rattle.config_reader.specs.Statements.{Statement, Block, OfInterface, OfRouter, OfOther, block_of}
-use Rattle.config_reader.specs.Settings.{Said, said, said_by, said_at, block_by_head, about, is_of}
-use Rattle.config_reader.specs.Configs.{first_heads, firsts, opened_at, with_line, name_opened}
+use Rattle.config_reader.specs.Statements.{Block, OfInterface, OfRouter, OfOther, block_of}
+use Rattle.config_reader.specs.Settings.{said, said_by, block_by_head, about, is_of}
+use Rattle.config_reader.specs.Configs.{first_heads, firsts, with_line, name_opened}
 use Rattle.config_reader.specs.Reading.{open_block}
 use Rattle.config_reader.proofs.Places.{last_of-push, same_bytes-refl, same_bytes-true}
-use Rattle.config_reader.proofs.SaidSteps.{said_after, said_behind, said-push, opened_from}
+use Rattle.config_reader.proofs.SaidSteps.{said_after, said-push, opened_from}
 use Rattle.config_reader.proofs.SettingSteps.{about-push, said_where}
 use Rattle.config_reader.proofs.HeadSteps.{first_heads-push, heads_with, is_headed, unless_known}
 
@@ -65,6 +64,7 @@ open_headed = by_lines (λ file. (name : List ℕ) → open_block file ≡ OfInt
       where
         opens : block_of (words line) ≡ OfInterface name → is_headed name (heads_with (with_line (length file + 1) (name_opened (block_of (words line)))) (first_heads file)) ≡ true
         opens e = ap (λ b. is_headed name (heads_with (with_line (length file + 1) (name_opened b)) (first_heads file))) e ∙ is_headed-opened name (length file + 1) (first_heads file)
+
         cases : (b : Bool) → block_with b line (open_block file) ≡ OfInterface name → is_headed name (heads_with (cond b (with_line (length file + 1) (name_opened (block_of (words line)))) None) (first_heads file)) ≡ true
         cases true e = opens e
         cases false e = before name e
@@ -97,6 +97,7 @@ about-unheaded = by_lines (λ file. (name : List ℕ) → is_headed name (first_
       where
         unheaded : is_headed name (first_heads file) ≡ false
         unheaded = false_from_ne_true (is_headed name (first_heads file)) (λ known. false≢true (sym none ∙ ap (is_headed name) (first_heads-push file line) ∙ is_headed-with name (opened_from (length file) line) (first_heads file) known))
+
         other : is_of name (said_after file line).block ≡ false
         other = false_from_ne_true (is_of name (said_after file line).block) (λ here. false≢true (sym unheaded ∙ open_headed file name (said_block file line name (is_of-true name (said_after file line).block here))))
 

@@ -1,8 +1,7 @@
 -- The interfaces that a file opens, with one more head.
-use Rattle.std.proofs.Common.{◌≡◌, ◌≢◌, ℕ, zero, suc, ◌+◌, ◌<◌, List, [], ◌∷◌, ◌++◌, length, get_or, Bool, cond, true, false, ◌||◌, refl, sym, ap, ◌∙◌, map, Option, Some, None, append-nil, Contains}
+use Rattle.std.proofs.Common.{◌≡◌, ℕ, List, [], ◌∷◌, ◌++◌, length, Bool, cond, true, false, ◌||◌, refl, sym, ap, ◌∙◌, map, Option, Some, None, append-nil, Contains}
 use Rattle.std.specs.List.{filter_map, cons_option, list_any}
 use Rattle.std.proofs.lemmas.List.Folds.{list_any_at}
-use Rattle.std.specs.Prelude.{slice_index_or}
 use Rattle.cost_base.specs.Lists.{numbers_from, same_bytes}
 use Rattle.config_reader.specs.Configs.{first_heads, firsts, opened_at}
 use Rattle.config_reader.proofs.Places.{same_bytes-refl}
@@ -48,7 +47,7 @@ firsts-push before (first ∷ heads) head = cases (list_any (same_bytes first.0)
         ap (λ rest. first ∷ rest)
         (new
         ∙ ap (λ found. firsts (first.0 ∷ before) heads ++ unless_known found head)
-          (sym (or_swap (list_any (same_bytes head.0) before) (same_bytes head.0 first.0) (is_headed head.0 (firsts (first.0 ∷ before) heads)))))
+        (sym (or_swap (list_any (same_bytes head.0) before) (same_bytes head.0 first.0) (is_headed head.0 (firsts (first.0 ∷ before) heads)))))
 
 -- the first heads of a file with one more line
 abbrev pub heads_with : Option (List ℕ × ℕ) → List (List ℕ × ℕ) → List (List ℕ × ℕ)

@@ -1,6 +1,6 @@
 -- Lists read by places, and lists with one more element.
-use Rattle.std.proofs.Common.{◌≡◌, ◌≢◌, ℕ, zero, suc, ◌+◌, ◌<◌, ◌≤◌, List, [], ◌∷◌, ◌++◌, length, get_or, take, Bool, cond, true, false, ◌&&◌, refl, sym, ap, ◌∙◌, arith, map, Option, Some, None}
-use Rattle.std.specs.List.{filter, filter_map, cons_option, list_any}
+use Rattle.std.proofs.Common.{◌≡◌, ℕ, zero, suc, ◌+◌, ◌<◌, ◌≤◌, List, [], ◌∷◌, ◌++◌, Bool, cond, true, false, refl, ap, ◌∙◌, arith, map, Option, Some}
+use Rattle.std.specs.List.{filter, filter_map, cons_option}
 use Rattle.std.specs.Option.{option_or}
 use Rattle.std.specs.Prelude.{◌==◌}
 use Rattle.std.proofs.lemmas.Bool.{eq-eqb, eqb-true, and_parts}
@@ -61,6 +61,7 @@ filter-numbers_same f g n agree fails =
   where
     none : (m : ℕ) → m ≡ n → filter f (m ∷ []) ≡ []
     none m same = let e : f m ≡ false = ap f same ∙ fails in rw e
+
     append_none : (xs : List ℕ) → xs ++ [] ≡ xs
     append_none [] = refl
     append_none (x ∷ xs) = ap (λ ys. x ∷ ys) (append_none xs)

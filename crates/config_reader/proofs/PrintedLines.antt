@@ -1,13 +1,13 @@
 -- Lines and words that are printed are read back.
-use Rattle.std.proofs.Common.{◌≡◌, ◌≢◌, ℕ, zero, suc, ◌+◌, ◌^◌, ◌<◌, ◌≤◌, List, [], ◌∷◌, ◌++◌, length, map, All, Bool, cond, true, false, ◌&&◌, not, refl, sym, ap, ◌∙◌, arith, append-nil, append_assoc, eqb, leb}
-use Rattle.std.specs.Prelude.{Option, Some, None, ◌==◌, nat_le, codes}
-use Rattle.std.specs.List.{list_all, concat}
-use Rattle.std.proofs.lemmas.Bool.{false≢true, le-leb, leb-true, ne_eqb, and_from, and_parts, or_parts, not-true}
+use Rattle.std.proofs.Common.{◌≡◌, ◌≢◌, ℕ, suc, ◌^◌, ◌<◌, ◌≤◌, List, [], ◌∷◌, ◌++◌, length, All, Bool, cond, true, false, ◌&&◌, not, refl, sym, ap, ◌∙◌, arith, append-nil, append_assoc, eqb, leb}
+use Rattle.std.specs.Prelude.{Some, ◌==◌, nat_le}
+use Rattle.std.specs.List.{list_all}
+use Rattle.std.proofs.lemmas.Bool.{false≢true, le-leb, leb-true, ne_eqb, and_parts, or_parts, not-true}
 use Rattle.std.proofs.lemmas.List.Elements.{All-weaker, All-head, All-tail, All-cons, All-nil}
 use Rattle.cost_base.specs.Decimal.{is_digit, decimal_value, decimal}
 use Rattle.cost_base.specs.Words.{is_blank, ends_a_word, IsOneWord}
 use Rattle.text_lines.specs.Lines.{lines, words, grow}
-use Rattle.text_lines.specs.Numbers.{number, number_within}
+use Rattle.text_lines.specs.Numbers.{number}
 use Rattle.text_lines.proofs.WordSteps.{words-front}
 use Rattle.text_lines.proofs.Digits.{length-decimal-le}
 use Rattle.text_lines.proofs.Printed.{decimal_value-decimal, decimal-digits, decimal-begins}

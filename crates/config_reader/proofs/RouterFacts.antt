@@ -1,25 +1,25 @@
 -- What a configuration says keeps the facts of a router.
-use Rattle.std.proofs.Common.{◌≡◌, ◌≢◌, ℕ, zero, suc, ◌+◌, ◌<◌, ◌≤◌, List, [], ◌∷◌, ◌++◌, length, get_or, map, All, Bool, cond, true, false, ◌&&◌, ◌||◌, not, refl, sym, ap, ◌∙◌, subst, arith, Option, Some, None, eqb, leb}
+use Rattle.std.proofs.Common.{◌≡◌, ◌≢◌, ℕ, zero, suc, ◌+◌, ◌<◌, ◌≤◌, List, [], ◌∷◌, ◌++◌, length, get_or, map, All, Bool, cond, true, false, ◌&&◌, not, refl, sym, ap, ◌∙◌, subst, arith, Option, Some, None, eqb, leb}
 use Rattle.std.specs.Prelude.{◌==◌, codes, AllPairs, nat_le}
-use Rattle.std.specs.List.{filter, filter_map, cons_option, list_any, list_all}
-use Rattle.std.proofs.lemmas.Bool.{false≢true, and_parts, or_parts, or_left, or_right, or_from, ne_eqb, leb-true, not-true, eqb-true, eqb-false}
-use Rattle.std.proofs.lemmas.List.Folds.{list_all-append, list_any_at}
-use Rattle.std.proofs.lemmas.List.Elements.{All-nil, All-cons, All-map, All-weaker, All-append, All-head, All-tail}
+use Rattle.std.specs.List.{filter_map, list_any, list_all}
+use Rattle.std.proofs.lemmas.Bool.{false≢true, and_parts, or_left, or_right, or_from, ne_eqb, leb-true, not-true, eqb-false}
+use Rattle.std.proofs.lemmas.List.Folds.{list_all-append}
+use Rattle.std.proofs.lemmas.List.Elements.{All-nil, All-cons}
 use Rattle.cost_base.specs.Decimal.{is_digit, decimal_value}
 use Rattle.cost_base.specs.Lists.{numbers_from, first_of, last_of, same_bytes}
 use Rattle.cost_base.specs.Words.{is_blank, ends_a_word, IsOneWord, IsWord}
 use Rattle.text_lines.specs.Lines.{lines, words, ends_word, grow, kind_of, is_head}
-use Rattle.text_lines.specs.Numbers.{Prefix, prefix, prefix_of_pieces, joined_prefix, quad, number_within, split, area, number}
+use Rattle.text_lines.specs.Numbers.{Prefix, prefix, prefix_of_pieces, joined_prefix, quad, number_within, split}
 use Rattle.text_lines.specs.declared.LineKind.{LineKind}
 use Rattle.text_lines.specs.declared.LineKind.TheVariants.{Blank, Comment, Head, Indented}
 use Rattle.interface_model.specs.declared.Interface.{Interface}
-use Rattle.interface_model.specs.Records.{Router, IsCost, IsInterface, IsRouter}
-use Rattle.config_reader.specs.Statements.{Statement, AddressIs, AreaIs, CostIs, KindIs, PriorityIs, PassiveIs, DownIs, RouterIdIs, NetworkIs, PassiveInterfaceIs, Refused, Unread, Block, OfInterface, OfRouter, OfOther, block_of, statement_in, head_statement, interface_statement, router_statement, address_statement, area_statement, cost_statement, priority_statement, network_statement, router_id_statement, alone, begin_with, word_at}
-use Rattle.config_reader.specs.Settings.{Said, said, said_by, about, is_of, setting, interface_of, address_of, address_said, cost_said, length_part}
-use Rattle.config_reader.specs.Configs.{config_of, first_heads, firsts, opened_at, with_line, name_opened}
+use Rattle.interface_model.specs.Records.{IsCost, IsInterface, IsRouter}
+use Rattle.config_reader.specs.Statements.{Statement, AddressIs, AreaIs, CostIs, KindIs, PriorityIs, PassiveIs, DownIs, RouterIdIs, NetworkIs, PassiveInterfaceIs, Refused, Unread, Block, OfInterface, OfRouter, OfOther, block_of, head_statement, interface_statement, router_statement, address_statement, area_statement, cost_statement, priority_statement, network_statement, router_id_statement, alone, begin_with}
+use Rattle.config_reader.specs.Settings.{Said, said, said_by, about, is_of, interface_of, address_said, cost_said, length_part}
+use Rattle.config_reader.specs.Configs.{config_of, first_heads, opened_at, with_line, name_opened}
 use Rattle.config_reader.specs.Faults.{is_name_byte, is_router_name, router_name}
 use Rattle.config_reader.specs.Reading.{open_block}
-use Rattle.config_reader.proofs.Places.{same_bytes-refl, same_bytes-true}
+use Rattle.config_reader.proofs.Places.{same_bytes-refl}
 use Rattle.config_reader.proofs.SaidSteps.{said_after, said-push, opened_from}
 use Rattle.config_reader.proofs.SettingSteps.{about-push, said_where}
 use Rattle.config_reader.specs.declared.ConfigFault.{ConfigFault}
@@ -62,6 +62,7 @@ address_fits text = by_pieces (split 47 text)
     joined (Some a) None small = record { fact = tt }
     joined None (Some l) small = record { fact = tt }
     joined None None small = record { fact = tt }
+
     by_pieces : (ps : List (List ℕ)) → Fits (address_statement (prefix_of_pieces ps))
     by_pieces [] = record { fact = tt }
     by_pieces (a ∷ []) = record { fact = tt }
@@ -154,8 +155,8 @@ each_where false s f = tt
 pub about_fits : (file : List (List ℕ)) (name : List ℕ) → EachFits (about (said file) name)
 about_fits = by_lines (λ file. (name : List ℕ) → EachFits (about (said file) name)) (λ name. tt)
     (λ file line before name. subst EachFits (sym (ap (λ all. about all name) (said-push file line) ∙ about-push (said file) (said_after file line) name))
-        (each_append (about (said file) name) (said_where (is_of name (said_after file line).block) (said_after file line).statement) (before name)
-        (each_where (is_of name (said_after file line).block) (said_after file line).statement (said_fits (kind_of line) (length file + 1) (open_block file) (words line)))))
+    (each_append (about (said file) name) (said_where (is_of name (said_after file line).block) (said_after file line).statement) (before name)
+    (each_where (is_of name (said_after file line).block) (said_after file line).statement (said_fits (kind_of line) (length file + 1) (open_block file) (words line)))))
 
 -- the first address of statements that fit
 first_length : (own : List Statement) → EachFits own → length_part (first_of (filter_map address_said own)) ≤ 32
@@ -213,6 +214,7 @@ words-words (c ∷ cs) lacks = cases (is_blank c) (ends_word cs) refl (words-wor
   where
     parts : (not (c == 10) ≡ true) × (lacks_end cs ≡ true)
     parts = and_parts (not (c == 10)) (lacks_end cs) lacks
+
     cases : (b e : Bool) → is_blank c ≡ b → EachWord (length cs) (words cs) → EachWord (suc (length cs)) (cond b (words cs) (cond e ((c ∷ []) ∷ words cs) (grow c (words cs))))
     cases true e blank h = more_room (length cs) (suc (length cs)) (words cs) (omega arith) h
     cases false true blank h =
@@ -242,8 +244,10 @@ block_word line good (w ∷ v ∷ ws) each name e = cases (length (w ∷ v ∷ w
   where
     short : length line ≤ 4096
     short = leb-true (length line) 4096 (and_parts (lacks_end line) (nat_le (length line) 4096) good).1
+
     word : IsWord v
     word = record { word = each.2.0; short = omega (arith, each.2.1, short) }
+
     cases : (a b : Bool) → cond a (OfInterface v) (cond b OfRouter OfOther) ≡ OfInterface name → IsWord name
     cases true b h = let same : v ≡ name = cc in subst IsWord same word
     cases false true h = absurd (cc)
@@ -254,6 +258,7 @@ opened_word n line name m good = by_head (is_head line)
   where
     each : EachWord (length line) (words line)
     each = words-words line (and_parts (lacks_end line) (nat_le (length line) 4096) good).0
+
     by_block : (block : Block) → block_of (words line) ≡ block → with_line (n + 1) (name_opened block) ≡ Some (name, m) → IsWord name
     by_block (OfInterface other) e h =
         let pair : Some (other, n + 1) ≡ Some (name, m) = h in
@@ -268,6 +273,7 @@ opened_word n line name m good = by_head (is_head line)
             first_or_empty (Some q) = q.0
     by_block OfRouter e h = absurd (cc)
     by_block OfOther e h = absurd (cc)
+
     by_head : (b : Bool) → cond b (with_line (n + 1) (name_opened (block_of (words line)))) None ≡ Some (name, m) → IsWord name
     by_head true h = by_block (block_of (words line)) refl h
     by_head false h = absurd (cc)
@@ -289,6 +295,7 @@ heads_words = by_lines (λ file. list_all is_good_line file ≡ true → EachHea
       where
         parts : (list_all is_good_line file ≡ true) × (list_all is_good_line (line ∷ []) ≡ true)
         parts = and_parts (list_all is_good_line file) (list_all is_good_line (line ∷ [])) (sym (list_all-append is_good_line file (line ∷ [])) ∙ good)
+
         cases : (o : Option (List ℕ × ℕ)) → opened_from (length file) line ≡ o → EachHead (heads_with o (first_heads file))
         cases None e = before parts.0
         cases (Some head) e = heads_append (first_heads file) (unless_known (is_headed head.0 (first_heads file)) head) (before parts.0) (new (is_headed head.0 (first_heads file)))
@@ -339,6 +346,7 @@ router_word name named =
     some : (xs : List ℕ) → 1 ≤ length xs → xs ≢ []
     some [] long e = absurd (omega arith)
     some (x ∷ xs) long e = cc
+
     each : (xs : List ℕ) → list_all is_name_byte xs ≡ true → All (λ c. ends_a_word c ≡ false) xs
     each [] h = All-nil (λ c. ends_a_word c ≡ false)
     each (x ∷ xs) h =

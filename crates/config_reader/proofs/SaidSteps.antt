@@ -1,17 +1,15 @@
 -- What a file says with one more line.
-use Rattle.std.proofs.Common.{◌≡◌, ◌≢◌, ℕ, zero, suc, ◌+◌, ◌<◌, ◌≤◌, List, [], ◌∷◌, ◌++◌, length, get_or, take, Bool, cond, true, false, ◌&&◌, ◌||◌, refl, sym, ap, ◌∙◌, arith, map, Option, Some, None, length-append, append-nil}
+use Rattle.std.proofs.Common.{◌≡◌, ℕ, suc, ◌+◌, ◌<◌, List, [], ◌∷◌, ◌++◌, length, get_or, take, Bool, false, ◌&&◌, refl, ap, ◌∙◌, arith, map, Option, Some, None, length-append}
 use Rattle.std.specs.Prelude.{if◌then◌else◌, codes}
-use Rattle.std.specs.List.{filter, filter_map, cons_option, list_any}
-use Rattle.std.specs.Option.{option_or}
-use Rattle.std.proofs.lemmas.List.{map-append, get_or_append_left, get_or-append-add, take-append-le, take_at, get_or_at}
-use Rattle.std.proofs.lemmas.List.Elements.{filter-append, filter_map-append}
-use Rattle.cost_base.specs.Lists.{numbers_from, last_of, first_of, same_bytes}
-use Rattle.text_lines.specs.Lines.{words, kind_of, is_head, block_at}
-use Rattle.config_reader.specs.Statements.{Statement, Block, OfInterface, OfRouter, OfOther, block_of, begin_with, word_at}
-use Rattle.config_reader.specs.Settings.{Said, said, said_at, said_by, block_by_head, about, about_router, is_of, is_of_router, setting}
-use Rattle.config_reader.specs.Configs.{first_heads, firsts, opened_at, with_line, name_opened}
+use Rattle.std.specs.List.{filter, filter_map, cons_option}
+use Rattle.std.proofs.lemmas.List.{get_or_append_left, take-append-le, take_at, get_or_at}
+use Rattle.cost_base.specs.Lists.{numbers_from, last_of}
+use Rattle.text_lines.specs.Lines.{words, kind_of, is_head}
+use Rattle.config_reader.specs.Statements.{block_of, begin_with, word_at}
+use Rattle.config_reader.specs.Settings.{Said, said, said_at, said_by, block_by_head}
+use Rattle.config_reader.specs.Configs.{opened_at, with_line, name_opened}
 use Rattle.config_reader.specs.Faults.{is_hostname_head, last_hostname, name_and_line, router_name}
-use Rattle.config_reader.proofs.Places.{map-numbers_more, filter_map-numbers_more, filter-numbers_same, last_of-push, last_passing-lt}
+use Rattle.config_reader.proofs.Places.{map-numbers_more, filter_map-numbers_more, filter-numbers_same, last_passing-lt}
 
 -- what a line says at a place, behind a head
 abbrev pub said_behind : ℕ → Option (List ℕ) → List ℕ → Said
@@ -53,7 +51,7 @@ pub opened-push : (file : List (List ℕ)) (line : List ℕ) → filter_map (ope
 opened-push file line =
     ap (λ n. filter_map (opened_at (file ++ line ∷ [])) (numbers_from 0 n)) (length_more file line)
     ∙ filter_map-numbers_more (opened_at (file ++ line ∷ [])) (opened_at file) (length file)
-      (λ i within. ap (λ (l : List ℕ). opened_from i l) (get_or_append_left file (line ∷ []) [] i within))
+    (λ i within. ap (λ (l : List ℕ). opened_from i l) (get_or_append_left file (line ∷ []) [] i within))
     ∙ ap (λ (l : List ℕ). filter_map (opened_at file) (numbers_from 0 (length file)) ++ cons_option (opened_from (length file) l) []) (get_or_at file line [] [] (length file) refl)
 
 -- whether a line is a `hostname` head
@@ -68,8 +66,9 @@ router_name-push file_name file line other = ap (name_and_line file_name (file +
     last =
         ap (λ n. last_of (filter (is_hostname_head (file ++ line ∷ [])) (numbers_from 0 n))) (length_more file line)
         ∙ ap last_of (filter-numbers_same (is_hostname_head (file ++ line ∷ [])) (is_hostname_head file) (length file)
-          (λ i within. ap names_router (get_or_append_left file (line ∷ []) [] i within))
-          (ap names_router (get_or_at file line [] [] (length file) refl) ∙ other))
+        (λ i within. ap names_router (get_or_append_left file (line ∷ []) [] i within))
+        (ap names_router (get_or_at file line [] [] (length file) refl) ∙ other))
+
     at : (o : Option ℕ) → ((i : ℕ) → o ≡ Some i → i < 0 + length file) → name_and_line file_name (file ++ line ∷ []) o ≡ name_and_line file_name file o
     at None within = refl
     at (Some i) within =

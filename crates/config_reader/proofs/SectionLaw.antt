@@ -1,23 +1,22 @@
 -- A configuration with a printed section after it.
-use Rattle.std.proofs.Common.{◌≡◌, ◌≢◌, ℕ, zero, suc, ◌+◌, ◌^◌, ◌<◌, ◌≤◌, List, [], ◌∷◌, ◌++◌, length, map, All, Bool, cond, true, false, ◌&&◌, refl, sym, ap, ◌∙◌, subst, arith, append-nil, append_assoc, eqb, Option, Some, None, Contains}
-use Rattle.std.specs.Prelude.{◌==◌, codes, if◌then◌else◌}
-use Rattle.std.specs.List.{filter, list_any, list_all, join_with_byte}
-use Rattle.std.proofs.lemmas.Bool.{ne_eqb, cases_Bool}
+use Rattle.std.proofs.Common.{◌≡◌, ℕ, ◌+◌, ◌≤◌, List, [], ◌∷◌, ◌++◌, length, map, All, Bool, cond, true, false, refl, sym, ap, ◌∙◌, subst, arith, append-nil, append_assoc, eqb, Some, Contains}
+use Rattle.std.specs.Prelude.{codes}
+use Rattle.std.specs.List.{filter, join_with_byte}
+use Rattle.std.proofs.lemmas.Bool.{ne_eqb}
 use Rattle.std.proofs.lemmas.List.Elements.{filter-append, All-head, All-tail, All-weaker}
 use Rattle.cost_base.specs.Decimal.{decimal}
 use Rattle.cost_base.specs.Lists.{same_bytes, last_of}
 use Rattle.cost_base.specs.Words.{IsOneWord}
-use Rattle.text_lines.specs.Lines.{lines, words, kind_of, is_head}
-use Rattle.text_lines.specs.Numbers.{number}
+use Rattle.text_lines.specs.Lines.{lines, words, is_head}
 use Rattle.interface_model.specs.declared.Interface.{Interface}
 use Rattle.interface_model.specs.Records.{Router}
-use Rattle.config_reader.specs.Statements.{Statement, CostIs, Unread, Block, OfInterface, OfRouter, OfOther, block_of, cost_statement, interface_statement, statement_in}
+use Rattle.config_reader.specs.Statements.{CostIs, OfInterface, OfOther, block_of, cost_statement, interface_statement, statement_in}
 use Rattle.config_reader.specs.Settings.{Said, said, block_by_head, about_router, setting, router_id_said, interface_of, is_of, is_of_router}
 use Rattle.config_reader.specs.Configs.{config_of, first_heads, with_line, name_opened}
 use Rattle.config_reader.specs.Faults.{router_name}
-use Rattle.config_reader.specs.Sections.{ended, with_ends, section_lines, cost_after, with_cost, with_costs, IsSectionCost}
-use Rattle.config_reader.proofs.Places.{last_of-push, same_bytes-refl}
-use Rattle.config_reader.proofs.SaidSteps.{said_after, said_behind, said-push, names_router, router_name-push, opened_from}
+use Rattle.config_reader.specs.Sections.{ended, with_ends, section_lines, with_cost, with_costs, IsSectionCost}
+use Rattle.config_reader.proofs.Places.{last_of-push}
+use Rattle.config_reader.proofs.SaidSteps.{said_after, said-push, names_router, router_name-push, opened_from}
 use Rattle.config_reader.proofs.SettingSteps.{interface_of-other, interface_of-cost, about_router-push, said_where}
 use Rattle.config_reader.proofs.HeadSteps.{first_heads-push, heads_with, is_headed, is_headed-contains, unless_known}
 use Rattle.config_reader.proofs.PrintedLines.{words-word, decimal-word, number-decimal, lines-ended, lines-with_ends, all_lack_end, lacks_end, word_lacks_end}
@@ -55,18 +54,22 @@ router_id_kept all s other = about_router-push all s ∙ ap (λ b. about_router 
 router_by-silent : (name : List ℕ) (all : List Said) (s : Said) (heads : List (List ℕ × ℕ)) → s.block ≡ OfOther → router_by name (all ++ s ∷ []) heads ≡ router_by name all heads
 unfolding router_by
 router_by-silent name all s heads silent =
-    cc (router_id_kept all s (ap is_of_router silent),
-    map_agree (λ head. interface_of (all ++ s ∷ []) head.0 head.1) (λ head. interface_of all head.0 head.1) heads
-    (λ head. interface_of-other all s head.0 head.1 (ap (is_of head.0) silent) (ap is_of_router silent)))
+    cc (
+      router_id_kept all s (ap is_of_router silent),
+      map_agree (λ head. interface_of (all ++ s ∷ []) head.0 head.1) (λ head. interface_of all head.0 head.1) heads
+          (λ head. interface_of-other all s head.0 head.1 (ap (is_of head.0) silent) (ap is_of_router silent)),
+    )
 
 -- a cost line sets the cost of its interface
 router_by-cost : (name : List ℕ) (all : List Said) (s : Said) (heads : List (List ℕ × ℕ)) (interface : List ℕ) (n : ℕ) → s.block ≡ OfInterface interface → s.statement ≡ CostIs n →
     router_by name (all ++ s ∷ []) heads ≡ with_costs ((interface, n) ∷ []) (router_by name all heads)
 unfolding router_by
 router_by-cost name all s heads interface n block cost =
-    cc (router_id_kept all s (ap is_of_router block),
-    map_agree (λ head. interface_of (all ++ s ∷ []) head.0 head.1) (λ head. with_cost ((interface, n) ∷ []) (interface_of all head.0 head.1)) heads one,
-    map-map (with_cost ((interface, n) ∷ [])) (λ head. interface_of all head.0 head.1) heads)
+    cc (
+      router_id_kept all s (ap is_of_router block),
+      map_agree (λ head. interface_of (all ++ s ∷ []) head.0 head.1) (λ head. with_cost ((interface, n) ∷ []) (interface_of all head.0 head.1)) heads one,
+      map-map (with_cost ((interface, n) ∷ [])) (λ head. interface_of all head.0 head.1) heads,
+    )
   where
     one : (head : List ℕ × ℕ) → interface_of (all ++ s ∷ []) head.0 head.1 ≡ with_cost ((interface, n) ∷ []) (interface_of all head.0 head.1)
     one head = cases (same_bytes head.0 interface) refl
@@ -80,8 +83,12 @@ pub router_of-silent : (file_name : List ℕ) (file : List (List ℕ)) (line : L
     router_of file_name (file ++ line ∷ []) ≡ router_of file_name file
 unfolding router_of
 router_of-silent file_name file line silent unnamed heads =
-    cc (ap (λ (p : List ℕ × ℕ). p.0) (router_name-push file_name file line unnamed), said-push file line, heads,
-    router_by-silent (router_name file_name file).0 (said file) (said_after file line) (first_heads file) silent)
+    cc (
+      ap (λ (p : List ℕ × ℕ). p.0) (router_name-push file_name file line unnamed),
+      said-push file line,
+      heads,
+      router_by-silent (router_name file_name file).0 (said file) (said_after file line) (first_heads file) silent,
+    )
 
 -- a cost line sets the cost of its interface
 pub router_of-cost : (file_name : List ℕ) (file : List (List ℕ)) (line interface : List ℕ) (n : ℕ) → (said_after file line).block ≡ OfInterface interface → (said_after file line).statement ≡ CostIs n →
@@ -89,8 +96,12 @@ pub router_of-cost : (file_name : List ℕ) (file : List (List ℕ)) (line inter
     router_of file_name (file ++ line ∷ []) ≡ with_costs ((interface, n) ∷ []) (router_of file_name file)
 unfolding router_of
 router_of-cost file_name file line interface n block cost unnamed heads =
-    cc (ap (λ (p : List ℕ × ℕ). p.0) (router_name-push file_name file line unnamed), said-push file line, heads,
-    router_by-cost (router_name file_name file).0 (said file) (said_after file line) (first_heads file) interface n block cost)
+    cc (
+      ap (λ (p : List ℕ × ℕ). p.0) (router_name-push file_name file line unnamed),
+      said-push file line,
+      heads,
+      router_by-cost (router_name file_name file).0 (said file) (said_after file line) (first_heads file) interface n block cost,
+    )
 
 -- the three lines of one cost
 abbrev pub name_line : List ℕ → List ℕ
@@ -147,6 +158,7 @@ after_cost file_name file name n one from to =
   where
     heads : first_heads ((file ++ name_line name ∷ []) ++ cost_line n ∷ []) ≡ first_heads (file ++ name_line name ∷ [])
     heads = first_heads-push (file ++ name_line name ∷ []) (cost_line n)
+
     cost : (said_after (file ++ name_line name ∷ []) (cost_line n)).statement ≡ CostIs n
     cost = ap (λ b. statement_in b (words (cost_line n))) (block_behind file name one) ∙ cost_said_there n from to
 
@@ -193,9 +205,9 @@ router_of-section file_name file [] fits = ap (router_of file_name) (append-nil 
 router_of-section file_name file (cost ∷ costs) fits =
     let here = after_one file_name file cost (All-head (IsSectionCost file) cost costs fits) in
     let rest : All (IsSectionCost (file ++ section_lines (cost ∷ []))) costs =
-        All-weaker (IsSectionCost file) (IsSectionCost (file ++ section_lines (cost ∷ [])))
-        (λ other fit. record { word = fit.word; headed = subst (λ (heads : List (List ℕ × ℕ)). Contains (map (λ head. head.0) heads) other.0) (sym here.1) fit.headed; from = fit.from; to = fit.to })
-        costs (All-tail (IsSectionCost file) cost costs fits) in
+    All-weaker (IsSectionCost file) (IsSectionCost (file ++ section_lines (cost ∷ [])))
+    (λ other fit. record { word = fit.word; headed = subst (λ (heads : List (List ℕ × ℕ)). Contains (map (λ head. head.0) heads) other.0) (sym here.1) fit.headed; from = fit.from; to = fit.to })
+    costs (All-tail (IsSectionCost file) cost costs fits) in
     ap (router_of file_name) (section_lines-cons file cost costs)
     ∙ router_of-section file_name (file ++ section_lines (cost ∷ [])) costs rest
     ∙ ap (with_costs costs) here.0
@@ -215,7 +227,7 @@ pub config_of-section : (file_name bytes : List ℕ) (costs : List (List ℕ × 
     config_of file_name (ended bytes ++ with_ends (section_lines costs)) ≡ with_costs costs (config_of file_name bytes)
 config_of-section file_name bytes costs fits =
     let read : lines (ended bytes ++ with_ends (section_lines costs)) ≡ lines bytes ++ section_lines costs =
-        lines-ended bytes (with_ends (section_lines costs)) ∙ ap (λ more. lines bytes ++ more) (lines-with_ends (section_lines costs) (section_lacks_end (lines bytes) costs fits)) in
+    lines-ended bytes (with_ends (section_lines costs)) ∙ ap (λ more. lines bytes ++ more) (lines-with_ends (section_lines costs) (section_lacks_end (lines bytes) costs fits)) in
     config_of-lines file_name (ended bytes ++ with_ends (section_lines costs))
     ∙ ap (router_of file_name) read
     ∙ router_of-section file_name (lines bytes) costs fits

@@ -10,7 +10,7 @@ use Rattle.text_lines.specs.Numbers.{Prefix}
 use Rattle.interface_model.specs.declared.Interface.{Interface}
 use Rattle.interface_model.specs.declared.Kind.{Kind}
 use Rattle.interface_model.specs.declared.Kind.TheVariants.{Broadcast}
-use Rattle.config_reader.specs.Statements.{Statement, AddressIs, AreaIs, CostIs, KindIs, Network, Block, OfInterface, OfRouter, OfOther}
+use Rattle.config_reader.specs.Statements.{Statement, CostIs, Network}
 use Rattle.config_reader.specs.Settings.{Said, about, about_router, is_of, is_of_router, setting, interface_of, address_of, networks, area_by_networks, address_said, area_said, cost_said, kind_said, passive_said, down_said, priority_said, network_said, passive_name_said, matches, or_if_none, address_part, length_part}
 use Rattle.config_reader.proofs.Places.{last_of-push, first_of-push}
 
@@ -116,6 +116,7 @@ interface_from-cost own router name line n = interface_from-push own router name
     by_address address =
         interface_by name line address (setting area_said own) (Some n) (setting kind_said own)
         (setting passive_said own) (setting down_said own) (setting priority_said own) router
+
     set : by_address (first_of (filter_map address_said own)) ≡ record (interface_from own router name line) { cost = Some n }
     set = refl
 

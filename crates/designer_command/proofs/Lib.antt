@@ -10,6 +10,8 @@ pub mod LineRuns
 pub mod ReadBackLaws
 pub mod ThinRequestLaws
 pub mod DesignedLaws
+pub mod RequestReading
+pub mod RouteReading
 mod Examples
 pub mod Runs
 pub mod ThinSteps

@@ -1,13 +1,12 @@
 -- Whether a configuration is of the form, with one more line.
-use Rattle.std.proofs.Common.{◌≡◌, ◌≢◌, ℕ, zero, suc, ◌+◌, List, [], ◌∷◌, ◌++◌, length, map, Bool, cond, true, false, ◌&&◌, refl, sym, ap, ◌∙◌, subst, append-nil, Option, Some, None}
-use Rattle.std.specs.Prelude.{◌==◌}
+use Rattle.std.proofs.Common.{◌≡◌, ℕ, List, [], ◌∷◌, ◌++◌, map, Bool, true, false, refl, sym, ap, ◌∙◌, subst, Option, Some, None}
 use Rattle.std.specs.List.{filter, filter_map, list_all}
 use Rattle.std.specs.Option.{option_or}
 use Rattle.std.proofs.lemmas.Bool.{false≢true, and_parts, and_from, and_left, and_right, eq-eqb}
 use Rattle.std.proofs.lemmas.List.{map-append}
 use Rattle.std.proofs.lemmas.List.Folds.{list_all-append}
 use Rattle.std.proofs.lemmas.List.Elements.{filter_map-append, filter-append}
-use Rattle.cost_base.specs.Lists.{first_of, same_bytes}
+use Rattle.cost_base.specs.Lists.{first_of}
 use Rattle.text_lines.specs.Numbers.{Prefix}
 use Rattle.interface_model.specs.declared.Interface.{Interface}
 use Rattle.config_reader.specs.Statements.{Statement, AddressIs, AreaIs, CostIs, KindIs, PriorityIs, PassiveIs, DownIs, RouterIdIs, NetworkIs, PassiveInterfaceIs, Refused, Unread, Block, OfInterface, OfRouter, OfOther}
@@ -21,7 +20,7 @@ use Rattle.config_reader.proofs.RouterFacts.{is_short_line, router_kept}
 use Rattle.config_reader.proofs.Places.{same_bytes-refl}
 use Rattle.config_reader.proofs.SaidSteps.{said_after, said-push}
 use Rattle.config_reader.proofs.SettingSteps.{about-push, said_where, first_said-push}
-use Rattle.designer_command.specs.ThinConfigs.{is_thin, is_thin_line, is_thin_config, is_thin_setting, all_thin, same_prefix, keeps_address, keeps_address_in}
+use Rattle.designer_command.specs.ThinConfigs.{is_thin, is_thin_line, is_thin_config, all_thin, same_prefix, keeps_address, keeps_address_in}
 use Rattle.designer_command.specs.ThinReads.{is_thin_file, takes, no_other}
 use Rattle.designer_command.proofs.ThinSteps.{plain_file, length-said, all_thin-push, all_thin-off, said-behind}
 

@@ -1,8 +1,8 @@
 -- The place of a name among interfaces, and words of settings.
-use Rattle.std.proofs.Common.{◌≡◌, ◌≢◌, ℕ, zero, suc, ◌+◌, ◌<◌, List, [], ◌∷◌, ◌++◌, length, get_or, Bool, cond, true, false, ◌&&◌, ◌||◌, refl, sym, ap, ◌∙◌, subst, arith, Option, Some, None, not, ltb}
+use Rattle.std.proofs.Common.{◌≡◌, ℕ, zero, suc, ◌+◌, ◌<◌, List, [], ◌∷◌, ◌++◌, length, get_or, Bool, cond, true, false, ◌||◌, refl, sym, ap, subst, arith, Option, Some, None, not, ltb}
 use Rattle.std.specs.Prelude.{codes, slice_get, position, Result, Ok, Err, OnOk}
 use Rattle.std.specs.List.{list_any, position_or_len}
-use Rattle.std.proofs.lemmas.Bool.{false≢true, or_cases, lt-ltb, cases_Bool, false_from_ne_true}
+use Rattle.std.proofs.lemmas.Bool.{false≢true, lt-ltb, false_from_ne_true}
 use Rattle.std.proofs.lemmas.List.Quantifiers.{position-Some}
 use Rattle.std.proofs.lemmas.List.Folds.{list_any_at}
 use Rattle.cost_base.specs.Lists.{same_bytes}

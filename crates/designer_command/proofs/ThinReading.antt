@@ -1,7 +1,7 @@
 -- A reader of configurations stands for the lines that it read.
-use Rattle.std.proofs.Common.{◌≡◌, ◌≢◌, ℕ, zero, suc, ◌+◌, ◌<◌, ◌≤◌, List, [], ◌∷◌, ◌++◌, length, map, set, Bool, cond, true, false, ◌&&◌, ◌⊎◌, ⊎_elim, append_assoc, append-nil, length-append, refl, sym, ap, ◌∙◌, subst, arith, Option, Some, None, leb}
+use Rattle.std.proofs.Common.{◌≡◌, ℕ, zero, suc, ◌+◌, ◌<◌, ◌≤◌, List, [], ◌∷◌, ◌++◌, length, set, cond, true, false, ◌&&◌, ◌⊎◌, ⊎_elim, append_assoc, append-nil, length-append, refl, sym, ap, ◌∙◌, subst, arith, Option, Some, None, leb}
 use Rattle.std.specs.Prelude.{codes, slice_get}
-use Rattle.std.proofs.lemmas.Bool.{false≢true, and_parts, and_from, and_left, and_right, le-leb, lt-leb}
+use Rattle.std.proofs.lemmas.Bool.{and_parts, and_left, le-leb, lt-leb}
 use Rattle.text_lines.specs.TextLeft.{TextLeft}
 use Rattle.text_lines.specs.Reading.{IsLineRead, IsLongLine}
 use Rattle.text_lines.specs.declared.line_reader.Line.{Line}
@@ -10,19 +10,19 @@ use Rattle.text_lines.specs.Lines.{lines, words, kind_of, is_head, is_head_kind}
 use Rattle.text_lines.specs.declared.LineKind.{LineKind}
 use Rattle.text_lines.specs.declared.LineKind.TheVariants.{Blank, Comment, Head, Indented}
 use Rattle.interface_model.specs.declared.Interface.{Interface}
-use Rattle.config_reader.specs.Statements.{Statement, Block, OfInterface, OfRouter, OfOther, block_of, interface_statement, statement_in}
-use Rattle.config_reader.specs.Settings.{Said, said, said_by, about_router, interface_of}
+use Rattle.config_reader.specs.Statements.{Block, OfInterface, OfOther, block_of, interface_statement, statement_in}
+use Rattle.config_reader.specs.Settings.{Said, said, said_by, interface_of}
 use Rattle.config_reader.specs.Configs.{first_heads, with_line, name_opened}
 use Rattle.config_reader.specs.Reading.{open_block, interfaces_of}
-use Rattle.config_reader.proofs.SaidSteps.{said_after, said-push, opened_from}
+use Rattle.config_reader.proofs.SaidSteps.{said_after, opened_from}
 use Rattle.config_reader.proofs.HeadSteps.{first_heads-push, heads_with}
 use Rattle.config_reader.proofs.BlockFacts.{open_block-push, block_with}
-use Rattle.designer_command.specs.ThinConfigs.{is_thin, is_thin_line, is_thin_head, is_thin_indented, is_thin_setting, all_thin, keeps_address, keeps_address_in}
+use Rattle.designer_command.specs.ThinConfigs.{is_thin, is_thin_line, is_thin_head, is_thin_indented, is_thin_setting, all_thin, keeps_address_in}
 use Rattle.designer_command.specs.declared.thin_config.Reader.{Reader}
 use Rattle.designer_command.specs.declared.thin_config.Setting.{Setting}
 use Rattle.designer_command.specs.declared.thin_config.Setting.TheVariants.{Address, Area, Cost, PointToPoint}
 use Rattle.designer_command.specs.ThinReads.{is_thin_file, StandsFor, ReadsOn, GoesOff, IsOpen, with_interface, with_statement, takes, statement_of}
-use Rattle.designer_command.proofs.ThinSteps.{IsPlainFile, plain_file, interfaces-silent, interfaces-opened, interfaces-set, HeadAt, head_at}
+use Rattle.designer_command.proofs.ThinSteps.{IsPlainFile, plain_file, interfaces-silent, interfaces-opened, interfaces-set, head_at}
 use Rattle.designer_command.proofs.ThinForm.{on_form, off_line, off_takes, keeps-takes}
 
 -- what a line says after a file, by its kind

@@ -21,7 +21,7 @@ use Rattle.path_requests.specs.Thin.{IsPlainPath, IsThinAsked}
 use Rattle.designer_command.specs.ThinRequests.{is_header, area_said, bounds_of, free_said, path_wish, path_said, with_item, paths_from, asked_of, asked_by_lines, thin_request}
 
 -- a value of a test that passed
-when_some : {A : Type 0} (b : Bool) (o : Option A) (x : A) → cond b o None ≡ Some x → (b ≡ true) × (o ≡ Some x)
+pub when_some : {A : Type 0} (b : Bool) (o : Option A) (x : A) → cond b o None ≡ Some x → (b ≡ true) × (o ≡ Some x)
 when_some true o x is = (refl, is)
 when_some false o x is = absurd (cc)
 

@@ -1,33 +1,30 @@
 -- What a configuration of the form says with one more line.
-use Rattle.std.proofs.Common.{◌≡◌, ◌≢◌, ℕ, zero, suc, ◌+◌, ◌<◌, ◌≤◌, List, [], ◌∷◌, ◌++◌, length, map, set, Bool, cond, true, false, ◌&&◌, ◌||◌, refl, sym, ap, ◌∙◌, subst, arith, append-nil, append_assoc, Option, Some, None, eqb, leb}
-use Rattle.std.specs.Prelude.{◌==◌, codes, if◌then◌else◌, slice_get, unwrap_or}
-use Rattle.std.specs.List.{filter, filter_map, cons_option, list_any, list_all}
+use Rattle.std.proofs.Common.{◌≡◌, ◌≢◌, ℕ, zero, suc, ◌+◌, List, [], ◌∷◌, ◌++◌, length, map, set, Bool, cond, true, false, ◌&&◌, ◌||◌, refl, sym, ap, ◌∙◌, arith, append-nil, append_assoc, Option, Some, None, leb}
+use Rattle.std.specs.Prelude.{◌==◌, codes, slice_get}
+use Rattle.std.specs.List.{filter_map, list_any}
 use Rattle.std.specs.Option.{option_or}
-use Rattle.std.proofs.lemmas.Bool.{false≢true, or_left, or_right, or_parts, and_parts, and_from, and_left, and_right, false_from_ne_true, eqb-true, cases_Bool, lt-leb}
+use Rattle.std.proofs.lemmas.Bool.{false≢true, or_left, or_right, or_parts, and_parts, and_left, and_right, false_from_ne_true, eqb-true}
 use Rattle.std.proofs.lemmas.List.{length-map, map-append}
-use Rattle.std.proofs.lemmas.List.Folds.{list_all-append}
-use Rattle.std.proofs.lemmas.List.Elements.{filter_map-append, filter-append}
-use Rattle.cost_base.specs.Lists.{numbers_from, first_of, last_of, same_bytes}
-use Rattle.text_lines.specs.Lines.{words, kind_of, is_head, is_head_kind}
+use Rattle.cost_base.specs.Lists.{numbers_from, first_of, same_bytes}
+use Rattle.text_lines.specs.Lines.{words, kind_of, is_head_kind}
 use Rattle.text_lines.specs.declared.LineKind.{LineKind}
 use Rattle.text_lines.specs.declared.LineKind.TheVariants.{Blank, Comment, Head, Indented}
 use Rattle.text_lines.specs.Numbers.{Prefix}
 use Rattle.interface_model.specs.declared.Interface.{Interface}
 use Rattle.interface_model.specs.declared.Kind.{Kind}
-use Rattle.interface_model.specs.declared.Kind.TheVariants.{PointToPoint, Broadcast}
 use Rattle.config_reader.specs.Statements.{Statement, AddressIs, AreaIs, CostIs, KindIs, PriorityIs, PassiveIs, DownIs, RouterIdIs, NetworkIs, PassiveInterfaceIs, Refused, Unread, Block, OfInterface, OfRouter, OfOther, begin_with, word_at}
-use Rattle.config_reader.specs.Settings.{Said, said, said_by, said_at, about, about_router, is_of, is_of_router, setting, interface_of, address_of, address_said, area_said, cost_said, kind_said, passive_said, down_said, priority_said}
+use Rattle.config_reader.specs.Settings.{Said, said, said_by, said_at, about, about_router, is_of, is_of_router, setting, interface_of, address_said, area_said, cost_said, kind_said, passive_said, down_said, priority_said}
 use Rattle.config_reader.specs.Configs.{first_heads, opened_at}
 use Rattle.config_reader.specs.Faults.{router_name}
 use Rattle.config_reader.specs.Reading.{open_block, interfaces_of}
 use Rattle.config_reader.proofs.Places.{same_bytes-true, same_bytes-refl}
-use Rattle.config_reader.proofs.SaidSteps.{said_after, said-push, names_router, router_name-push, opened_from}
-use Rattle.config_reader.proofs.SettingSteps.{about_router-push, said_where, interface_by, interface_from, interface_from-push, interface_from-cost, interface_of-from, interface_of-own, interface_of-other, option_or-none}
+use Rattle.config_reader.proofs.SaidSteps.{said_after, said-push, router_name-push, opened_from}
+use Rattle.config_reader.proofs.SettingSteps.{about_router-push, said_where, interface_by, interface_from, interface_from-push, interface_from-cost, interface_of-from, interface_of-own, interface_of-other}
 use Rattle.config_reader.proofs.HeadSteps.{first_heads-push, heads_with, is_headed, unless_known}
 use Rattle.config_reader.proofs.SectionLaw.{map_agree}
-use Rattle.config_reader.proofs.BlockFacts.{by_lines, open_block-push, block_with, about-unheaded, NamesApart, head_names, firsts-apart}
-use Rattle.designer_command.specs.ThinConfigs.{is_thin, is_thin_line, is_thin_head, is_thin_indented, is_thin_setting, is_thin_kind, all_thin, same_prefix, keeps_address, keeps_address_in}
-use Rattle.designer_command.specs.ThinReads.{is_thin_file, new_interface, is_named, with_interface, with_statement, takes, no_other}
+use Rattle.config_reader.proofs.BlockFacts.{by_lines, about-unheaded, NamesApart, head_names, firsts-apart}
+use Rattle.designer_command.specs.ThinConfigs.{is_thin, is_thin_line, is_thin_head, is_thin_setting, all_thin}
+use Rattle.designer_command.specs.ThinReads.{new_interface, is_named, with_interface, with_statement, takes}
 
 -- a file says as many things as it has lines
 pub length-said : (file : List (List ℕ)) → length (said file) ≡ length file

@@ -1,11 +1,19 @@
 -- What is answered at the lower bounds.
 use Rattle.std.specs.Prelude.{◌≡◌, ℕ, ◌<◌, List, length, slice_index, Some}
+use Rattle.std.specs.List.{AllZip}
+use Rattle.path_rows.specs.declared.problem.VarName.{VarName}
+use Rattle.path_rows.specs.declared.answer.CostLine.{CostLine}
 use Rattle.path_rows.specs.declared.answer.Costs.{Costs}
 use Rattle.path_rows.specs.declared.answer.Floor.{Floor}
 use Rattle.path_rows.specs.declared.answer.Floor.TheVariants.{Absent, Empty, Var}
 use Rattle.path_rows.specs.Problems.{DesignProblem}
 use Rattle.path_rows.specs.Rows.{IsBest, greatest_cost}
 use Rattle.path_rows.specs.Answers.{AnswerParts, Names, IsValid}
+
+-- a line for each name, with its variable's lower bound
+abbrev pub LowLines : List ℕ → List VarName → List CostLine → Type 0
+LowLines low names lines =
+    AllZip (λ name line. (line.router ≡ name.router) × (line.interface ≡ name.interface) × (line.cost ≡ slice_index low name.var)) names lines
 
 -- a valid answer that gives each variable its lower bound
 pub record AnswersLow (p : DesignProblem) (a : AnswerParts) : Type 0 where

@@ -11,3 +11,4 @@ pub mod Stops
 pub mod Words
 pub mod Corners
 pub mod Readiness
+pub mod RequestReads

@@ -7,7 +7,6 @@ mod floor;
 mod lines;
 mod problem;
 mod reading;
-mod run;
 mod stop;
 mod thin;
 mod thin_config;
@@ -15,6 +14,7 @@ mod thin_lookup;
 mod thin_request;
 mod thin_resolve;
 mod thin_route;
+mod top_call;
 mod words;
 
-pub use run::run;
+pub use top_call::run;

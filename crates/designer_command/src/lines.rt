@@ -2,7 +2,7 @@
 ghost use Rattle.std.specs.Prelude.{◌≡◌, ◌∷◌, [], ◌++◌, List, ℕ, IfOk, OnOk, OnErr, map, string_bytes, codes};
 ghost use Rattle.cost_base.specs.Decimal.{decimal};
 ghost use Rattle.cost_base.specs.Outside.{HasCause, GotWhole, GotPart};
-ghost use Rattle.designer_command.specs.Texts.{refused_line, read_fault_line, usage, line_of, with_ends};
+ghost use Rattle.designer_command.specs.Texts.{refused_line, read_fault_line, usage};
 
 use cost_base::{OutOfMemory, PutFailed, Sink};
 use std::alloc::Global;

@@ -1,5 +1,5 @@
 -- The parts of an answer's text, each by its lines.
-use Rattle.std.specs.Prelude.{ℕ, List, [], ◌∷◌, ◌++◌, map, length, codes}
+use Rattle.std.specs.Prelude.{ℕ, List, [], ◌∷◌, map, length, codes}
 use Rattle.cost_base.specs.Decimal.{decimal}
 use Rattle.path_rows.specs.declared.form.Row.{Row}
 use Rattle.path_rows.specs.declared.answer.Verdict.{Verdict}
@@ -15,24 +15,38 @@ verdict_line verdict = spaced (codes "verdict" ∷ verdict_words verdict)
 abbrev pub head_lines : Verdict → List (List ℕ)
 head_lines verdict = codes "ospfcost answer 1" ∷ verdict_line verdict ∷ []
 
+abbrev pub costs_line : ℕ → List ℕ
+costs_line greatest = spaced (codes "costs" ∷ decimal greatest ∷ [])
+
+abbrev pub interface_line : List ℕ → List ℕ
+interface_line name = spaced (codes "interface" ∷ name ∷ [])
+
+abbrev pub cost_line : ℕ → List ℕ
+cost_line cost = spaced (codes " ip" ∷ codes "ospf" ∷ codes "cost" ∷ decimal cost ∷ [])
+
 -- what a cost line prints behind its router
 abbrev pub interface_lines : CostLine → List (List ℕ)
-interface_lines line =
-    spaced (codes "interface" ∷ line.interface ∷ [])
-    ∷ spaced (codes " ip" ∷ codes "ospf" ∷ codes "cost" ∷ decimal line.cost ∷ [])
-    ∷ codes "exit"
-    ∷ []
+interface_lines line = interface_line line.interface ∷ cost_line line.cost ∷ codes "exit" ∷ []
 
 abbrev pub floor_line : Floor → List ℕ
 floor_line floor = spaced (codes "floor" ∷ floor_word floor ∷ [])
 
+abbrev pub rows_line : ℕ → List ℕ
+rows_line count = spaced (codes "rows" ∷ decimal count ∷ [])
+
 abbrev pub rows_lines : List Row → List (List ℕ)
-rows_lines rows = spaced (codes "rows" ∷ decimal (length rows) ∷ []) ∷ map row_line rows
+rows_lines rows = rows_line (length rows) ∷ map row_line rows
 
 -- the word that a part with a tree begins with
 abbrev pub part_word : TreePart → List ℕ
 part_word Proof = codes "proof"
 part_word Unfinished = codes "open"
+
+abbrev pub no_tree_line : TreePart → List ℕ
+no_tree_line part = spaced (part_word part ∷ codes "none" ∷ [])
+
+abbrev pub tree_line : TreePart → ℕ → ℕ → List ℕ
+tree_line part cap count = spaced (part_word part ∷ decimal cap ∷ decimal count ∷ [])
 
 abbrev pub end_lines : List (List ℕ)
 end_lines = codes "wide none" ∷ codes "end" ∷ []

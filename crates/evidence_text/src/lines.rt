@@ -3,9 +3,11 @@ ghost use Rattle.std.specs.Prelude.{◌≡◌, ℕ, ◌+◌, ◌≤◌, List, []
 ghost use Rattle.cost_base.specs.Decimal.{decimal};
 ghost use Rattle.path_rows.specs.Text.{row_line, entry_line, side_word, step_word, ratio_word, member_words, members_words, part_words};
 ghost use Rattle.evidence_text.specs.Lines.{with_words};
-ghost use Rattle.evidence_text.specs.Parts.{verdict_line, floor_line};
+ghost use Rattle.evidence_text.specs.Parts.{verdict_line, costs_line, interface_line, cost_line, floor_line, rows_line, part_word, no_tree_line, tree_line};
 
+use crate::TreePart;
 use crate::line_buffer::LineBuffer;
+use cost_base::Name;
 use path_rows::{Entry, Floor, Member, Ratio, Row, Side, StepName, Verdict, WideAt};
 
 /// Writes the line of the verdict.
@@ -26,6 +28,33 @@ pub(crate) fn write_verdict(verdict: Verdict, line: &mut LineBuffer)
     }
 }
 
+/// Writes the line of the greatest cost, which costs begin with.
+pub(crate) fn write_costs(greatest: u16, line: &mut LineBuffer)
+    requires { length (costs_line greatest) ≤ 65536 }
+    ensures { line.new ≡ costs_line greatest }
+{
+    line.start(b"costs");
+    line.push_number(u128::from(greatest));
+}
+
+/// Writes the line of an interface.
+pub(crate) fn write_interface(name: &Name, line: &mut LineBuffer)
+    requires { length (interface_line name.now) ≤ 65536 }
+    ensures { line.new ≡ interface_line name.now }
+{
+    line.start(b"interface");
+    line.push_word(name.as_bytes());
+}
+
+/// Writes the line that sets the cost of an interface.
+pub(crate) fn write_cost(cost: u16, line: &mut LineBuffer)
+    requires { length (cost_line cost) ≤ 65536 }
+    ensures { line.new ≡ cost_line cost }
+{
+    line.start(b" ip ospf cost");
+    line.push_number(u128::from(cost));
+}
+
 /// Writes the line of the floor.
 pub(crate) fn write_floor(floor: Floor, line: &mut LineBuffer)
     requires { length (floor_line floor) ≤ 65536 }
@@ -39,6 +68,15 @@ pub(crate) fn write_floor(floor: Floor, line: &mut LineBuffer)
             line.push_number(u128::from(var));
         }
     }
+}
+
+/// Writes the line that rows begin with.
+pub(crate) fn write_rows(count: usize, line: &mut LineBuffer)
+    requires { length (rows_line count) ≤ 65536 }
+    ensures { line.new ≡ rows_line count }
+{
+    line.start(b"rows");
+    line.push_number(count as u128);
 }
 
 /// Writes the line of a row.
@@ -58,6 +96,30 @@ fn push_numbers(numbers: &[u32], line: &mut LineBuffer)
     for number in numbers {
         line.push_number(u128::from(*number));
     }
+}
+
+/// Writes the line of a part that has no tree.
+pub(crate) fn write_no_tree(part: TreePart, line: &mut LineBuffer)
+    requires { length (no_tree_line part) ≤ 65536 }
+    ensures { line.new ≡ no_tree_line part }
+{
+    match part {
+        TreePart::Proof => line.start(b"proof none"),
+        TreePart::Unfinished => line.start(b"open none"),
+    }
+}
+
+/// Writes the line that a tree begins with: its part, its cap, and how many entries it has.
+pub(crate) fn write_tree(part: TreePart, cap: u16, count: usize, line: &mut LineBuffer)
+    requires { length (tree_line part cap count) ≤ 65536 }
+    ensures { line.new ≡ tree_line part cap count }
+{
+    match part {
+        TreePart::Proof => line.start(b"proof"),
+        TreePart::Unfinished => line.start(b"open"),
+    }
+    line.push_number(u128::from(cap));
+    line.push_number(count as u128);
 }
 
 /// Writes the line of an entry of a tree.

@@ -8,7 +8,10 @@ ghost use Rattle.evidence_text.specs.Parts.{head_lines, interface_lines, floor_l
 
 use crate::TreePart;
 use crate::line_buffer::LineBuffer;
-use crate::lines::{write_entry, write_floor, write_row, write_verdict};
+use crate::lines::{
+    write_cost, write_costs, write_entry, write_floor, write_interface, write_no_tree, write_row,
+    write_rows, write_tree, write_verdict,
+};
 use cost_base::{Name, PutFailed, Sink};
 use path_rows::{Answer, CapTree, CostLine, Costs, Entry, Floor, Row, Verdict};
 
@@ -28,7 +31,12 @@ pub fn put_answer<K: Sink>(answer: &Answer, out: &mut K) -> Result<(), PutFailed
     put_floor(answer.floor, &mut line, out)?;
     put_rows_part(answer.rows.as_slice(), &mut line, out)?;
     put_tree_part(TreePart::Proof, answer.proof.as_ref(), &mut line, out)?;
-    put_tree_part(TreePart::Unfinished, answer.unfinished.as_ref(), &mut line, out)?;
+    put_tree_part(
+        TreePart::Unfinished,
+        answer.unfinished.as_ref(),
+        &mut line,
+        out,
+    )?;
     put_end(&mut line, out)
 }
 
@@ -81,11 +89,7 @@ pub fn put_tree<K: Sink>(
     put_tree_part(part, tree, &mut line, out)
 }
 
-fn put_head<K: Sink>(
-    verdict: Verdict,
-    line: &mut LineBuffer,
-    out: &mut K,
-) -> Result<(), PutFailed>
+fn put_head<K: Sink>(verdict: Verdict, line: &mut LineBuffer, out: &mut K) -> Result<(), PutFailed>
     requires { AreShort (head_lines verdict) }
     ensures { IsPut (K.got out.old) (K.got out.new) (K.faults out.old) (K.faults out.new) (text_of (head_lines verdict)) result }
 {
@@ -108,13 +112,21 @@ fn put_costs_part<K: Sink>(
             line.start(b"costs none");
             line.put(out)
         }
-        Some(costs) => {
-            line.start(b"costs");
-            line.push_number(u128::from(costs.greatest));
-            line.put(out)?;
-            put_cost_lines(costs.lines.as_slice(), line, out)
-        }
+        Some(costs) => put_some_costs(costs, line, out),
     }
+}
+
+fn put_some_costs<K: Sink>(
+    costs: &Costs,
+    line: &mut LineBuffer,
+    out: &mut K,
+) -> Result<(), PutFailed>
+    requires { AreShort (costs_lines (Some costs.now)) }
+    ensures { IsPut (K.got out.old) (K.got out.new) (K.faults out.old) (K.faults out.new) (text_of (costs_lines (Some costs.now))) result }
+{
+    write_costs(costs.greatest, line);
+    line.put(out)?;
+    put_cost_lines(costs.lines.as_slice(), line, out)
 }
 
 fn put_cost_lines<K: Sink>(
@@ -162,11 +174,9 @@ fn put_interface<K: Sink>(
     requires { AreShort (interface_lines cost.now) }
     ensures { IsPut (K.got out.old) (K.got out.new) (K.faults out.old) (K.faults out.new) (text_of (interface_lines cost.now)) result }
 {
-    line.start(b"interface");
-    line.push_word(cost.interface.as_bytes());
+    write_interface(&cost.interface, line);
     line.put(out)?;
-    line.start(b" ip ospf cost");
-    line.push_number(u128::from(cost.cost));
+    write_cost(cost.cost, line);
     line.put(out)?;
     line.start(b"exit");
     line.put(out)
@@ -180,25 +190,16 @@ fn put_floor<K: Sink>(floor: Floor, line: &mut LineBuffer, out: &mut K) -> Resul
     line.put(out)
 }
 
-fn put_rows_part<K: Sink>(
-    rows: &[Row],
-    line: &mut LineBuffer,
-    out: &mut K,
-) -> Result<(), PutFailed>
+fn put_rows_part<K: Sink>(rows: &[Row], line: &mut LineBuffer, out: &mut K) -> Result<(), PutFailed>
     requires { AreShort (rows_lines rows.now) }
     ensures { IsPut (K.got out.old) (K.got out.new) (K.faults out.old) (K.faults out.new) (text_of (rows_lines rows.now)) result }
 {
-    line.start(b"rows");
-    line.push_number(rows.len() as u128);
+    write_rows(rows.len(), line);
     line.put(out)?;
     put_each_row(rows, line, out)
 }
 
-fn put_each_row<K: Sink>(
-    rows: &[Row],
-    line: &mut LineBuffer,
-    out: &mut K,
-) -> Result<(), PutFailed>
+fn put_each_row<K: Sink>(rows: &[Row], line: &mut LineBuffer, out: &mut K) -> Result<(), PutFailed>
     requires { AreShort (map row_line rows.now) }
     ensures { IsPut (K.got out.old) (K.got out.new) (K.faults out.old) (K.faults out.new) (text_of (map row_line rows.now)) result }
 {
@@ -218,29 +219,28 @@ fn put_tree_part<K: Sink>(
     requires { AreShort (tree_lines (part_word part) (option_copied tree)) }
     ensures { IsPut (K.got out.old) (K.got out.new) (K.faults out.old) (K.faults out.new) (text_of (tree_lines (part_word part) (option_copied tree.entry))) result }
 {
-    line.start(part_word(part));
     match tree {
         None => {
-            line.push_word(b"none");
+            write_no_tree(part, line);
             line.put(out)
         }
-        Some(tree) => {
-            let entries = tree.tree.as_slice();
-            line.push_number(u128::from(tree.cap));
-            line.push_number(entries.len() as u128);
-            line.put(out)?;
-            put_each_entry(entries, line, out)
-        }
+        Some(tree) => put_some_tree(part, tree, line, out),
     }
 }
 
-fn part_word(part: TreePart) -> &'static [u8]
-    ensures { result.now ≡ part_word part }
+fn put_some_tree<K: Sink>(
+    part: TreePart,
+    tree: &CapTree,
+    line: &mut LineBuffer,
+    out: &mut K,
+) -> Result<(), PutFailed>
+    requires { AreShort (tree_lines (part_word part) (Some tree.now)) }
+    ensures { IsPut (K.got out.old) (K.got out.new) (K.faults out.old) (K.faults out.new) (text_of (tree_lines (part_word part) (Some tree.now))) result }
 {
-    match part {
-        TreePart::Proof => b"proof",
-        TreePart::Unfinished => b"open",
-    }
+    let entries = tree.tree.as_slice();
+    write_tree(part, tree.cap, entries.len(), line);
+    line.put(out)?;
+    put_each_entry(entries, line, out)
 }
 
 fn put_each_entry<K: Sink>(
@@ -259,6 +259,7 @@ fn put_each_entry<K: Sink>(
 }
 
 fn put_end<K: Sink>(line: &mut LineBuffer, out: &mut K) -> Result<(), PutFailed>
+    requires { AreShort end_lines }
     ensures { IsPut (K.got out.old) (K.got out.new) (K.faults out.old) (K.faults out.new) (text_of end_lines) result }
 {
     line.start(b"wide none");

@@ -1,4 +1,4 @@
-use Rattle.std.proofs.Common.{◌∙◌, sym, [], refl}
+use Rattle.std.proofs.Common.{◌∙◌, sym}
 use Rattle.std.specs.Prelude.{codes}
 use Rattle.text_lines.specs.Lines.{words}
 use Rattle.designer_command.proofs.ThinPlaces.{key_is}

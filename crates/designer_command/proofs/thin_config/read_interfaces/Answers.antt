@@ -1,5 +1,4 @@
-use Rattle.std.proofs.Common.{◌≡◌, sym, ◌∙◌, refl, arith}
-use Rattle.designer_command.proofs.ThinReading.{read_none, read_more, read_all, read_off, read_long, place_known}
+use Rattle.designer_command.proofs.ThinReading.{read_none, read_more, read_long}
 use Rattle.designer_command.proofs.thin_config.read_interfaces.Goals as goal
 
 pub returns-in-Err-clause-off_form : goal.returns-in-Err-clause-off_form

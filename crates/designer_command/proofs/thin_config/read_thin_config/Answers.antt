@@ -1,6 +1,6 @@
-use Rattle.std.proofs.Common.{◌≡◌, ◌∙◌, sym, ap, true}
-use Rattle.config_reader.specs.Faults.{is_router_name, before_first_dot, after_last_slash}
-use Rattle.designer_command.proofs.ThinForm.{IsThinRouter, thin_router, off_name}
+use Rattle.std.proofs.Common.{◌∙◌, sym, ap}
+use Rattle.config_reader.specs.Faults.{is_router_name}
+use Rattle.designer_command.proofs.ThinForm.{thin_router, off_name}
 use Rattle.designer_command.proofs.thin_config.read_thin_config.Goals as goal
 
 pub returns-then-not-is_router_name-clause-off_form :

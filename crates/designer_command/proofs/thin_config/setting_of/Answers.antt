@@ -1,7 +1,5 @@
-use Rattle.std.proofs.Common.{◌≡◌, ◌∙◌, sym, [], ◌∷◌, refl, true}
+use Rattle.std.proofs.Common.{◌∙◌, sym, ◌∷◌}
 use Rattle.std.specs.Prelude.{codes}
-use Rattle.std.proofs.lemmas.Bool.{not-false}
-use Rattle.cost_base.specs.Lists.{same_bytes}
 use Rattle.text_lines.specs.Lines.{words}
 use Rattle.designer_command.proofs.ThinPlaces.{begins_two, off_second}
 use Rattle.designer_command.proofs.thin_config.setting_of.Goals as goal

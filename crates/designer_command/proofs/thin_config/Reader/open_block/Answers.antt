@@ -1,9 +1,7 @@
-use Rattle.std.proofs.Common.{◌≡◌, ◌∙◌, sym, ap, Some, None, length, List}
+use Rattle.std.proofs.Common.{◌∙◌, sym, ap}
 use Rattle.std.specs.Prelude.{position}
 use Rattle.cost_base.specs.Lists.{same_bytes}
 use Rattle.interface_model.specs.declared.Interface.{Interface}
-use Rattle.config_reader.specs.Statements.{OfInterface}
-use Rattle.designer_command.specs.ThinReads.{IsOpen, with_interface}
 use Rattle.designer_command.proofs.ThinPlaces.{placed_known, placed_new, ok_both, open_at_same}
 use Rattle.designer_command.proofs.thin_config.Reader.open_block.Goals as goal
 

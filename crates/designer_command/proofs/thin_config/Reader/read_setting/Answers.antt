@@ -1,4 +1,4 @@
-use Rattle.std.proofs.Common.{◌≡◌, ◌<◌, ◌∙◌, sym, ap, refl, arith, length, set, Some}
+use Rattle.std.proofs.Common.{◌<◌, ◌∙◌, sym, ap, refl, arith, length, set, Some}
 use Rattle.std.specs.Vec.{with_item}
 use Rattle.interface_model.specs.declared.Interface.{Interface}
 use Rattle.designer_command.specs.declared.thin_config.Reader.{Reader}

@@ -14,7 +14,7 @@ use std::alloc::Global;
 
 /// The status of a run whose text was put, or not put whole.
 fn end_status(put: Result<(), PutFailed>, aim: Status) -> Status
-    ensures { result ≡ status_after put.entry aim }
+    ensures { result ≡ status_after put aim }
 {
     match put {
         Ok(()) => aim,
@@ -24,7 +24,7 @@ fn end_status(put: Result<(), PutFailed>, aim: Status) -> Status
 
 /// Puts a line, where memory sufficed to make it.
 fn put_line<K: Sink>(line: Result<Vec<u8>, OutOfMemory>, aim: Status, out: &mut K) -> Status
-    ensures { MatchResult line.entry (λ bytes. IsEnd aim bytes.items (K.got out.old) (K.got out.new) (K.faults out.old) (K.faults out.new) result)
+    ensures { MatchResult line (λ bytes. IsEnd aim bytes.items (K.got out.old) (K.got out.new) (K.faults out.old) (K.faults out.new) result)
         (λ _. (result ≡ Status.OutOfMemory) × (K.got out.new ≡ K.got out.old)) }
 {
     match line {
