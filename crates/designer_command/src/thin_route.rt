@@ -1,6 +1,7 @@
 //! Resolves the route of a wanted path.
-ghost use Rattle.std.specs.Prelude.{◌≡◌, ℕ, ◌+◌, ◌==◌, ◌&&◌, ◌++◌, [], Some, true, false, slice_get, slice_index_or, IfOk, OnOk, IsErrOf};
+ghost use Rattle.std.specs.Prelude.{◌≡◌, ◌↔◌, ℕ, ◌+◌, ◌==◌, ◌&&◌, ◌++◌, [], Some, true, false, slice_get, slice_index_or, IfOk, IsTrue, OnOk, IsErrOf};
 ghost use Rattle.std.specs.List.{list_any};
+ghost use Rattle.area_graph.specs.Paths.{IsSimple};
 ghost use Rattle.lsdb_build.specs.Graphs.{router_of};
 ghost use Rattle.path_requests.specs.Meaning.{next_name, router_number, link_number, hop_edges, route_edges};
 ghost use Rattle.path_requests.specs.Resolution.{knows_router, knows_link, leads_to_router, is_known, is_joined, resolves_route};
@@ -152,7 +153,7 @@ fn route_edges(
     Ok(edges)
 }
 
-/// The request of a route whose hops are known and join, as its path is simple or not.
+/// The request of a route as it is written, whether it resolves or not.
 fn plain_request(
     alloc: Global,
     lsdb: &Lsdb,
@@ -174,6 +175,13 @@ fn plain_request(
     })
 }
 
+/// Whether the path of a request is simple.
+fn has_simple_path(graph: &Graph, request: &Request) -> bool
+    ensures { IsTrue result ↔ IsSimple graph.now request.now.path.start request.now.path.edges request.now.end }
+{
+    is_simple(graph, &request.path, request.end)
+}
+
 /// The request of a route that resolves; off the form exactly where it doesn't.
 pub(crate) fn resolve_route(
     alloc: Global,
@@ -192,7 +200,7 @@ pub(crate) fn resolve_route(
         return Err(ThinStop::OffForm);
     }
     let request = plain_request(alloc, lsdb, graph, route)?;
-    if !is_simple(graph, &request.path, request.end) {
+    if !has_simple_path(graph, &request) {
         return Err(ThinStop::OffForm);
     }
     Ok(request)
