@@ -20,3 +20,5 @@ pub mod ThinReading
 pub mod ThinPlaces
 pub mod CornerLaws
 pub mod Pieces
+pub mod ThinFirstPlaces
+pub mod ThinResolving

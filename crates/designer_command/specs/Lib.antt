@@ -2,6 +2,7 @@ pub mod Jobs
 pub mod ThinConfigs
 pub mod ThinReads
 pub mod ThinRequests
+pub mod ThinResolution
 pub mod Outcomes
 pub mod Texts
 pub mod ReadBack

@@ -7,12 +7,13 @@ mod floor;
 mod lines;
 mod problem;
 mod reading;
-
 mod stop;
 mod thin;
 mod thin_config;
+mod thin_lookup;
 mod thin_request;
 mod thin_resolve;
+mod thin_route;
 mod top_call;
 mod words;
 
