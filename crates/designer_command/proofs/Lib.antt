@@ -22,3 +22,4 @@ pub mod CornerLaws
 pub mod Pieces
 pub mod ThinFirstPlaces
 pub mod ThinResolving
+pub mod ShortAnswers
