@@ -55,6 +55,6 @@ finish {T} {E} {a} {b} {f0} {f1} {total} {x} u =
     }
 
 -- what is left begins with the next piece
-pub joined_turn : (pieces : List (Bor (List ℕ))) (i : ℕ) (piece : Bor (List ℕ)) → i < length pieces → piece ≡ get_or pieces i piece → joined (drop i pieces) ≡ piece.now ++ joined (drop (i + 1) pieces)
-joined_turn pieces i piece below is =
-    ap joined (drop-cons pieces i piece below) ∙ (rw add-one (ap (λ (p : Bor (List ℕ)). p.now ++ joined (drop (suc i) pieces)) (sym is)))
+pub joined_turn : (pieces : List (Bor (List ℕ))) (i : ℕ) (d : Bor (List ℕ)) (bytes : List ℕ) → i < length pieces → bytes ≡ (get_or pieces i d).now → joined (drop i pieces) ≡ bytes ++ joined (drop (i + 1) pieces)
+joined_turn pieces i d bytes below is =
+    ap joined (drop-cons pieces i d below) ∙ (rw add-one (ap (λ (b : List ℕ). b ++ joined (drop (suc i) pieces)) (sym is)))
