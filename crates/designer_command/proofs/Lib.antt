@@ -16,3 +16,4 @@ pub mod ThinSteps
 pub mod ThinForm
 pub mod ThinReading
 pub mod ThinPlaces
+pub mod ShortLines
