@@ -23,3 +23,4 @@ pub mod Pieces
 pub mod ThinFirstPlaces
 pub mod ThinResolving
 pub mod ShortAnswers
+pub mod ShortLines
