@@ -83,9 +83,9 @@ config_held held other name same = ap (λ (file : Option (List ℕ)). if_short n
 
 one_name : (name other : List ℕ) → Contains (name ∷ []) other → name ≡ other
 one_name name other h = elim (Contains-push_cases [] name other h) [
-    | inl none ↦ absurd (none_below none.1)
-    | inr same ↦ same
-  ]
+  | inl none ↦ absurd (none_below none.1)
+  | inr same ↦ same
+]
   where
     none_below : {k : ℕ} → k < 0 → ⊥
     none_below h = omega arith

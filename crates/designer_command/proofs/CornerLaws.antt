@@ -21,7 +21,10 @@ use Rattle.path_rows.specs.Boxes.{IsInBox}
 use Rattle.path_rows.specs.Rows.{IsFit, IsBest, IsRow, box_of, greatest_cost}
 use Rattle.path_rows.specs.Answers.{AnswerParts, IsValid, ShowsLeast, Names}
 use Rattle.path_rows.proofs.ProblemTrees.{le_greatest}
+use Rattle.path_rows.specs.Text.{IsAnswer}
 use Rattle.designer_command.specs.Corners.{LowLines, AnswersLow, ShowsFloor}
+use Rattle.designer_command.proofs.ShortAnswers.{FitsFloor, short_answer}
+use Rattle.designer_command.proofs.ShortLines.{low_lines_short}
 
 -- a line more for a name more
 pub zip_push : {A B : Type 0} (R : A → B → Type 0) (xs : List A) (ys : List B) (x : A) (y : B) → AllZip R xs ys → R x y → AllZip R (xs ++ x ∷ []) (ys ++ y ∷ [])
@@ -110,15 +113,15 @@ low_answers p lines floor fit zip shows =
 greatest-reached_from : (a : ℕ) (w : List ℕ) → (fold max a w ≡ a) ⊎ ((k : ℕ) × (k < length w) × (slice_index w k ≡ fold max a w))
 greatest-reached_from a [] = inl refl
 greatest-reached_from a (x ∷ w) = elim (greatest-reached_from (max a x) w) [
-    | inl same ↦ by_first (le_cases a x) same
-    | inr found ↦ inr (suc found.0, omega arith, found.2)
-  ]
+  | inl same ↦ by_first (le_cases a x) same
+  | inr found ↦ inr (suc found.0, omega arith, found.2)
+]
   where
     le_cases : (a x : ℕ) → (max a x ≡ a) ⊎ (max a x ≡ x)
     le_cases a x = elim (cases_lt a x) [
-        | inl below ↦ inr (omega arith)
-        | inr above ↦ inl (omega arith)
-      ]
+      | inl below ↦ inr (omega arith)
+      | inr above ↦ inl (omega arith)
+    ]
 
     by_first : (max a x ≡ a) ⊎ (max a x ≡ x) → fold max (max a x) w ≡ max a x → (fold max a (x ∷ w) ≡ a) ⊎ ((k : ℕ) × (k < length (x ∷ w)) × (slice_index (x ∷ w) k ≡ fold max a (x ∷ w)))
     by_first (inl first) same = inl (same ∙ first)
@@ -128,9 +131,9 @@ greatest-reached_from a (x ∷ w) = elim (greatest-reached_from (max a x) w) [
 pub greatest-none : (w : List ℕ) → ((k : ℕ) → k < length w → slice_index w k ≡ greatest_cost w → ⊥) → length w ≡ 0
 greatest-none [] none = refl
 greatest-none (x ∷ w) none = elim (greatest-reached_from (max 0 x) w) [
-    | inl same ↦ absurd (none 0 (omega arith) (omega (arith, same)))
-    | inr found ↦ absurd (none (suc found.0) (omega arith) found.2)
-  ]
+  | inl same ↦ absurd (none 0 (omega arith) (omega (arith, same)))
+  | inr found ↦ absurd (none (suc found.0) (omega arith) found.2)
+]
 
 -- the line of the next name
 pub line_of_name : (low : List ℕ) (names : List VarName) (i : ℕ) (name : VarName) (lines : List CostLine) (line : CostLine) →
@@ -149,5 +152,21 @@ pub low_answers_as : (p : DesignProblem) (k : ℕ) (printed lines : List CostLin
 low_answers_as p k printed lines floor rows fit zip shows greatest same none =
     let printed_zip : LowLines p.low p.vars printed = subst (λ (ls : List CostLine). LowLines p.low p.vars ls) (sym same) zip in
     let with_rows : (rs : List Row) → rs ≡ [] → AnswersLow p (record { verdict = Optimal (greatest_cost p.low); costs = Some (record { greatest = greatest_cost p.low; lines = printed }); floor = floor; rows = rs; proof = None; unfinished = None })
-        = λ rs e. rw e (low_answers p printed floor fit printed_zip shows) in
+    = λ rs e. rw e (low_answers p printed floor fit printed_zip shows) in
     rw greatest (with_rows rows none)
+
+-- a floor's variable has a number of 32 bits
+floor_fits : (p : DesignProblem) (floor : Floor) → IsProblem p → ShowsFloor p.low floor → FitsFloor floor
+floor_fits p Absent kept shows = absurd shows
+floor_fits p Empty kept shows = tt
+floor_fits p (Var v) kept shows = let few = kept.var_count in omega (arith, shows.0)
+
+-- the answer at the lower bounds keeps what every answer keeps
+pub low_answer_kept : (p : DesignProblem) (k : ℕ) (printed lines : List CostLine) (floor : Floor) (rows : List Row) → IsProblem p → ((v : ℕ) → v < length p.low → slice_index p.low v ≤ 65535) → LowLines p.low p.vars lines → ShowsFloor p.low floor →
+    k ≡ greatest_cost p.low → printed ≡ lines → rows ≡ [] →
+    IsAnswer (record { verdict = Optimal k; costs = Some (record { greatest = k; lines = printed }); floor = floor; rows = rows; proof = None; unfinished = None })
+low_answer_kept p k printed lines floor rows kept most zip shows greatest same none =
+    let printed_zip : LowLines p.low p.vars printed = subst (λ (ls : List CostLine). LowLines p.low p.vars ls) (sym same) zip in
+    let small : greatest_cost p.low ≤ 65535 = greatest-le 0 65535 p.low (omega arith) most in
+    let fits : k ≤ 65535 = omega (arith, greatest) in
+    rw none (short_answer (Optimal k) (record { greatest = k; lines = printed }) floor fits (low_lines_short p printed kept most printed_zip) fits (floor_fits p floor kept shows))

@@ -37,15 +37,15 @@ pub problem_ready : (held : List ℕ → Option (List ℕ)) (job : Job) (asked :
 problem_ready held job asked routers d p says made solved =
     let Q : Design → Type 0 = λ x. (x.problem ≡ p) × (x.database ≡ d) in
     let of_database : (files : List ConfigFile) → OnReady (after_topology job asked files d) Q = λ files.
-        both_ready (problem_read job.request asked d) (λ q. Ready (record { asked = asked; files = files; database = d; problem = q })) Q (ready_so (problem_read job.request asked d) (λ read. p ≡ read) (λ q. (q ≡ p) × (d ≡ d)) solved (λ q e. (sym e, refl))) in
+    both_ready (problem_read job.request asked d) (λ q. Ready (record { asked = asked; files = files; database = d; problem = q })) Q (ready_so (problem_read job.request asked d) (λ read. p ≡ read) (λ q. (q ≡ p) × (d ≡ d)) solved (λ q e. (sym e, refl))) in
     let of_files : (files : List ConfigFile) → routers ≡ routers_of files → OnReady (after_configs job asked files) Q = λ files e.
-        both_ready (topology_read job.request asked.area (routers_of files)) (after_topology job asked files) Q
-        (ready_so (topology_read job.request asked.area (routers_of files)) (λ read. d ≡ read) (λ x. OnReady (after_topology job asked files x) Q)
-        (subst (λ (rs : List Router). OnReady (topology_read job.request asked.area rs) (λ read. d ≡ read)) e made)
-        (λ x ex. subst (λ (y : Database). OnReady (after_topology job asked files y) Q) ex (of_database files))) in
+    both_ready (topology_read job.request asked.area (routers_of files)) (after_topology job asked files) Q
+    (ready_so (topology_read job.request asked.area (routers_of files)) (λ read. d ≡ read) (λ x. OnReady (after_topology job asked files x) Q)
+    (subst (λ (rs : List Router). OnReady (topology_read job.request asked.area rs) (λ read. d ≡ read)) e made)
+    (λ x ex. subst (λ (y : Database). OnReady (after_topology job asked files y) Q) ex (of_database files))) in
     let of_asked : OnReady (after_request held job asked) Q =
-        both_ready (configs_read held job.configs) (after_configs job asked) Q
-        (ready_so (configs_read held job.configs) (λ files. routers ≡ routers_of files) (λ files. OnReady (after_configs job asked files) Q) says.configs of_files) in
+    both_ready (configs_read held job.configs) (after_configs job asked) Q
+    (ready_so (configs_read held job.configs) (λ files. routers ≡ routers_of files) (λ files. OnReady (after_configs job asked files) Q) says.configs of_files) in
     both_ready (request_read held job.request) (after_request held job) Q
     (ready_so (request_read held job.request) (λ a. asked ≡ a) (λ a. OnReady (after_request held job a) Q) says.request (λ a e. subst (λ (x : Asked). OnReady (after_request held job x) Q) e of_asked))
 
@@ -68,18 +68,18 @@ by_topology : (held : List ℕ → Option (List ℕ)) (job : Job) (asked : Asked
     OnRefused (topology_read job.request asked.area routers) P → OnRefused (outcome held job) P
 by_topology held job asked routers P says h =
     topology_refuses held job asked routers P says (λ files e.
-        first_refused (topology_read job.request asked.area (routers_of files)) (after_topology job asked files) P
-        (subst (λ (rs : List Router). OnRefused (topology_read job.request asked.area rs) P) e h))
+    first_refused (topology_read job.request asked.area (routers_of files)) (after_topology job asked files) P
+    (subst (λ (rs : List Router). OnRefused (topology_read job.request asked.area rs) P) e h))
 
 by_problem : (held : List ℕ → Option (List ℕ)) (job : Job) (asked : Asked) (routers : List Router) (d : Database) (P : Refusal → Type 0) → Says held job asked routers →
     OnReady (topology_read job.request asked.area routers) (λ read. d ≡ read) → OnRefused (problem_read job.request asked d) P → OnRefused (outcome held job) P
 by_problem held job asked routers d P says made h =
     topology_refuses held job asked routers P says (λ files e.
-        second_refused (topology_read job.request asked.area (routers_of files)) (after_topology job asked files) P
-        (ready_so (topology_read job.request asked.area (routers_of files)) (λ read. d ≡ read) (λ x. OnRefused (after_topology job asked files x) P)
-        (subst (λ (rs : List Router). OnReady (topology_read job.request asked.area rs) (λ read. d ≡ read)) e made)
-        (λ x ex. subst (λ (y : Database). OnRefused (after_topology job asked files y) P) ex
-        (first_refused (problem_read job.request asked d) (λ q. Ready (record { asked = asked; files = files; database = d; problem = q })) P h))))
+    second_refused (topology_read job.request asked.area (routers_of files)) (after_topology job asked files) P
+    (ready_so (topology_read job.request asked.area (routers_of files)) (λ read. d ≡ read) (λ x. OnRefused (after_topology job asked files x) P)
+    (subst (λ (rs : List Router). OnReady (topology_read job.request asked.area rs) (λ read. d ≡ read)) e made)
+    (λ x ex. subst (λ (y : Database). OnRefused (after_topology job asked files y) P) ex
+    (first_refused (problem_read job.request asked d) (λ q. Ready (record { asked = asked; files = files; database = d; problem = q })) P h))))
 
 -- what stops the request stops the job
 pub request_stops : (held : List ℕ → Option (List ℕ)) (before now : List ℕ → ℕ) (job : Job) (stop : Stop) →

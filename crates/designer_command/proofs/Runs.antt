@@ -17,7 +17,7 @@ use Rattle.designer_command.specs.Texts.{Refusal, refused_line}
 use Rattle.designer_command.specs.Outcomes.{Reading, Untold, Refused, Ready, Design, outcome, OnReady, OnRefused}
 use Rattle.designer_command.specs.Designs.{IsDesigned, OnJob, files_of, MayWrite, RunMeets}
 use Rattle.designer_command.specs.Corners.{AnswersLow}
-use Rattle.designer_command.specs.Stops.{IsEnd, StopEnds, StopsDesign, status_after}
+use Rattle.designer_command.specs.Stops.{IsEnd, StopEnds, StopsCorner, StopsDesign, status_after}
 use Rattle.designer_command.proofs.Readings.{ready_so, refused_so}
 use Rattle.designer_command.proofs.ReadyDesigns.{ready_is}
 use Rattle.designer_command.proofs.DesignedLaws.{designed_is}
@@ -91,10 +91,17 @@ pub low_designed : (held : List ℕ → Option (List ℕ)) (job : Job) (p : Desi
     OnReady (outcome held job) (λ d. IsDesigned d (text a) × IsFit d.problem d.problem.low)
 low_designed held job p a read low fit =
     ready_with (outcome held job) (λ d. (d.problem ≡ p) × IsDatabase d.database) (λ d. IsDesigned d (text a) × IsFit d.problem d.problem.low) read (λ d is h.
-        let answers : AnswersLow d.problem a = subst (λ (q : DesignProblem). AnswersLow q a) (sym h.0) low in
-        (designed_is d a answers.costs d.problem.low (ready_is held job d is) h.1 answers.valid answers.printed answers.names answers.best, subst (λ (q : DesignProblem). IsFit q q.low) (sym h.0) fit))
+    let answers : AnswersLow d.problem a = subst (λ (q : DesignProblem). AnswersLow q a) (sym h.0) low in
+    (designed_is d a answers.costs d.problem.low (ready_is held job d is) h.1 answers.valid answers.printed answers.names answers.best, subst (λ (q : DesignProblem). IsFit q q.low) (sym h.0) fit))
 
 -- the lower bounds aren't fit
 pub low_unfit : (held : List ℕ → Option (List ℕ)) (job : Job) (p : DesignProblem) → OnReady (outcome held job) (λ d. (d.problem ≡ p) × IsDatabase d.database) → (IsFit p p.low → ⊥) → OnReady (outcome held job) (λ d. IsFit d.problem d.problem.low → ⊥)
 low_unfit held job p read unfit =
     ready_so (outcome held job) (λ d. (d.problem ≡ p) × IsDatabase d.database) (λ d. IsFit d.problem d.problem.low → ⊥) read (λ d h. subst (λ (q : DesignProblem). IsFit q q.low → ⊥) (sym h.0) unfit)
+
+-- what stops a design at the lower bounds
+pub corner_stops : (held : List ℕ → Option (List ℕ)) (before now : List ℕ → ℕ) (job : Job) (names : List (List ℕ)) (p : DesignProblem) (stop : Stop) → OnReady (outcome held job) (λ d. (d.problem ≡ p) × IsDatabase d.database) → StopsCorner p stop → StopsDesign (outcome held job) before now names stop
+corner_stops held before now job names p (stops.Refused number file line) read stopped = absurd stopped
+corner_stops held before now job names p (stops.ReadFault file) read stopped = absurd stopped
+corner_stops held before now job names p stops.CornerNotFit read stopped = low_unfit held job p read stopped
+corner_stops held before now job names p stops.OutOfMemory read stopped = tt

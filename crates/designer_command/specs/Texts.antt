@@ -1,5 +1,5 @@
 -- The lines that a run writes beside an answer.
-use Rattle.std.specs.Prelude.{ℕ, List, [], ◌∷◌, ◌++◌, codes}
+use Rattle.std.specs.Prelude.{ℕ, List, [], ◌∷◌, ◌++◌, codes, map}
 use Rattle.std.specs.List.{concat, join_with_byte}
 use Rattle.std.specs.Borrow.{Bor}
 use Rattle.cost_base.specs.Decimal.{decimal}

@@ -48,7 +48,8 @@ fn low_line(alloc: Global, name: &VarName, low: &[u16]) -> Result<CostLine, OutO
 
 /// The lines that give each free interface its lower bound, in order.
 fn low_lines(alloc: Global, problem: &Problem) -> Result<Vec<CostLine>, OutOfMemory>
-    ensures { IfOk result (λ lines. Names problem.now lines.items problem.now.low) }
+    ensures lines { IfOk result (λ lines. Names problem.now lines.items problem.now.low) }
+    ensures most { (k : ℕ) → k < length problem.now.low → slice_index problem.now.low k ≤ 65535 }
 {
     let low = problem.low.as_slice();
     let mut lines = Vec::new(alloc);

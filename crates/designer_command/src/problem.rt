@@ -9,7 +9,6 @@ use crate::reading::{read_configs, read_request};
 use crate::stop::Stop;
 use crate::thin::ThinStop;
 use crate::thin_resolve::resolve_thin;
-
 use crate::words::JobWords;
 use cost_base::Shelf;
 use interface_model::RouterConfig;

@@ -64,12 +64,7 @@ fn write_stop<K: Sink>(alloc: Global, stop: Stop<'_>, out: &mut K) -> Status
 /// `InputRefused` with the first fault; `ReadFault` where a file of the words failed; `WriteFault` where the sink's count
 /// of faults rose, and then a part of a text that this call may write was written; `OutOfMemory`, and then nothing was
 /// written; `WordsRefused` exactly off the words, with the usage text.
-pub fn run<S: Shelf, K: Sink>(
-    alloc: Global,
-    words: &[String],
-    shelf: &mut S,
-    out: &mut K,
-) -> Status
+pub fn run<S: Shelf, K: Sink>(alloc: Global, words: &[String], shelf: &mut S, out: &mut K) -> Status
     ensures meets { RunMeets (texts words.now) (S.held shelf.old) (S.faults shelf.old) (S.faults shelf.new) (K.got out.old) (K.got out.new) (K.faults out.old) (K.faults out.new) result }
     ensures held { (name : List ℕ) → S.held shelf.new name ≡ S.held shelf.old name }
 {

@@ -1,6 +1,7 @@
 -- Each piece is put after the others.
 use Rattle.std.proofs.Common.{ℕ, ◌+◌, ◌<◌, List, [], drop, length, rules, ◌≡◌, subst}
 use Rattle.std.specs.Borrow.{Bor}
+use Rattle.std.proofs.lemmas.List.{drop_all}
 use Rattle.designer_command.specs.Texts.{joined}
 use Rattle.designer_command.proofs.Pieces.{IsUnderway, begin, turn, stop_at, finish, joined_turn}
 use Rattle.designer_command.proofs.lines.put_pieces.Goals as goal
@@ -22,5 +23,5 @@ returns-in_err-put g c =
 
 pub returns : goal.returns
 returns g c =
-    let same : drop c.loop-piece.piece-index c.args.pieces.now ≡ [] = search rules in
+    let same = drop_all c.loop-piece.piece-index c.args.pieces.now c.loop-piece-test.false in
     finish (subst (λ (left : List (Bor (List ℕ))). IsUnderway (g.K.Sink.got c.args.out.now) (g.K.Sink.got c.loop-piece.out) (g.K.Sink.faults c.args.out.now) (g.K.Sink.faults c.loop-piece.out) (joined left) (joined c.args.pieces.now)) same c.loop-piece.invariant)
