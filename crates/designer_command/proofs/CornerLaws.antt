@@ -1,5 +1,5 @@
 -- The lower bounds as costs.
-use Rattle.std.proofs.Common.{◌≡◌, ℕ, ◌+◌, ◌*◌, ◌^◌, ◌<◌, ◌≤◌, refl, sym, List, [], ◌∷◌, ◌++◌, length, fold, max, suc, arith, Some, None}
+use Rattle.std.proofs.Common.{◌≡◌, ℕ, ◌+◌, ◌*◌, ◌<◌, ◌≤◌, refl, sym, List, [], ◌∷◌, ◌++◌, length, fold, max, suc, arith, Some, None}
 use Rattle.std.specs.Prelude.{All, slice_index}
 use Rattle.std.proofs.Common.{get_or, lit<, inl, inr, ◌∙◌}
 use Rattle.std.specs.Prelude.{◌⊎◌}
@@ -13,13 +13,12 @@ use Rattle.std.specs.List.{AllZip}
 use Rattle.area_graph.specs.Costs.{FitsPoint, at_costs}
 use Rattle.path_rows.specs.declared.answer.Verdict.TheVariants.{Optimal}
 use Rattle.path_rows.specs.declared.answer.CostLine.{CostLine}
-use Rattle.path_rows.specs.declared.answer.Costs.{Costs}
 use Rattle.path_rows.specs.declared.answer.Floor.{Floor}
 use Rattle.path_rows.specs.declared.answer.Floor.TheVariants.{Absent, Empty, Var}
 use Rattle.path_rows.specs.Problems.{DesignProblem, IsProblem}
 use Rattle.path_rows.specs.Boxes.{IsInBox}
 use Rattle.path_rows.specs.Rows.{IsFit, IsBest, IsRow, box_of, greatest_cost}
-use Rattle.path_rows.specs.Answers.{AnswerParts, IsValid, ShowsLeast, Names}
+use Rattle.path_rows.specs.Answers.{ShowsLeast}
 use Rattle.path_rows.proofs.ProblemTrees.{le_greatest}
 use Rattle.path_rows.specs.Text.{IsAnswer}
 use Rattle.designer_command.specs.Corners.{LowLines, AnswersLow, ShowsFloor}

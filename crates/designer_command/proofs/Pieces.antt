@@ -1,8 +1,7 @@
 -- Pieces put one after another.
-use Rattle.std.proofs.Common.{◌≡◌, ℕ, ◌+◌, ◌<◌, ◌≤◌, List, [], ◌∷◌, ◌++◌, length, map, get_or, drop, suc, refl, sym, ap, ◌∙◌, subst, append_assoc, append-nil, add-one, arith, Option, Some, None, Result, Ok, Err, drop-cons}
+use Rattle.std.proofs.Common.{◌≡◌, ℕ, ◌+◌, ◌<◌, ◌≤◌, List, [], ◌++◌, length, get_or, drop, suc, refl, sym, ap, ◌∙◌, subst, append_assoc, append-nil, add-one, arith, Option, Some, None, Result, Ok, Err, drop-cons}
 use Rattle.std.proofs.lemmas.Bool.{false≢true}
 use Rattle.std.specs.Result.{IsErr}
-use Rattle.std.specs.List.{concat}
 use Rattle.std.specs.Borrow.{Bor}
 use Rattle.cost_base.specs.Outside.{GotWhole, GotPart, HasCause}
 use Rattle.cost_base.proofs.Puts.{whole_whole, whole_part, part_more}

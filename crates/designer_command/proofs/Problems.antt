@@ -1,6 +1,6 @@
 -- The readings of a job, one bound after another, as the code makes them.
 use Rattle.std.proofs.Common.{◌≡◌, ℕ, ◌<◌, refl, sym, subst, List, [], ◌∷◌, string_bytes}
-use Rattle.std.specs.Prelude.{Option, Contains}
+use Rattle.std.specs.Prelude.{Option}
 use Rattle.std.proofs.lemmas.List.Elements.{Contains-append_left, Contains-append_right}
 use Rattle.interface_model.specs.Records.{Router}
 use Rattle.lsdb_build.specs.Graphs.{Database}

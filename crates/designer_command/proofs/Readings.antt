@@ -1,5 +1,5 @@
 -- Readings of files, one bound after another.
-use Rattle.std.proofs.Common.{◌≡◌, ℕ, ◌≤◌, ◌<◌, refl, sym, List, length}
+use Rattle.std.proofs.Common.{◌≡◌, ℕ, ◌≤◌, refl, List, length}
 use Rattle.std.proofs.lemmas.Bool.{lt-ltb, le-ltb}
 use Rattle.std.specs.Prelude.{Option, Some, None}
 use Rattle.cost_base.specs.Outside.{IsFile, IsLonger}

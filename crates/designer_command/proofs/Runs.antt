@@ -1,6 +1,6 @@
 -- How a run ends, by what was put.
-use Rattle.std.proofs.Common.{◌≡◌, ℕ, refl, sym, ap, subst, List, ◌∷◌, inl, inr, string_bytes}
-use Rattle.std.specs.Prelude.{Option, None, Some, Result, Ok, Err, OnOk, OnErr, ◌⊎◌}
+use Rattle.std.proofs.Common.{◌≡◌, ℕ, refl, sym, ap, subst, List, inl, inr, string_bytes}
+use Rattle.std.specs.Prelude.{Option, Some, Result, Ok, Err, OnOk, OnErr}
 use Rattle.cost_base.specs.declared.Status.{Status}
 use Rattle.cost_base.specs.declared.Status.TheVariants as status
 use Rattle.cost_base.specs.declared.PutFailed.{PutFailed}
@@ -14,7 +14,7 @@ use Rattle.designer_command.specs.declared.stop.Stop.{Stop}
 use Rattle.designer_command.specs.declared.stop.Stop.TheVariants as stops
 use Rattle.designer_command.specs.Jobs.{Job, job_of}
 use Rattle.designer_command.specs.Texts.{Refusal, refused_line}
-use Rattle.designer_command.specs.Outcomes.{Reading, Untold, Refused, Ready, Design, outcome, OnReady, OnRefused}
+use Rattle.designer_command.specs.Outcomes.{Reading, Untold, Refused, Ready, outcome, OnReady, OnRefused}
 use Rattle.designer_command.specs.Designs.{IsDesigned, OnJob, files_of, MayWrite, RunMeets}
 use Rattle.designer_command.specs.Corners.{AnswersLow}
 use Rattle.designer_command.specs.Stops.{IsEnd, StopEnds, StopsCorner, StopsDesign, status_after}

@@ -10,7 +10,7 @@ use Rattle.path_rows.specs.Rows.{IsFit, IsBest, box_of}
 use Rattle.path_rows.specs.Answers.{AnswerParts, IsValid}
 use Rattle.path_rows.specs.Text.{text}
 use Rattle.designer_command.specs.Jobs.{Job, job_of}
-use Rattle.designer_command.specs.Texts.{Refusal, refused_line, read_fault_line, corner_line, usage}
+use Rattle.designer_command.specs.Texts.{refused_line, read_fault_line, corner_line, usage}
 use Rattle.designer_command.specs.Outcomes.{Design, outcome, OnReady, OnRefused}
 use Rattle.designer_command.specs.ReadBack.{graph_back, graph_with}
 

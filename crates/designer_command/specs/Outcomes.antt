@@ -1,5 +1,5 @@
 -- What the files of a job say, read in their order: the request, each configuration, the topology, resolution.
-use Rattle.std.specs.Prelude.{ℕ, List, [], ◌∷◌, nat_lt, if◌then◌else◌, Bool, true, false, Option, Some, None, length, map}
+use Rattle.std.specs.Prelude.{ℕ, List, [], ◌∷◌, nat_lt, if◌then◌else◌, Option, Some, None, length, map}
 use Rattle.interface_model.specs.Records.{Router}
 use Rattle.config_reader.specs.Configs.{config_of}
 use Rattle.lsdb_build.specs.Graphs.{Database}

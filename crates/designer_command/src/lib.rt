@@ -8,6 +8,8 @@ mod lines;
 mod problem;
 mod reading;
 mod stop;
+#[cfg(test)]
+mod tests;
 mod thin;
 mod thin_config;
 mod thin_lookup;

@@ -3,7 +3,7 @@
 
 use cost_base::{FileShelf, OutSink, Status};
 use designer_command::run;
-use std::env;
+use std::env::{self, Env};
 use std::io::{self, ErrorKind};
 use std::process::ExitCode;
 

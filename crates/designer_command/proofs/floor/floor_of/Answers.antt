@@ -1,5 +1,5 @@
 -- Where no bound is the greatest, there is no variable.
-use Rattle.std.proofs.Common.{◌≡◌, ℕ, ◌<◌, ◌∙◌, sym, length, arith}
+use Rattle.std.proofs.Common.{◌∙◌, sym, arith}
 use Rattle.designer_command.proofs.CornerLaws.{greatest-none}
 use Rattle.designer_command.proofs.floor.floor_of.Goals as goal
 

@@ -1,12 +1,6 @@
 -- A line more for a name more.
-use Rattle.std.proofs.Common.{◌≡◌, ◌<◌, List, take, length, ◌++◌, ◌∷◌, [], ap, sym, subst, ◌∙◌}
-use Rattle.std.proofs.Math.Seq.{take-suc}
-use Rattle.std.proofs.Common.{add-one, rules}
-use Rattle.designer_command.specs.Corners.{LowLines}
-use Rattle.path_rows.specs.declared.problem.VarName.{VarName}
-use Rattle.path_rows.specs.declared.answer.CostLine.{CostLine}
-use Rattle.std.specs.Prelude.{slice_index}
-use Rattle.designer_command.proofs.CornerLaws.{zip_push, line_of_name}
+use Rattle.std.proofs.Common.{rules}
+use Rattle.designer_command.proofs.CornerLaws.{line_of_name}
 use Rattle.designer_command.proofs.floor.low_lines.Goals as goal
 
 pub loop-name-preserved : goal.loop-name-preserved

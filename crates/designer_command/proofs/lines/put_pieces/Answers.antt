@@ -1,5 +1,5 @@
 -- Each piece is put after the others.
-use Rattle.std.proofs.Common.{ℕ, ◌+◌, ◌<◌, List, [], drop, length, rules, ◌≡◌, subst}
+use Rattle.std.proofs.Common.{ℕ, ◌+◌, ◌<◌, List, drop, length, rules, subst}
 use Rattle.std.specs.Borrow.{Bor}
 use Rattle.std.proofs.lemmas.List.{drop_all}
 use Rattle.designer_command.specs.Texts.{joined}
