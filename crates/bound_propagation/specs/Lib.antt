@@ -1,0 +1,2 @@
+pub mod Tightening
+pub mod Ranges

@@ -1,0 +1,21 @@
+-- When a form alone makes the range of a variable smaller.
+use Rattle.std.specs.Prelude.{ℕ, ◌<◌, pos, ◌<ℤ◌, ◌≤ℤ◌, length}
+use Rattle.path_rows.specs.declared.form.Form.{Form}
+use Rattle.path_rows.specs.declared.form.CostBox.{CostBox}
+use Rattle.path_rows.specs.declared.tree.Side.{Side}
+use Rattle.path_rows.specs.Boxes.{greatest}
+use Rattle.path_rows.specs.Trees.{IsSmaller, removed}
+use Rattle.path_rows.specs.Earnest.{at_bound}
+
+-- the new bound makes the range smaller, and not empty; the form refutes the part that is removed, and doesn't refute
+-- the new bound itself
+pub record IsExactTightening (form : Form) (box : CostBox) (side : Side) (var value : ℕ) : Type 0 where
+  pub var_known : var < length box.low
+  pub smaller : IsSmaller box side var value
+  pub refuted : greatest form (removed box side var value) <ℤ pos 0
+  pub exact : pos 0 ≤ℤ greatest form (at_bound box var value)
+
+-- of each variable before the given number, the form refutes no part at an end that leaves something of its range
+abbrev pub NoneBefore : Form → CostBox → ℕ → Type 0
+NoneBefore form box count =
+    (var : ℕ) → var < count → (side : Side) (value : ℕ) → IsSmaller box side var value → greatest form (removed box side var value) <ℤ pos 0 → ⊥

@@ -1,0 +1,9 @@
+//! Bound propagation: a form alone makes the range of a variable smaller.
+#![tactic(auto)]
+
+mod range;
+#[cfg(test)]
+mod tests;
+mod tightening;
+
+pub use tightening::{Step, tighten};
