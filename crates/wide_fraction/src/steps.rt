@@ -4,8 +4,8 @@ ghost use Rattle.whole_numbers.specs.Fractions.{plus, minus, times, divided, who
 ghost use Rattle.wide_fraction.specs.Widths.{IsWithin, Fits, Passes, IsAnswer};
 
 use crate::words::{
-    bounded_cross_sum, bounded_product, bounded_signed_product, bounded_sum, greatest_common_divisor, quotient,
-    signed_quotient,
+    bounded_cross_sum, bounded_product, bounded_signed_product, bounded_sum,
+    greatest_common_divisor, quotient, signed_quotient,
 };
 use crate::{Frac, Top};
 use cost_base::StepName;
