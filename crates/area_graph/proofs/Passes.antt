@@ -1,0 +1,133 @@
+-- One pass over the edges: the numbers fall, and stay what walks to the target cost at most.
+use Rattle.std.proofs.Common.{◌≡◌, ℕ, ◌+◌, ◌<◌, ◌≤◌, refl, sym, ◌∙◌, ap, subst, List, ◌∷◌, All, length, get_or, set, sum, Bool, true, false, arith, get_or-set_same, get_or-set_other, length-set, below_more}
+use Rattle.std.proofs.lemmas.List.Elements.{All-set}
+use Rattle.std.proofs.lemmas.List.Sums.{sum_by-cons, sum_by-set}
+use native.Mathlib.Decide.{ℕ_discrete}
+use Rattle.cost_base.specs.Lists.{Lacks}
+use Rattle.area_graph.specs.declared.Point.{Point}
+use Rattle.area_graph.specs.Area.{Area, edge_at, no_edge, FitsGraph, FitsEdge}
+use Rattle.area_graph.specs.Costs.{price_at}
+use Rattle.area_graph.specs.Distances.{far, WalkWithin, AreReached, through, SettledBelow, StaysBy, ShorterBy}
+
+-- what a pass has done after n edges: from `old` to `d`, whether a number was lowered
+pub record Passed (g : Area) (p : Point) (gone : List ℕ) (n : ℕ) (old d : List ℕ) (lowered : Bool) : Type 0 where
+  pub count : length d ≡ length old
+  pub bounded : All (λ x. x ≤ far p) d
+  pub reached : (t : ℕ) → AreReached g p gone t old → AreReached g p gone t d
+  pub lower : lowered ≡ true → sum d < sum old
+  pub same : lowered ≡ false → sum d ≡ sum old
+  pub settled : lowered ≡ false → SettledBelow n g p gone d
+
+-- a pass begins
+pub passed_none : (g : Area) (p : Point) (gone : List ℕ) (d : List ℕ) → All (λ x. x ≤ far p) d → Passed g p gone 0 d d false
+passed_none g p gone d bounded = record {
+  count = refl;
+  bounded = bounded;
+  reached = λ t are. are;
+  lower = λ h. absurd (clash h);
+  same = λ h. refl;
+  settled = λ h e below lacks. absurd (omega arith);
+}
+  where
+    clash : false ≡ true → ⊥
+    clash h = cc
+
+-- an edge that is gone, or leads to no smaller number
+pub passed_stays : (g : Area) (p : Point) (gone : List ℕ) (n : ℕ) (old d new : List ℕ) (lowered : Bool) → Passed g p gone n old d lowered → new ≡ d → (Lacks gone n → StaysBy p (edge_at g n) d new) → Passed g p gone (n + 1) old new lowered
+passed_stays g p gone n old d new lowered passed same stays =
+    subst (λ (xs : List ℕ). Passed g p gone (n + 1) old xs lowered) (sym same)
+    (record {
+      count = passed.count;
+      bounded = passed.bounded;
+      reached = passed.reached;
+      lower = passed.lower;
+      same = passed.same;
+      settled = λ h. below_more (λ (e : ℕ). Lacks gone e → get_or d (edge_at g e).from 0 ≤ through p (edge_at g e) d) n (passed.settled h) (λ lacks. (stays lacks).least);
+    })
+
+-- a walk from an edge's start, by the edge and then by a walk from its end
+walk_more : (g : Area) (p : Point) (gone : List ℕ) (n t : ℕ) (d : List ℕ) → n < length g.edges → Lacks gone n → WalkWithin g p gone (edge_at g n).to t (get_or d (edge_at g n).to 0) → WalkWithin g p gone (edge_at g n).from t (through p (edge_at g n) d)
+walk_more g p gone n t d known lacks walk =
+    let longer = sum_by-cons (λ i. price_at p (edge_at g i).price) n walk.edges in
+    record {
+      edges = n ∷ walk.edges;
+      joins = (known, refl, walk.joins);
+      kept = (lacks, walk.kept);
+      within = omega (arith, longer, walk.within);
+    }
+
+-- the numbers after one was lowered are still what walks cost at most
+reached_lower : (g : Area) (p : Point) (gone : List ℕ) (n t : ℕ) (d : List ℕ) → FitsEdge g (edge_at g n) → length d ≡ length g.vertices → All (λ x. x ≤ far p) d → n < length g.edges → Lacks gone n → through p (edge_at g n) d < get_or d (edge_at g n).from 0 → AreReached g p gone t d → AreReached g p gone t (set d (edge_at g n).from (through p (edge_at g n) d))
+reached_lower g p gone n t d edge count bounded known lacks less are = record { target = target; reached = reached }
+  where
+    from : ℕ
+    from = (edge_at g n).from
+
+    least : ℕ
+    least = through p (edge_at g n) d
+
+    from_within : (edge_at g n).from < length d
+    from_within = omega (arith, edge.from, count)
+
+    to_within : (edge_at g n).to < length d
+    to_within = omega (arith, edge.to, count)
+
+    target : get_or (set d (edge_at g n).from (through p (edge_at g n) d)) t 0 ≡ 0
+    target = elim (ℕ_discrete t (edge_at g n).from) [
+      | yes same ↦ let zero_there = ap (λ (i : ℕ). get_or d i 0) same in absurd (omega (arith, are.target, less, zero_there))
+      | no other ↦ get_or-set_other d (edge_at g n).from t (through p (edge_at g n) d) 0 other ∙ are.target
+    ]
+
+    here : through p (edge_at g n) d < far p → WalkWithin g p gone (edge_at g n).from t (through p (edge_at g n) d)
+    here near = walk_more g p gone n t d known lacks (are.reached (edge_at g n).to to_within (omega arith))
+
+    reached : (v : ℕ) → v < length (set d (edge_at g n).from (through p (edge_at g n) d)) → get_or (set d (edge_at g n).from (through p (edge_at g n) d)) v 0 < far p → WalkWithin g p gone v t (get_or (set d (edge_at g n).from (through p (edge_at g n) d)) v 0)
+    reached v within near = elim (ℕ_discrete v (edge_at g n).from) [
+      | yes same ↦
+          let value : get_or (set d (edge_at g n).from (through p (edge_at g n) d)) v 0 ≡ through p (edge_at g n) d =
+          ap (λ (i : ℕ). get_or (set d (edge_at g n).from (through p (edge_at g n) d)) i 0) same ∙ get_or-set_same d (edge_at g n).from (through p (edge_at g n) d) 0 from_within in
+          let walk = here (subst (λ (x : ℕ). x < far p) value near) in
+          subst (λ (x : ℕ). WalkWithin g p gone v t x) (sym value) (subst (λ (u : ℕ). WalkWithin g p gone u t (through p (edge_at g n) d)) (sym same) walk)
+      | no other ↦
+          let value : get_or (set d (edge_at g n).from (through p (edge_at g n) d)) v 0 ≡ get_or d v 0 = get_or-set_other d (edge_at g n).from v (through p (edge_at g n) d) 0 other in
+          let inside : v < length d = let size = length-set d (edge_at g n).from (through p (edge_at g n) d) in omega (arith, size, within) in
+          subst (λ (x : ℕ). WalkWithin g p gone v t x) (sym value) (are.reached v inside (subst (λ (x : ℕ). x < far p) value near))
+    ]
+
+-- an edge that led to a smaller number
+pub passed_lower : (g : Area) (p : Point) (gone : List ℕ) (n : ℕ) (old d new : List ℕ) (lowered : Bool) → FitsGraph g → length old ≡ length g.vertices → Passed g p gone n old d lowered → n < length g.edges → Lacks gone n → ShorterBy p (edge_at g n) d new → Passed g p gone (n + 1) old new true
+passed_lower g p gone n old d new lowered graph count passed known lacks shorter =
+    subst (λ (xs : List ℕ). Passed g p gone (n + 1) old xs true) (sym shorter.set)
+    (record {
+      count = size ∙ passed.count;
+      bounded = All-set (λ x. x ≤ far p) d (edge_at g n).from (through p (edge_at g n) d) (omega (arith, most, shorter.less)) passed.bounded;
+      reached = λ t are. reached_lower g p gone n t d edge (passed.count ∙ count) passed.bounded known lacks shorter.less (passed.reached t are);
+      lower = λ h. falls;
+      same = λ h. absurd (clash h);
+      settled = λ h. absurd (clash h);
+    })
+  where
+    edge : FitsEdge g (edge_at g n)
+    edge = graph.edges n no_edge known
+
+    from_within : (edge_at g n).from < length d
+    from_within = omega (arith, edge.from, passed.count, count)
+
+    size : length (set d (edge_at g n).from (through p (edge_at g n) d)) ≡ length d
+    size = length-set d (edge_at g n).from (through p (edge_at g n) d)
+
+    most : get_or d (edge_at g n).from 0 ≤ far p
+    most = passed.bounded (edge_at g n).from 0 from_within
+
+    clash : true ≡ false → ⊥
+    clash h = cc
+
+    at_most : (b : Bool) → (b ≡ true → sum d < sum old) → (b ≡ false → sum d ≡ sum old) → sum d ≤ sum old
+    at_most true less same = let h = less refl in omega (arith, h)
+    at_most false less same = let h = same refl in omega (arith, h)
+
+    falls : sum (set d (edge_at g n).from (through p (edge_at g n) d)) < sum old
+    falls =
+        let step = sum_by-set (λ (x : ℕ). x) d (edge_at g n).from (through p (edge_at g n) d) 0 from_within in
+        let before = at_most lowered passed.lower passed.same in
+        omega (arith, step, before, shorter.less)

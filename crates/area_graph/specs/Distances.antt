@@ -1,0 +1,55 @@
+-- Numbers for the vertices that tell of the least costs to a target.
+use Rattle.std.specs.Prelude.{◌≡◌, ◌≢◌, ℕ, ◌+◌, ◌*◌, ◌^◌, ◌<◌, ◌≤◌, ◌↔◌, List, [], ◌∷◌, length, slice_index, slice_index_or, slice_set, All, Bool, true, false}
+use Rattle.cost_base.specs.Lists.{Lacks}
+use Rattle.area_graph.specs.declared.Edge.{Edge}
+use Rattle.area_graph.specs.declared.Point.{Point}
+use Rattle.area_graph.specs.Area.{Area, edge_at, edges_out}
+use Rattle.area_graph.specs.Paths.{Joins, Avoids}
+use Rattle.area_graph.specs.Costs.{price_at, cost}
+
+-- which edges are gone, as a mark for each edge
+abbrev pub AreMarks : List ℕ → List Bool → Type 0
+AreMarks gone marks = (e : ℕ) → e < length marks → (slice_index_or marks e true ≡ false) ↔ Lacks gone e
+
+-- more than a simple path can cost
+abbrev pub far : Point → ℕ
+far p = 2 ^ 26 * p.scale
+
+-- a walk from v to t with no edge that is gone, that costs at most so much
+pub record WalkWithin (g : Area) (p : Point) (gone : List ℕ) (v t most : ℕ) : Type 0 where
+  pub edges : List ℕ
+  pub joins : Joins g v edges t
+  pub kept : Avoids gone edges
+  pub within : cost g p edges ≤ most
+
+-- each number is far, or some walk to t costs no more
+pub record AreReached (g : Area) (p : Point) (gone : List ℕ) (t : ℕ) (d : List ℕ) : Type 0 where
+  pub target : slice_index d t ≡ 0
+  pub reached : (v : ℕ) → v < length d → slice_index d v < far p → WalkWithin g p gone v t (slice_index d v)
+
+-- what a vertex would get by an edge
+abbrev pub through : Point → Edge → List ℕ → ℕ
+through p edge d = price_at p edge.price + slice_index d edge.to
+
+-- none of the first n edges that aren't gone leads to a smaller number
+abbrev pub SettledBelow : ℕ → Area → Point → List ℕ → List ℕ → Type 0
+SettledBelow n g p gone d = (e : ℕ) → e < n → Lacks gone e → slice_index d (edge_at g e).from ≤ through p (edge_at g e) d
+
+-- nothing was changed, since the edge leads to no smaller number
+pub record StaysBy (p : Point) (edge : Edge) (old new : List ℕ) : Type 0 where
+  pub same : new ≡ old
+  pub least : slice_index old edge.from ≤ through p edge old
+
+-- the edge's start got a smaller number
+pub record ShorterBy (p : Point) (edge : Edge) (old new : List ℕ) : Type 0 where
+  pub set : new ≡ slice_set old edge.from (through p edge old)
+  pub less : through p edge old < slice_index old edge.from
+
+-- an edge is gone, is the named one, or leads to more than so much
+abbrev pub IsDearer : Area → Point → List ℕ → List ℕ → ℕ → ℕ → ℕ → Type 0
+IsDearer g p gone d number most e = Lacks gone e → e ≢ number → most < through p (edge_at g e) d
+
+-- at each vertex of the path every other edge that isn't gone leads to more than what the path costs from there
+abbrev pub Leads : Area → Point → List ℕ → List ℕ → List ℕ → Type 0
+Leads g p gone d [] = Unit {0}
+Leads g p gone d (e ∷ es) = All (IsDearer g p gone d e (cost g p (e ∷ es))) (edges_out g (edge_at g e).from) × Leads g p gone d es

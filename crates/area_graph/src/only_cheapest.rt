@@ -1,0 +1,258 @@
+//! Whether a path is only cheapest, by plain distances: passes over all edges until nothing changes. A checker stands on
+//! this module alone for its test of paths, and on no shortest-path algorithm.
+
+ghost use Rattle.std.specs.Prelude.{◌≡◌, ◌↔◌, ◌++◌, ◌∷◌, [], ◌≤◌, ◌<◌, ◌*◌, ◌+◌, ◌^◌, ℕ, All, IfOk, IsTrue, List, MatchBool, false, length, sum, true};
+ghost use Rattle.cost_base.specs.Lists.{Lacks};
+ghost use Rattle.area_graph.specs.Area.{edge_at, edges_out};
+ghost use Rattle.area_graph.specs.Costs.{FitsPoint, IsOnlyCheapest, IsPriced, cost, price_at};
+ghost use Rattle.area_graph.specs.Paths.{IsPathOf, IsSimple};
+ghost use Rattle.area_graph.specs.Distances.{AreMarks, AreReached, IsDearer, Leads, SettledBelow, ShorterBy, StaysBy, far, through};
+
+use crate::costs::{path_cost, price_of};
+use crate::paths::{edge_of, lacks};
+use crate::{Edge, Graph, Path, Point};
+use cost_base::OutOfMemory;
+use std::alloc::Global;
+use std::marker::Model;
+
+/// The edges that a request takes away, with a mark for each edge of the graph that tells at once whether it is one of
+/// them. Contracts see the list of their numbers.
+#[derive(Drop)]
+struct Removal<'a> {
+    gone: &'a [u32],
+    marks: Vec<bool>,
+}
+
+impl<'a> Model for Removal<'a> {
+    ghost use Rattle.std.specs.Prelude.{ℕ, List};
+
+    ghost Value = { List ℕ };
+
+    ghost use Rattle.area_graph.specs.Distances.{AreMarks};
+
+    ghost view = { λ r. r.gone.now };
+
+    ghost invariant = { λ r. AreMarks r.gone.now r.marks.items };
+}
+
+impl<'a> Removal<'a> {
+    fn new(alloc: Global, gone: &'a [u32], edges: usize) -> Result<Removal<'a>, OutOfMemory>
+        ensures { IfOk result (λ removal. removal ≡ gone.now) }
+    {
+        let mut marks = match vec![in alloc; false; edges] {
+            Ok(marks) => marks,
+            Err(_) => return Err(OutOfMemory),
+        };
+        for edge in gone {
+            mark(&mut marks, *edge);
+        }
+        Ok(Removal { gone, marks })
+    }
+
+    fn leaves(&self, edge: u32) -> bool
+        ensures { IsTrue result ↔ Lacks self.now edge }
+    {
+        if (edge as usize) < self.marks.len() {
+            !self.marks[edge as usize]
+        } else {
+            lacks(self.gone, edge)
+        }
+    }
+}
+
+/// Sets the mark of one edge more, if it is an edge of the graph.
+fn mark(marks: &mut Vec<bool>, edge: u32)
+    ensures { (gone : List ℕ) → AreMarks gone marks.old.items → AreMarks (gone ++ edge ∷ []) marks.new.items }
+{
+    if (edge as usize) < marks.len() {
+        marks[edge as usize] = true;
+    }
+}
+
+/// Lowers the number of an edge's start to the edge's price and its end's number, where that is less.
+fn shorten(edge: Edge, point: &Point, distances: &mut Vec<u128>) -> bool
+    requires scale { point.now.scale < 2 ^ 100 }
+    requires price { price_at point.now edge.price ≤ 65535 * point.now.scale }
+    requires known { IsPriced (length point.now.values) edge.price }
+    requires from { edge.from < length distances.old.items }
+    requires to { edge.to < length distances.old.items }
+    requires bounded { All (λ x. x ≤ far point.now) distances.old.items }
+    ensures { MatchBool result (ShorterBy point.now edge distances.old.items distances.new.items) (StaysBy point.now edge distances.old.items distances.new.items) }
+{
+    let least = price_of(edge.price, point) + distances[edge.to as usize];
+    if least < distances[edge.from as usize] {
+        distances[edge.from as usize] = least;
+        true
+    } else {
+        false
+    }
+}
+
+/// Looks at one edge, unless it is gone, and tells whether the number of its start was lowered.
+fn visit(
+    graph: &Graph,
+    point: &Point,
+    removal: &Removal,
+    number: u32,
+    distances: &mut Vec<u128>,
+) -> bool
+    requires fits { FitsPoint graph.now point.now }
+    requires known { number < length graph.now.edges }
+    requires count { length distances.old.items ≡ length graph.now.vertices }
+    requires bounded { All (λ x. x ≤ far point.now) distances.old.items }
+    ensures lowered { IsTrue result → Lacks removal.now number × ShorterBy point.now (edge_at graph.now number) distances.old.items distances.new.items }
+    ensures same { (result ≡ false) → distances.new.items ≡ distances.old.items }
+    ensures least { (result ≡ false) → Lacks removal.now number → StaysBy point.now (edge_at graph.now number) distances.old.items distances.new.items }
+{
+    graph.keeps_conditions();
+    if removal.leaves(number) {
+        shorten(edge_of(graph, number), point, distances)
+    } else {
+        false
+    }
+}
+
+/// Goes once through the edges that aren't gone, and tells whether a number was lowered.
+fn pass(graph: &Graph, point: &Point, removal: &Removal, distances: &mut Vec<u128>) -> bool
+    requires fits { FitsPoint graph.now point.now }
+    requires count { length distances.old.items ≡ length graph.now.vertices }
+    requires bounded { All (λ x. x ≤ far point.now) distances.old.items }
+    ensures count { length distances.new.items ≡ length distances.old.items }
+    ensures bounded { All (λ x. x ≤ far point.now) distances.new.items }
+    ensures reached { (t : ℕ) → AreReached graph.now point.now removal.now t distances.old.items →
+        AreReached graph.now point.now removal.now t distances.new.items }
+    ensures lower { IsTrue result → sum distances.new.items < sum distances.old.items }
+    ensures settled { (result ≡ false) → SettledBelow (length graph.now.edges) graph.now point.now removal.now distances.new.items }
+{
+    graph.keeps_conditions();
+    let mut lowered = false;
+    for number in 0..graph.edges().len() {
+        if visit(graph, point, removal, number as u32, distances) {
+            lowered = true;
+        }
+    }
+    lowered
+}
+
+/// The least costs of the vertices to a target: a vertex from which no path leads there has 2^26 times the scale.
+fn distances_to(
+    alloc: Global,
+    graph: &Graph,
+    point: &Point,
+    removal: &Removal,
+    target: u32,
+) -> Result<Vec<u128>, OutOfMemory>
+    requires fits { FitsPoint graph.now point.now }
+    requires target { target < length graph.now.vertices }
+    ensures count { IfOk result (λ d. length d.items ≡ length graph.now.vertices) }
+    ensures bounded { IfOk result (λ d. All (λ x. x ≤ far point.now) d.items) }
+    ensures reached { IfOk result (λ d. AreReached graph.now point.now removal.now target d.items) }
+    ensures settled { IfOk result (λ d. SettledBelow (length graph.now.edges) graph.now point.now removal.now d.items) }
+{
+    let mut distances = match vec![in alloc; (1 << 26) * point.scale; graph.vertices().len()] {
+        Ok(distances) => distances,
+        Err(_) => return Err(OutOfMemory),
+    };
+    distances[target as usize] = 0;
+    loop {
+        if !pass(graph, point, removal, &mut distances) {
+            return Ok(distances);
+        }
+    }
+}
+
+/// Whether an edge is gone, is the named one, or leads to the target at a cost above `most`.
+fn is_dearer(
+    graph: &Graph,
+    point: &Point,
+    removal: &Removal,
+    distances: &[u128],
+    named: u32,
+    most: u128,
+    other: u32,
+) -> bool
+    requires fits { FitsPoint graph.now point.now }
+    requires known { other < length graph.now.edges }
+    requires count { length distances.now ≡ length graph.now.vertices }
+    requires bounded { All (λ x. x ≤ far point.now) distances.now }
+    ensures { IsTrue result ↔ IsDearer graph.now point.now removal.now distances.now named most other }
+{
+    graph.keeps_conditions();
+    if other == named || !removal.leaves(other) {
+        return true;
+    }
+    let edge = edge_of(graph, other);
+    most < price_of(edge.price, point) + distances[edge.to as usize]
+}
+
+/// Whether each other edge out of the named edge's start is gone or leads to the target at a cost above `most`.
+fn others_are_dearer(
+    graph: &Graph,
+    point: &Point,
+    removal: &Removal,
+    distances: &[u128],
+    named: u32,
+    most: u128,
+) -> bool
+    requires fits { FitsPoint graph.now point.now }
+    requires known { named < length graph.now.edges }
+    requires count { length distances.now ≡ length graph.now.vertices }
+    requires bounded { All (λ x. x ≤ far point.now) distances.now }
+    ensures { IsTrue result ↔
+        All (IsDearer graph.now point.now removal.now distances.now named most) (edges_out graph.now (edge_at graph.now named).from) }
+{
+    graph.keeps_conditions();
+    for other in graph.edges_out(edge_of(graph, named).from) {
+        if !is_dearer(graph, point, removal, distances, named, most, *other) {
+            return false;
+        }
+    }
+    true
+}
+
+/// Whether at each vertex of the path every other edge that isn't gone leads to the target at a cost above what the path
+/// costs from there.
+fn leads(graph: &Graph, point: &Point, path: &Path, removal: &Removal, distances: &[u128]) -> bool
+    requires fits { FitsPoint graph.now point.now }
+    requires simple { (end : ℕ) × IsSimple graph.now path.now.start path.now.edges end }
+    requires count { length distances.now ≡ length graph.now.vertices }
+    requires bounded { All (λ x. x ≤ far point.now) distances.now }
+    ensures leads { IsTrue result ↔ Leads graph.now point.now removal.now distances.now path.now.edges }
+    ensures below { cost graph.now point.now path.now.edges < far point.now }
+{
+    let mut rest = path_cost(graph, path, point);
+    for number in path.edges.as_slice() {
+        if !others_are_dearer(graph, point, removal, distances, *number, rest) {
+            return false;
+        }
+        rest -= price_of(edge_of(graph, *number).price, point);
+    }
+    true
+}
+
+/// Whether a path of a request is only cheapest: each other simple path between its ends without an edge that is gone
+/// costs more (RFC 2328, 16.1; equal costs would be used together by 16.8). Least costs to the end are found by passes
+/// over all edges until nothing changes. The path is only cheapest exactly where at each of its vertices every other
+/// edge, with the least cost from its end on, costs more than the rest of the path.
+///
+/// # Errors
+///
+/// `OutOfMemory` where the marks of the edges or the distances got no memory.
+pub fn is_only_cheapest(
+    alloc: Global,
+    graph: &Graph,
+    point: &Point,
+    path: &Path,
+    end: u32,
+    gone: &[u32],
+) -> Result<bool, OutOfMemory>
+    requires fits { FitsPoint graph.now point.now }
+    requires path { IsPathOf graph.now (record { start = path.now.start; end = end; gone = gone.now }) path.now.edges }
+    ensures { IfOk result (λ yes. IsTrue yes ↔
+        IsOnlyCheapest graph.now point.now (record { start = path.now.start; end = end; gone = gone.now }) path.now.edges) }
+{
+    graph.keeps_conditions();
+    let removal = Removal::new(alloc, gone, graph.edges().len())?;
+    let distances = distances_to(alloc, graph, point, &removal, end)?;
+    Ok(leads(graph, point, path, &removal, distances.as_slice()))
+}

@@ -1,0 +1,100 @@
+-- Lists read by places, and lists with one more element.
+use Rattle.std.proofs.Common.{◌≡◌, ◌≢◌, ℕ, zero, suc, ◌+◌, ◌<◌, ◌≤◌, List, [], ◌∷◌, ◌++◌, length, get_or, take, Bool, cond, true, false, ◌&&◌, refl, sym, ap, ◌∙◌, arith, map, Option, Some, None}
+use Rattle.std.specs.List.{filter, filter_map, cons_option, list_any}
+use Rattle.std.specs.Option.{option_or}
+use Rattle.std.specs.Prelude.{◌==◌}
+use Rattle.std.proofs.lemmas.Bool.{eq-eqb, eqb-true, and_parts}
+use Rattle.std.proofs.lemmas.List.{map-append}
+use Rattle.std.proofs.lemmas.List.Elements.{filter-append, filter_map-append}
+use Rattle.cost_base.specs.Lists.{numbers_from, last_of, first_of, same_bytes}
+
+-- one number more
+pub numbers_from-more : (a n : ℕ) → numbers_from a (suc n) ≡ numbers_from a n ++ (a + n) ∷ []
+numbers_from-more a zero = ap (λ x. x ∷ []) (omega arith)
+numbers_from-more a (suc n) =
+    let next : a + 1 + n ≡ a + suc n = omega arith in
+    ap (λ xs. a ∷ xs) (numbers_from-more (a + 1) n ∙ ap (λ x. numbers_from (a + 1) n ++ x ∷ []) next)
+
+-- functions that agree at the numbers of a range have one map over it
+pub map-numbers_agree : {X : Type 0} (f g : ℕ → X) (a n : ℕ) → ((i : ℕ) → a ≤ i → i < a + n → f i ≡ g i) → map f (numbers_from a n) ≡ map g (numbers_from a n)
+map-numbers_agree f g a zero agree = refl
+map-numbers_agree f g a (suc n) agree =
+    cc (agree a (omega arith) (omega arith), map-numbers_agree f g (a + 1) n (λ i above below. agree i (omega arith) (omega arith)))
+
+pub filter_map-numbers_agree : {X : Type 0} (f g : ℕ → Option X) (a n : ℕ) → ((i : ℕ) → a ≤ i → i < a + n → f i ≡ g i) → filter_map f (numbers_from a n) ≡ filter_map g (numbers_from a n)
+filter_map-numbers_agree f g a zero agree = refl
+filter_map-numbers_agree f g a (suc n) agree =
+    cc (agree a (omega arith) (omega arith), filter_map-numbers_agree f g (a + 1) n (λ i above below. agree i (omega arith) (omega arith)))
+
+pub filter-numbers_agree : (f g : ℕ → Bool) (a n : ℕ) → ((i : ℕ) → a ≤ i → i < a + n → f i ≡ g i) → filter f (numbers_from a n) ≡ filter g (numbers_from a n)
+filter-numbers_agree f g a zero agree = refl
+filter-numbers_agree f g a (suc n) agree =
+    cc (agree a (omega arith) (omega arith), filter-numbers_agree f g (a + 1) n (λ i above below. agree i (omega arith) (omega arith)))
+
+-- a map over one number more
+pub map-numbers_more : {X : Type 0} (f g : ℕ → X) (n : ℕ) → ((i : ℕ) → i < n → f i ≡ g i) → map f (numbers_from 0 (suc n)) ≡ map g (numbers_from 0 n) ++ f n ∷ []
+map-numbers_more f g n agree =
+    ap (map f) (numbers_from-more 0 n)
+    ∙ map-append f (numbers_from 0 n) ((0 + n) ∷ [])
+    ∙ cc (map-numbers_agree f g 0 n (λ i above below. agree i (omega arith)), ap f (zero_more n))
+  where
+    zero_more : (n : ℕ) → 0 + n ≡ n
+    zero_more n = omega arith
+
+pub filter_map-numbers_more : {X : Type 0} (f g : ℕ → Option X) (n : ℕ) → ((i : ℕ) → i < n → f i ≡ g i) → filter_map f (numbers_from 0 (suc n)) ≡ filter_map g (numbers_from 0 n) ++ cons_option (f n) []
+filter_map-numbers_more f g n agree =
+    ap (filter_map f) (numbers_from-more 0 n)
+    ∙ filter_map-append f (numbers_from 0 n) ((0 + n) ∷ [])
+    ∙ cc (filter_map-numbers_agree f g 0 n (λ i above below. agree i (omega arith)), ap f (zero_more n))
+  where
+    zero_more : (n : ℕ) → 0 + n ≡ n
+    zero_more n = omega arith
+
+-- a filter over one number more, which doesn't pass
+pub filter-numbers_same : (f g : ℕ → Bool) (n : ℕ) → ((i : ℕ) → i < n → f i ≡ g i) → f n ≡ false → filter f (numbers_from 0 (suc n)) ≡ filter g (numbers_from 0 n)
+filter-numbers_same f g n agree fails =
+    ap (filter f) (numbers_from-more 0 n)
+    ∙ filter-append f (numbers_from 0 n) ((0 + n) ∷ [])
+    ∙ ap (λ rest. filter f (numbers_from 0 n) ++ rest) (none (0 + n) (omega arith))
+    ∙ append_none (filter f (numbers_from 0 n))
+    ∙ filter-numbers_agree f g 0 n (λ i above below. agree i (omega arith))
+  where
+    none : (m : ℕ) → m ≡ n → filter f (m ∷ []) ≡ []
+    none m same = let e : f m ≡ false = ap f same ∙ fails in rw e
+    append_none : (xs : List ℕ) → xs ++ [] ≡ xs
+    append_none [] = refl
+    append_none (x ∷ xs) = ap (λ ys. x ∷ ys) (append_none xs)
+
+-- the last of a list with one more element
+pub last_of-push : {X : Type 0} (xs : List X) (x : X) → last_of (xs ++ x ∷ []) ≡ Some x
+last_of-push [] x = refl
+last_of-push (a ∷ []) x = refl
+last_of-push (a ∷ b ∷ xs) x = last_of-push (b ∷ xs) x
+
+-- the first of a list with one more element
+pub first_of-push : {X : Type 0} (xs : List X) (x : X) → first_of (xs ++ x ∷ []) ≡ option_or (first_of xs) (Some x)
+first_of-push [] x = refl
+first_of-push (a ∷ xs) x = refl
+
+-- the last number of a range that passes a test lies in the range
+pub last_passing-lt : (p : ℕ → Bool) (a n i : ℕ) → last_of (filter p (numbers_from a n)) ≡ Some i → i < a + n
+last_passing-lt p a zero i last = absurd (cc)
+last_passing-lt p a (suc n) i last = cases (p a) (filter p (numbers_from (a + 1) n)) (λ e. last_passing-lt p (a + 1) n i e) last
+  where
+    cases : (b : Bool) (rest : List ℕ) → (last_of rest ≡ Some i → i < a + 1 + n) → last_of (cond b (a ∷ rest) rest) ≡ Some i → i < a + suc n
+    cases true [] below e = let same : a ≡ i = cc in omega arith
+    cases true (x ∷ xs) below e = let h = below e in omega arith
+    cases false rest below e = let h = below e in omega arith
+
+pub same_bytes-refl : (xs : List ℕ) → same_bytes xs xs ≡ true
+same_bytes-refl [] = refl
+same_bytes-refl (x ∷ xs) = rw (eq-eqb x x refl, same_bytes-refl xs)
+
+-- the same bytes are equal lists
+pub same_bytes-true : (xs ys : List ℕ) → same_bytes xs ys ≡ true → xs ≡ ys
+same_bytes-true [] [] same = refl
+same_bytes-true [] (y ∷ ys) same = absurd (cc)
+same_bytes-true (x ∷ xs) [] same = absurd (cc)
+same_bytes-true (x ∷ xs) (y ∷ ys) same =
+    let parts = and_parts (x == y) (same_bytes xs ys) same in
+    cc (eqb-true x y parts.0, same_bytes-true xs ys parts.1)

@@ -1,0 +1,54 @@
+-- A configuration with a printed section after it.
+use Rattle.std.specs.Prelude.{◌≡◌, ℕ, ◌≤◌, List, [], ◌∷◌, ◌++◌, ◌==◌, if◌then◌else◌, All, Contains, Option, Some, None, codes, map}
+use Rattle.std.specs.List.{concat, join_with_byte}
+use Rattle.cost_base.specs.Decimal.{decimal}
+use Rattle.cost_base.specs.Lists.{same_bytes}
+use Rattle.cost_base.specs.Words.{IsOneWord}
+use Rattle.text_lines.specs.Lines.{lines}
+use Rattle.interface_model.specs.declared.Interface.{Interface}
+use Rattle.interface_model.specs.Records.{Router}
+use Rattle.config_reader.specs.Configs.{first_heads, config_of}
+
+-- the bytes, and an LF where the last line lacks one
+abbrev pub ended : List ℕ → List ℕ
+ended [] = []
+ended (c ∷ []) = if c == 10 then c ∷ [] else c ∷ 10 ∷ []
+ended (c ∷ d ∷ cs) = c ∷ ended (d ∷ cs)
+
+-- each line with its LF
+abbrev pub with_ends : List (List ℕ) → List ℕ
+with_ends lines = concat (map (λ line. line ++ 10 ∷ []) lines)
+
+-- for each name and cost three lines: `interface NAME`, ` ip ospf cost N` and `exit`
+abbrev pub section_lines : List (List ℕ × ℕ) → List (List ℕ)
+section_lines [] = []
+section_lines (cost ∷ costs) =
+    join_with_byte 32 (codes "interface" ∷ cost.0 ∷ [])
+    ∷ join_with_byte 32 (codes " ip" ∷ codes "ospf" ∷ codes "cost" ∷ decimal cost.1 ∷ [])
+    ∷ codes "exit"
+    ∷ section_lines costs
+
+-- the last cost that is given to a name, or the one of before
+abbrev pub cost_after : List (List ℕ × ℕ) → List ℕ → Option ℕ → Option ℕ
+cost_after [] name before = before
+cost_after (cost ∷ costs) name before = cost_after costs name (if same_bytes name cost.0 then Some cost.1 else before)
+
+abbrev pub with_cost : List (List ℕ × ℕ) → Interface → Interface
+with_cost costs i = record i { cost = cost_after costs i.name i.cost }
+
+-- the router with the cost of each named interface replaced
+abbrev pub with_costs : List (List ℕ × ℕ) → Router → Router
+with_costs costs r = record r { interfaces = map (with_cost costs) r.interfaces }
+
+-- the name is one word and has a head in the file; the cost is from 1 to 65535
+pub record IsSectionCost (file : List (List ℕ)) (cost : List ℕ × ℕ) : Type 0 where
+  pub word : IsOneWord cost.0
+  pub headed : Contains (map (λ head. head.0) (first_heads file)) cost.0
+  pub from : 1 ≤ cost.1
+  pub to : cost.1 ≤ 65535
+
+-- a configuration with a section after it says the same, but for the costs of the section
+abbrev pub SectionsSetCosts : Type 0
+SectionsSetCosts =
+    (file_name bytes : List ℕ) (costs : List (List ℕ × ℕ)) → All (IsSectionCost (lines bytes)) costs →
+    config_of file_name (ended bytes ++ with_ends (section_lines costs)) ≡ with_costs costs (config_of file_name bytes)

@@ -1,0 +1,23 @@
+-- What the fakes of the outside do.
+use Rattle.std.specs.Prelude.{◌⊎◌, ℕ, List, [], ◌∷◌, Option, Some, None, if◌then◌else◌, ◌==◌, IsTrue, length, min, Result, IsErrOf}
+use Rattle.std.specs.List.{list_any}
+use Rattle.cost_base.specs.declared.ShelfStop.{ShelfStop}
+use Rattle.cost_base.specs.declared.ShelfStop.TheVariants.{Failed, OutOfMemory}
+
+-- the number of a call is listed
+abbrev pub IsListed : List ℕ → ℕ → Type 0
+IsListed calls call = IsTrue (list_any (λ other. other == call) calls)
+
+-- the call failed, or memory was wanting
+abbrev pub FailsOrLacksMemory : {T : Type 0} → Result T ShelfStop → Type 0
+FailsOrLacksMemory result = IsErrOf result Failed ⊎ IsErrOf result OutOfMemory
+
+-- how many bytes of its piece a call keeps, where the call is listed; the first pair of a call counts
+abbrev pub kept_at : List (ℕ × ℕ) → ℕ → Option ℕ
+kept_at [] call = None
+kept_at (pair ∷ pairs) call = if pair.0 == call then Some pair.1 else kept_at pairs call
+
+-- how many bytes of a piece are kept, where there is room
+abbrev pub kept_or_all : Option ℕ → List ℕ → ℕ
+kept_or_all None piece = length piece
+kept_or_all (Some kept) piece = min kept (length piece)

@@ -1,0 +1,108 @@
+//! The files of the machine.
+
+ghost use Rattle.std.specs.Prelude.{◌≡◌, ℕ, List, [], ◌+◌, ◌^◌, ◌<◌, ◌≤◌, OnOk, OnErr, IsErrOf, Option, None, vec_len};
+ghost use Rattle.cost_base.specs.Outside.{IsFile, IsLonger, CountsFaults};
+ghost use Rattle.cost_base.specs.Files.{times};
+
+use crate::failed_calls::FailedCalls;
+use crate::{Shelf, ShelfStop};
+use std::alloc::Global;
+use std::fs;
+use std::io::{ErrorKind, Read};
+use std::rt::Files;
+
+/// A shelf over the files of a runtime, whose names are paths. It tells nothing of content.
+#[derive(Drop)]
+pub struct FileShelf<R> {
+    files: R,
+    failed: FailedCalls,
+}
+
+impl<R: Files> FileShelf<R> {
+    /// A shelf over these files, a runtime or a reference to one. Every count of faults is 0.
+    pub fn new(alloc: Global, files: R) -> FileShelf<R>
+        ensures files { result.files ≡ files }
+        ensures faults { (name : List ℕ) → ⟦<FileShelf<R> as Shelf>⟧.faults result name ≡ 0 }
+    {
+        FileShelf {
+            files,
+            failed: FailedCalls::new(alloc),
+        }
+    }
+}
+
+impl<R: Files> Shelf for FileShelf<R> {
+    ghost held = { λ shelf name. None };
+
+    ghost faults = { λ shelf name. times shelf.failed.names.items name };
+
+    #[tactic(auto, using(crate::proofs::Shelves::noted))]
+    fn take(&mut self, name: &str, most: usize, into: &mut Vec<u8>) -> Result<(), ShelfStop>
+        requires empty { into.old.items ≡ [] }
+        requires most { most < 2 ^ 31 }
+        ensures within { OnOk result (vec_len into.new ≤ most) }
+        ensures cut { IsErrOf result ShelfStop.TooLong → vec_len into.new ≡ most + 1 }
+        ensures refused { OnErr result (vec_len into.new ≤ most + 1) }
+        ensures faults { CountsFaults (times self.old.failed.names.items) (times self.new.failed.names.items) name.now result }
+    {
+        let Ok(copy) = self.failed.make_room(name.as_bytes()) else {
+            return Err(ShelfStop::OutOfMemory);
+        };
+        match read_file(&self.files, name, most, into) {
+            Err(ShelfStop::Failed) => {
+                self.failed.note(copy);
+                Err(ShelfStop::Failed)
+            }
+            result => result,
+        }
+    }
+}
+
+/// Reads the file at a path, or the first `most + 1` bytes of it where it has more than `most`.
+fn read_file<R: Files>(
+    files: &R,
+    path: &str,
+    most: usize,
+    into: &mut Vec<u8>,
+) -> Result<(), ShelfStop>
+    requires empty { into.old.items ≡ [] }
+    requires most { most < 2 ^ 31 }
+    ensures within { OnOk result (vec_len into.new ≤ most) }
+    ensures cut { IsErrOf result ShelfStop.TooLong → vec_len into.new ≡ most + 1 }
+    ensures refused { OnErr result (vec_len into.new ≤ most + 1) }
+{
+    match fs::open(files, path) {
+        Ok(mut file) => read_within(&mut file, most, into),
+        Err(_) => Err(ShelfStop::Failed),
+    }
+}
+
+/// Reads to the end, or the first `most + 1` bytes where there are more than `most`.
+fn read_within<F: Read>(reader: &mut F, most: usize, into: &mut Vec<u8>) -> Result<(), ShelfStop>
+    requires empty { into.old.items ≡ [] }
+    requires most { most < 2 ^ 31 }
+    ensures read { OnOk result (IsFile (F.remaining reader.old) into.new.items) }
+    ensures within { OnOk result (vec_len into.new ≤ most) }
+    ensures too_long { IsErrOf result ShelfStop.TooLong → IsLonger (F.remaining reader.old) most }
+    ensures cut { IsErrOf result ShelfStop.TooLong → vec_len into.new ≡ most + 1 }
+    ensures refused { OnErr result (vec_len into.new ≤ most + 1) }
+{
+    let mut buffer = [0u8; 8192];
+    for _ in 0..u64::MAX {
+        let room = (most + 1 - into.len()).min(buffer.len());
+        match reader.read(&mut buffer[..room]) {
+            Ok(0) => return Ok(()),
+            Ok(count) => {
+                if into.extend_from_slice(&buffer[..count]).is_err() {
+                    return Err(ShelfStop::OutOfMemory);
+                }
+                if into.len() > most {
+                    return Err(ShelfStop::TooLong);
+                }
+            }
+            Err(error) if error.kind() == ErrorKind::Interrupted => {}
+            Err(_) => return Err(ShelfStop::Failed),
+        }
+    }
+    Err(ShelfStop::Failed)
+}

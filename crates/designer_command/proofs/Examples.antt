@@ -1,0 +1,88 @@
+-- A pair of routers: what its files say, its printed answer read back, and a request with a bound of 0.
+use Rattle.std.proofs.Common.{◌≡◌, ℕ, refl, List, [], ◌∷◌, ◌++◌, Option, Some, None}
+use Rattle.std.specs.Prelude.{codes, if◌then◌else◌}
+use Rattle.cost_base.specs.Lists.{same_bytes}
+use Rattle.area_graph.specs.declared.Vertex.TheVariants.{Router as RouterVertex}
+use Rattle.area_graph.specs.declared.Price.TheVariants.{Fixed, Var}
+use Rattle.area_graph.specs.Area.{Area}
+use Rattle.lsdb_build.specs.declared.Far.TheVariants.{Router}
+use Rattle.lsdb_build.specs.Graphs.{Database}
+use Rattle.path_requests.specs.declared.Wish.TheVariants.{FreeAll, Path}
+use Rattle.path_requests.specs.Meaning.{Asked}
+use Rattle.text_lines.specs.Lines.{lines}
+use Rattle.designer_command.specs.Jobs.{Job, job_of}
+use Rattle.designer_command.specs.ThinRequests.{thin_request}
+use Rattle.designer_command.specs.Outcomes.{Design, Refused, Ready, outcome}
+use Rattle.designer_command.specs.ReadBack.{section, graph_back}
+
+abbrev config : List ℕ → List ℕ
+config address = codes "interface eth0\n ip address " ++ address ++ codes "\n ip ospf area 0\n ip ospf network point-to-point\n"
+
+abbrev request : List ℕ → List ℕ
+request bounds = codes "ospfcost request 1\narea 0\nfree all " ++ bounds ++ codes "\npath A:eth0 B\n"
+
+-- a shelf with a request of these bounds and the two configurations
+abbrev held : List ℕ → List ℕ → Option (List ℕ)
+held bounds name =
+    if same_bytes name (codes "request.txt") then Some (request bounds)
+    else (if same_bytes name (codes "A.conf") then Some (config (codes "10.0.0.1/30"))
+    else (if same_bytes name (codes "B.conf") then Some (config (codes "10.0.0.2/30")) else None))
+
+abbrev job : Job
+job = record { request = codes "request.txt"; configs = codes "A.conf" ∷ codes "B.conf" ∷ [] }
+
+words_job : job_of (codes "design" ∷ codes "--request" ∷ codes "request.txt" ∷ codes "A.conf" ∷ codes "B.conf" ∷ []) ≡ Some job
+words_job = refl
+
+abbrev asked : Asked
+asked = record {
+  area = 0;
+  default_cost = None;
+  items = record { line = 3; what = FreeAll 1 65535 }
+      ∷ record { line = 4; what = Path (record { hops = (codes "A", codes "eth0") ∷ []; last = codes "B" }) [] } ∷ [];
+}
+
+request_asks : thin_request (request (codes "1 65535")) ≡ Some asked
+request_asks = refl
+
+abbrev database : Database
+database = record {
+  routers = codes "A" ∷ codes "B" ∷ [];
+  links = record { router = 0; interface = codes "eth0"; line = 1; cost = None; to = Router 1; mate = Some 1 }
+      ∷ record { router = 1; interface = codes "eth0"; line = 1; cost = None; to = Router 0; mate = Some 0 } ∷ [];
+  subnets = [];
+}
+
+abbrev design : Design
+design = record {
+  asked = asked;
+  files = record { name = codes "A.conf"; bytes = config (codes "10.0.0.1/30") } ∷ record { name = codes "B.conf"; bytes = config (codes "10.0.0.2/30") } ∷ [];
+  database = database;
+  problem = record {
+    graph = record { vertices = RouterVertex 0 ∷ RouterVertex 1 ∷ []; edges = record { from = 0; to = 1; price = Var 0 } ∷ record { from = 1; to = 0; price = Var 1 } ∷ [] };
+    vars = record { router = codes "A"; interface = codes "eth0"; var = 0 } ∷ record { router = codes "B"; interface = codes "eth0"; var = 1 } ∷ [];
+    low = 1 ∷ 1 ∷ [];
+    high = 65535 ∷ 65535 ∷ [];
+    paths = record { path = record { start = 0; edges = 0 ∷ [] }; end = 1; gone = [] } ∷ [];
+  };
+}
+
+-- the files say this design
+pair_ready : outcome (held (codes "1 65535")) job ≡ Ready design
+pair_ready = refl
+
+abbrev printed : List ℕ
+printed =
+    codes "ospfcost answer 1\nverdict optimal 1\ncosts 1\nrouter A\ninterface eth0\n ip ospf cost 1\nexit\nrouter B\ninterface eth0\n ip ospf cost 1\nexit\nfloor 0\nrows 0\nproof none\nopen none\nwide none\nend\n"
+
+pair_section : section (codes "B") (lines printed) ≡ codes "interface eth0" ∷ codes " ip ospf cost 1" ∷ codes "exit" ∷ []
+pair_section = refl
+
+-- read back, both interfaces have cost 1
+pair_back : graph_back design printed
+    ≡ record { vertices = RouterVertex 0 ∷ RouterVertex 1 ∷ []; edges = record { from = 0; to = 1; price = Fixed 1 } ∷ record { from = 1; to = 0; price = Fixed 1 } ∷ [] }
+pair_back = refl
+
+-- a lower bound of 0 is off the form
+pair_bad_bounds : outcome (held (codes "0 5")) job ≡ Refused (record { number = 60; file = codes "request.txt"; line = 0 })
+pair_bad_bounds = refl

@@ -1,0 +1,11 @@
+pub mod Jobs
+pub mod ThinConfigs
+pub mod ThinRequests
+pub mod Outcomes
+pub mod Texts
+pub mod ReadBack
+pub mod Designs
+pub mod Stops
+pub mod TopoStub
+pub mod Words
+pub mod Readiness

@@ -1,0 +1,42 @@
+-- The lines that a run writes beside an answer.
+use Rattle.std.specs.Prelude.{ℕ, List, [], ◌∷◌, ◌++◌, codes}
+use Rattle.std.specs.List.{join_with_byte}
+use Rattle.cost_base.specs.Decimal.{decimal}
+use Rattle.config_reader.specs.Sections.{with_ends}
+
+-- a refusal of input: its number, the file and the line
+pub record Refusal : Type 0 where
+  pub number : ℕ
+  pub file : List ℕ
+  pub line : ℕ
+
+-- words with one space between each two, and an LF
+abbrev pub line_of : List (List ℕ) → List ℕ
+line_of words = join_with_byte 32 words ++ 10 ∷ []
+
+abbrev pub refused_line : Refusal → List ℕ
+refused_line r = line_of (codes "refused" ∷ decimal r.number ∷ r.file ∷ decimal r.line ∷ [])
+
+abbrev pub read_fault_line : List ℕ → List ℕ
+read_fault_line file = line_of (codes "read" ∷ codes "fault" ∷ file ∷ [])
+
+-- for now: the lower bounds themselves aren't fit, and nothing else was tried
+abbrev pub corner_line : List ℕ
+corner_line = codes "lower corner is not fit\n"
+
+abbrev pub usage_lines : List (List ℕ)
+usage_lines =
+    codes "usage: ospfcost design --request F [--nodes N] [--bits B] CONFIG.."
+    ∷ codes "       ospfcost check --request F --answer A CONFIG.."
+    ∷ codes "       ospfcost audit --request F CONFIG.."
+    ∷ codes "       ospfcost rewrite --answer A CONFIG"
+    ∷ codes "       ospfcost trial --blocks T [--start S]"
+    ∷ codes "       ospfcost conflict --request F [--nodes N] [--bits B] CONFIG.."
+    ∷ codes "       ospfcost spread --request F --sets G [--nodes N] [--bits B] CONFIG.."
+    ∷ codes "       ospfcost total --request F [--nodes N] [--bits B] CONFIG.."
+    ∷ codes "       ospfcost lsas --request F CONFIG.."
+    ∷ codes "       ospfcost route --lsas L --from A.B.C.D --to A.B.C.D"
+    ∷ []
+
+abbrev pub usage : List ℕ
+usage = with_ends usage_lines

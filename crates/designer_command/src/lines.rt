@@ -1,0 +1,85 @@
+//! The lines that a run writes beside an answer.
+ghost use Rattle.std.specs.Prelude.{◌≡◌, ◌∷◌, [], ◌++◌, List, ℕ, IfOk, OnOk, OnErr, map, string_bytes, codes};
+ghost use Rattle.cost_base.specs.Decimal.{decimal};
+ghost use Rattle.cost_base.specs.Outside.{HasCause, GotWhole, GotPart};
+ghost use Rattle.designer_command.specs.Texts.{refused_line, read_fault_line, usage, line_of, with_ends};
+
+use cost_base::{OutOfMemory, PutFailed, Sink};
+use std::alloc::Global;
+use text_lines::number_bytes;
+
+/// The lines that tell how the program is called, each with its LF.
+const USAGE: [&str; 10] = [
+    "usage: ospfcost design --request F [--nodes N] [--bits B] CONFIG..\n",
+    "       ospfcost check --request F --answer A CONFIG..\n",
+    "       ospfcost audit --request F CONFIG..\n",
+    "       ospfcost rewrite --answer A CONFIG\n",
+    "       ospfcost trial --blocks T [--start S]\n",
+    "       ospfcost conflict --request F [--nodes N] [--bits B] CONFIG..\n",
+    "       ospfcost spread --request F --sets G [--nodes N] [--bits B] CONFIG..\n",
+    "       ospfcost total --request F [--nodes N] [--bits B] CONFIG..\n",
+    "       ospfcost lsas --request F CONFIG..\n",
+    "       ospfcost route --lsas L --from A.B.C.D --to A.B.C.D\n",
+];
+
+/// Puts the lines that tell how the program is called.
+pub(crate) fn put_usage<K: Sink>(out: &mut K) -> Result<(), PutFailed>
+    ensures whole { OnOk result (GotWhole (K.got out.old) (K.got out.new) usage) }
+    ensures part { OnErr result (GotPart (K.got out.old) (K.got out.new) usage) }
+    ensures cause { HasCause (K.faults out.old) (K.faults out.new) result }
+{
+    for line in USAGE {
+        out.put(line.as_bytes())?;
+    }
+    Ok(())
+}
+
+/// Adds bytes at the end.
+fn push_bytes(line: &mut Vec<u8>, bytes: &[u8]) -> Result<(), OutOfMemory>
+    ensures { OnOk result (line.new.items ≡ line.old.items ++ bytes.now) }
+{
+    match line.extend_from_slice(bytes) {
+        Ok(()) => Ok(()),
+        Err(_) => Err(OutOfMemory),
+    }
+}
+
+/// Adds the decimal digits of a number at the end.
+fn push_number(line: &mut Vec<u8>, number: u128) -> Result<(), OutOfMemory>
+    ensures { OnOk result (line.new.items ≡ line.old.items ++ decimal number) }
+{
+    let mut room = [0; 40];
+    let length = number_bytes(number, &mut room);
+    push_bytes(line, &room[..length])
+}
+
+/// The line `refused NUMBER FILE LINE`.
+pub(crate) fn refused_line_of(
+    alloc: Global,
+    number: u8,
+    file: &String,
+    line: u32,
+) -> Result<Vec<u8>, OutOfMemory>
+    ensures { IfOk result (λ text. text.items ≡ refused_line (record { number = number; file = string_bytes file.now; line = line })) }
+{
+    let mut text = Vec::new(alloc);
+    push_bytes(&mut text, b"refused ")?;
+    push_number(&mut text, u128::from(number))?;
+    push_bytes(&mut text, b" ")?;
+    push_bytes(&mut text, file.as_bytes())?;
+    push_bytes(&mut text, b" ")?;
+    push_number(&mut text, u128::from(line))?;
+    push_bytes(&mut text, b"\n")?;
+    Ok(text)
+}
+
+/// The line `read fault FILE`.
+pub(crate) fn read_fault_line_of(alloc: Global, file: &String) -> Result<Vec<u8>, OutOfMemory>
+    ensures { IfOk result (λ text. text.items ≡ read_fault_line (string_bytes file.now)) }
+{
+    let mut text = Vec::new(alloc);
+    push_bytes(&mut text, b"read fault ")?;
+    push_bytes(&mut text, file.as_bytes())?;
+    push_bytes(&mut text, b"\n")?;
+    Ok(text)
+}

@@ -1,0 +1,46 @@
+-- The checks of a topology by name, and the links between given linked ports.
+use Rattle.std.specs.Prelude.{ℕ, List, Bool, Option, None, unwrap_or}
+use Rattle.interface_model.specs.declared.Kind.{Kind}
+use Rattle.interface_model.specs.declared.Kind.TheVariants.{PointToPoint, Broadcast}
+use Rattle.lsdb_build.specs.declared.Far.{Far}
+use Rattle.lsdb_build.specs.declared.Far.TheVariants.{Router as ToRouter, Subnet as ToSubnet}
+use Rattle.lsdb_build.specs.declared.Linked.{Linked}
+use Rattle.lsdb_build.specs.declared.checks.Check.{Check}
+use Rattle.lsdb_build.specs.declared.checks.Check.TheVariants.{SameRouterTwice, AddressTwice, TypeMismatch, CrowdedLink, OverlapPrefix}
+use Rattle.lsdb_build.specs.Neighbours.{Port, shares_subnet, place_from, is_other}
+use Rattle.lsdb_build.specs.Topology.{is_second_of_router, is_second_of_address, is_mismatch, is_crowding, is_overlap, router_at}
+
+-- what a check asks of a port, with the ports before it
+abbrev pub meets : Check → List Port → Port → Bool
+meets SameRouterTwice = is_second_of_router
+meets AddressTwice = is_second_of_address
+meets TypeMismatch = is_mismatch
+meets CrowdedLink = is_crowding
+meets OverlapPrefix = is_overlap
+
+abbrev pub number_of : Check → ℕ
+number_of SameRouterTwice = 14
+number_of AddressTwice = 11
+number_of TypeMismatch = 12
+number_of CrowdedLink = 13
+number_of OverlapPrefix = 16
+
+-- where a link leads, among given linked ports and first members of transit subnets
+abbrev pub far_among : List Port → List Port → Port → Kind → Far
+far_among links transit p PointToPoint = ToRouter (router_at links (place_from 0 (is_other p) links))
+far_among links transit p Broadcast = ToSubnet (unwrap_or (place_from 0 (shares_subnet p) transit) 0)
+
+abbrev pub mate_among : List Port → Port → Kind → Option ℕ
+mate_among links p PointToPoint = place_from 0 (is_other p) links
+mate_among links p Broadcast = None
+
+abbrev pub link_among : List Port → List Port → Port → Linked
+link_among links transit p =
+    record {
+      router = p.router;
+      interface = p.interface.name;
+      line = p.interface.line;
+      cost = p.interface.cost;
+      to = far_among links transit p p.interface.kind;
+      mate = mate_among links p p.interface.kind;
+    }

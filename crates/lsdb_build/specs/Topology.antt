@@ -1,0 +1,151 @@
+-- The checks of a topology, and the database of an area.
+use Rattle.std.specs.Prelude.{◌≡◌, ℕ, ◌+◌, List, [], ◌∷◌, map, ◌==◌, ◌&&◌, ◌||◌, nat_le, nat_lt, not, if◌then◌else◌, Bool, true, false, Option, Some, None, length, count_by, slice_get, unwrap_or}
+use Rattle.std.specs.List.{list_any, list_all}
+use Rattle.cost_base.specs.Lists.{same_bytes}
+use Rattle.interface_model.specs.declared.Kind.{Kind}
+use Rattle.interface_model.specs.declared.Kind.TheVariants.{PointToPoint, Broadcast}
+use Rattle.interface_model.specs.Addresses.{contains}
+use Rattle.interface_model.specs.Records.{Router}
+use Rattle.lsdb_build.specs.declared.Far.{Far}
+use Rattle.lsdb_build.specs.declared.Far.TheVariants.{Router as ToRouter, Subnet as ToSubnet}
+use Rattle.lsdb_build.specs.declared.Linked.{Linked}
+use Rattle.lsdb_build.specs.declared.TopologyStop.{TopologyStop}
+use Rattle.lsdb_build.specs.declared.TopologyStop.TheVariants.{Refused, OutOfMemory}
+use Rattle.lsdb_build.specs.Neighbours.{Port, ports, shares_subnet, linked, transit_subnets, is_broadcast, place_from, is_other}
+use Rattle.lsdb_build.specs.Graphs.{Database}
+
+-- a fault of a topology: its number, and the configuration and the line of its place
+pub record TopologyFault : Type 0 where
+  pub number : ℕ
+  pub config : ℕ
+  pub line : ℕ
+
+abbrev pub same_kind : Kind → Kind → Bool
+same_kind PointToPoint PointToPoint = true
+same_kind PointToPoint Broadcast = false
+same_kind Broadcast PointToPoint = false
+same_kind Broadcast Broadcast = true
+
+-- Each check asks of a port, with the ports before it.
+
+-- one before it is of the same router and on the same subnet
+abbrev pub is_second_of_router : List Port → Port → Bool
+is_second_of_router before p = list_any (λ q. q.router == p.router && shares_subnet q p) before
+
+-- one before it has the same address
+abbrev pub is_second_of_address : List Port → Port → Bool
+is_second_of_address before p = list_any (λ q. q.address == p.address) before
+
+-- one before it on the same subnet has another network kind
+abbrev pub is_mismatch : List Port → Port → Bool
+is_mismatch before p = list_any (λ q. shares_subnet q p && not (same_kind q.interface.kind p.interface.kind)) before
+
+-- two before it are on the same point-to-point subnet
+abbrev pub is_crowding : List Port → Port → Bool
+is_crowding before p = not (is_broadcast p) && nat_le 2 (count_by (λ q. shares_subnet q p) before)
+
+-- the subnet of the one contains that of the other, which is at least as long
+abbrev pub holds : Port → Port → Bool
+holds p q = nat_le p.interface.length q.interface.length && contains p.address p.interface.length q.address
+
+-- one before it, of another router, has a different subnet, and one of the two contains the other
+abbrev pub is_overlap : List Port → Port → Bool
+is_overlap before p =
+    list_any (λ q. not (q.router == p.router) && not (shares_subnet q p) && (holds q p || holds p q)) before
+
+-- a transit subnet's first member, where no member may become its designated router (RFC 2328, 9.4 and C.3)
+abbrev pub lacks_designated : List Port → Port → Bool
+lacks_designated all p = list_all (λ q. not (shares_subnet p q) || q.interface.priority == 0) all
+
+-- the first port that passes a check
+abbrev pub first_where : (List Port → Port → Bool) → List Port → List Port → Option Port
+first_where check before [] = None
+first_where check before (p ∷ more) = if check before p then Some p else first_where check (p ∷ before) more
+
+abbrev pub at_port : ℕ → Option Port → Option TopologyFault
+at_port number None = None
+at_port number (Some p) = Some (record { number = number; config = p.router; line = p.interface.line })
+
+abbrev pub at_config : ℕ → Option ℕ → Option TopologyFault
+at_config number None = None
+at_config number (Some config) = Some (record { number = number; config = config; line = 0 })
+
+-- the first place past a limit of things
+abbrev pub past : ℕ → ℕ → Option ℕ
+past limit count = if nat_lt limit count then Some limit else None
+
+-- the first configuration of which an earlier one has the name
+abbrev pub second_of_name : List (List ℕ) → ℕ → List Router → Option ℕ
+second_of_name before n [] = None
+second_of_name before n (r ∷ routers) =
+    if list_any (same_bytes r.name) before then Some n else second_of_name (r.name ∷ before) (n + 1) routers
+
+abbrev pub first_some : List (Option TopologyFault) → Option TopologyFault
+first_some [] = None
+first_some (None ∷ more) = first_some more
+first_some (Some fault ∷ more) = Some fault
+
+-- the first fault of a topology, in the order of the checks
+abbrev pub topology_fault : ℕ → List Router → Option TopologyFault
+topology_fault area routers =
+    let all = ports area routers in
+    first_some (
+    at_config 17 (past 1000 (length routers))
+    ∷ at_port 17 (slice_get all 4000)
+    ∷ at_config 10 (second_of_name [] 0 routers)
+    ∷ at_port 14 (first_where is_second_of_router [] all)
+    ∷ at_port 11 (first_where is_second_of_address [] all)
+    ∷ at_port 12 (first_where is_mismatch [] all)
+    ∷ at_port 13 (first_where is_crowding [] all)
+    ∷ at_port 15 (first_where (λ before p. lacks_designated all p) [] (transit_subnets all))
+    ∷ at_port 16 (first_where is_overlap [] all)
+    ∷ [])
+
+-- the refusal tells the fault; want of memory says nothing
+abbrev pub Tells : Option TopologyFault → TopologyStop → Type 0
+Tells fault (Refused number config line) = fault ≡ Some (record { number = number; config = config; line = line })
+Tells fault OutOfMemory = Unit {0}
+
+abbrev pub router_at : List Port → Option ℕ → ℕ
+router_at links None = 0
+router_at links (Some l) = router_of_port (slice_get links l)
+  where
+    router_of_port : Option Port → ℕ
+    router_of_port None = 0
+    router_of_port (Some p) = p.router
+
+-- where a link leads: over a point-to-point subnet to the other member's router, else into the transit subnet
+abbrev pub far_of : List Port → Port → Kind → Far
+far_of all p PointToPoint = ToRouter (router_at (linked all) (place_from 0 (is_other p) (linked all)))
+far_of all p Broadcast = ToSubnet (unwrap_or (place_from 0 (shares_subnet p) (transit_subnets all)) 0)
+
+-- the other link of a point-to-point subnet
+abbrev pub mate_of : List Port → Port → Kind → Option ℕ
+mate_of all p PointToPoint = place_from 0 (is_other p) (linked all)
+mate_of all p Broadcast = None
+
+abbrev pub link_of : List Port → Port → Linked
+link_of all p =
+    record {
+      router = p.router;
+      interface = p.interface.name;
+      line = p.interface.line;
+      cost = p.interface.cost;
+      to = far_of all p p.interface.kind;
+      mate = mate_of all p p.interface.kind;
+    }
+
+-- the places of the ports that pass
+abbrev pub places_from : ℕ → (Port → Bool) → List Port → List ℕ
+places_from n test [] = []
+places_from n test (p ∷ ps) = if test p then n ∷ places_from (n + 1) test ps else places_from (n + 1) test ps
+
+-- the routers, the linked interfaces and the transit subnets of an area
+abbrev pub database_of : ℕ → List Router → Database
+database_of area routers =
+    let all = ports area routers in
+    record {
+      routers = map (λ r. r.name) routers;
+      links = map (link_of all) (linked all);
+      subnets = map (λ first. places_from 0 (shares_subnet first) (linked all)) (transit_subnets all);
+    }

@@ -1,0 +1,216 @@
+ghost use Rattle.std.specs.Prelude.{◌≡◌, ℕ, ◌<◌, ◌≤◌, ◌&&◌, not, [], length, map, IfOk};
+ghost use Rattle.std.specs.List.{list_any};
+ghost use Rattle.lsdb_build.specs.Neighbours.{is_linked, linked, is_broadcast, first_members, shares_subnet, is_other, is_port, place_from};
+ghost use Rattle.lsdb_build.specs.Topology.{places_from, router_at};
+ghost use Rattle.lsdb_build.specs.Checks.{far_among, mate_among, link_among};
+
+use crate::port::{Port, is_broadcast, shares_subnet};
+use crate::{Far, Linked};
+use cost_base::{Listed, Name, OutOfMemory};
+use interface_model::{Kind, RouterConfig};
+use std::alloc::Global;
+
+/// Whether a port is linked: a point-to-point subnet links exactly two, a broadcast subnet two or more.
+fn is_linked(ports: &[Port], port: &Port) -> bool
+    ensures { result ≡ is_linked ports.now port.now }
+{
+    let members = ports
+        .iter()
+        .filter(|other| shares_subnet(port, other))
+        .count();
+    match port.interface.kind {
+        Kind::PointToPoint => members == 2,
+        Kind::Broadcast => members >= 2,
+    }
+}
+
+/// The linked ports, in order.
+pub fn linked_ports<'a>(alloc: Global, ports: &[Port<'a>]) -> Result<Vec<Port<'a>>, OutOfMemory>
+    ensures { IfOk result (λ found. found.items ≡ linked ports.now) }
+{
+    let mut found = Vec::new(alloc);
+    for port in ports {
+        if is_linked(ports, port) && found.push(port.again()).is_err() {
+            return Err(OutOfMemory);
+        }
+    }
+    Ok(found)
+}
+
+/// Whether one of the ports before stands on the port's subnet.
+fn has_member(before: &[Port], port: &Port) -> bool
+    ensures { result ≡ list_any (shares_subnet port.now) before.now }
+{
+    before.iter().any(|other| shares_subnet(port, other))
+}
+
+/// Whether a port is a transit subnet's first member, after the linked ports before it.
+fn is_first_member(before: &[Port], port: &Port) -> bool
+    ensures { result ≡ (is_broadcast port.now && not (list_any (shares_subnet port.now) before.now)) }
+{
+    is_broadcast(port) && !has_member(before, port)
+}
+
+/// The first members of the transit subnets among linked ports, in order.
+pub fn transit_ports<'a>(alloc: Global, links: &[Port<'a>]) -> Result<Vec<Port<'a>>, OutOfMemory>
+    ensures { IfOk result (λ found. found.items ≡ first_members [] links.now) }
+{
+    let mut found = Vec::new(alloc);
+    for (i, port) in links.iter().enumerate() {
+        if is_first_member(&links[..i], port) && found.push(port.again()).is_err() {
+            return Err(OutOfMemory);
+        }
+    }
+    Ok(found)
+}
+
+/// Whether another port stands on the same subnet.
+fn is_other(port: &Port, other: &Port) -> bool
+    ensures { result ≡ is_other port.now other.now }
+{
+    shares_subnet(port, other) && !(port.router == other.router && port.address == other.address)
+}
+
+/// The place of the other port of a point-to-point subnet.
+fn place_of_other(links: &[Port], port: &Port) -> Option<u32>
+    requires { length links.now ≤ 4000 }
+    ensures { result ≡ place_from 0 (is_other port.now) links.now }
+{
+    for (i, other) in links.iter().enumerate() {
+        if is_other(port, other) {
+            return Some(i as u32);
+        }
+    }
+    None
+}
+
+/// The place of a port's transit subnet.
+fn place_of_subnet(transit: &[Port], port: &Port) -> Option<u32>
+    requires { length transit.now ≤ 4000 }
+    ensures { result ≡ place_from 0 (shares_subnet port.now) transit.now }
+{
+    for (i, first) in transit.iter().enumerate() {
+        if shares_subnet(port, first) {
+            return Some(i as u32);
+        }
+    }
+    None
+}
+
+/// The router of the link at a place, 0 where there is none.
+fn router_at(links: &[Port], place: Option<u32>) -> u32
+    ensures { result ≡ router_at links.now place }
+{
+    let Some(place) = place else {
+        return 0;
+    };
+    match links.get(place as usize) {
+        Some(port) => port.router,
+        None => 0,
+    }
+}
+
+/// Where the link of a port leads, and its mate.
+fn far_and_mate(links: &[Port], transit: &[Port], port: &Port) -> (Far, Option<u32>)
+    requires links { length links.now ≤ 4000 }
+    requires transit { length transit.now ≤ 4000 }
+    ensures far { result.0 ≡ far_among links.now transit.now port.now port.now.interface.kind }
+    ensures mate { result.1 ≡ mate_among links.now port.now port.now.interface.kind }
+{
+    match port.interface.kind {
+        Kind::PointToPoint => {
+            let mate = place_of_other(links, port);
+            (Far::Router(router_at(links, mate)), mate)
+        }
+        Kind::Broadcast => {
+            let subnet = place_of_subnet(transit, port);
+            (Far::Subnet(subnet.unwrap_or(0)), None)
+        }
+    }
+}
+
+/// The link of a linked port.
+fn link_of(
+    alloc: Global,
+    links: &[Port],
+    transit: &[Port],
+    port: &Port,
+) -> Result<Linked, OutOfMemory>
+    requires links { length links.now ≤ 4000 }
+    requires transit { length transit.now ≤ 4000 }
+    ensures { IfOk result (λ link. link ≡ link_among links.now transit.now port.now) }
+{
+    let (to, mate) = far_and_mate(links, transit, port);
+    let interface = port.interface;
+    Ok(Linked {
+        router: port.router,
+        interface: Name::from_bytes(alloc, interface.name.as_bytes())?,
+        line: interface.line,
+        cost: interface.cost,
+        to,
+        mate,
+    })
+}
+
+/// The links of the linked ports, in order.
+pub fn links_of(alloc: Global, links: &[Port], transit: &[Port]) -> Result<Vec<Linked>, OutOfMemory>
+    requires links { length links.now ≤ 4000 }
+    requires transit { length transit.now ≤ 4000 }
+    ensures { IfOk result (λ made. made.items ≡ map (link_among links.now transit.now) links.now) }
+{
+    let mut made = Vec::new(alloc);
+    for port in links {
+        let link = link_of(alloc, links, transit, port)?;
+        if made.push(link).is_err() {
+            return Err(OutOfMemory);
+        }
+    }
+    Ok(made)
+}
+
+/// The places of the linked ports on one subnet, in order.
+fn members_of(alloc: Global, links: &[Port], first: &Port) -> Result<Vec<u32>, OutOfMemory>
+    requires { length links.now ≤ 4000 }
+    ensures { IfOk result (λ members. members.items ≡ places_from 0 (shares_subnet first.now) links.now) }
+{
+    let mut members = Vec::new(alloc);
+    for (i, port) in links.iter().enumerate() {
+        if shares_subnet(first, port) && members.push(i as u32).is_err() {
+            return Err(OutOfMemory);
+        }
+    }
+    Ok(members)
+}
+
+/// The members of each transit subnet, in the order of their first members.
+pub fn subnets_of(
+    alloc: Global,
+    links: &[Port],
+    transit: &[Port],
+) -> Result<Vec<Listed<u32>>, OutOfMemory>
+    requires { length links.now ≤ 4000 }
+    ensures { IfOk result (λ made. made.items ≡ map (λ first. places_from 0 (shares_subnet first) links.now) transit.now) }
+{
+    let mut made = Vec::new(alloc);
+    for first in transit {
+        let members = Listed::from_items(members_of(alloc, links, first)?);
+        if made.push(members).is_err() {
+            return Err(OutOfMemory);
+        }
+    }
+    Ok(made)
+}
+
+/// The names of the routers, in order.
+pub fn names_of(alloc: Global, configs: &[RouterConfig]) -> Result<Vec<Name>, OutOfMemory>
+    ensures { IfOk result (λ made. made.items ≡ map (λ r. r.name) configs.now) }
+{
+    let mut made = Vec::new(alloc);
+    for config in configs {
+        let name = Name::from_bytes(alloc, config.name.as_bytes())?;
+        if made.push(name).is_err() {
+            return Err(OutOfMemory);
+        }
+    }
+    Ok(made)
+}

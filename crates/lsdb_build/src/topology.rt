@@ -1,0 +1,88 @@
+ghost use Rattle.std.specs.Prelude.{◌≡◌, ℕ, ◌<◌, ◌≤◌, [], ◌∷◌, None, length, map, slice_get, IfOk, IfErr, OnOk, MatchResult};
+ghost use Rattle.lsdb_build.specs.Neighbours.{shares_subnet};
+ghost use Rattle.lsdb_build.specs.Topology.{topology_fault, database_of, places_from, first_some, at_port, at_config, first_where, second_of_name, is_second_of_router, is_second_of_address, is_mismatch, is_crowding, Tells};
+ghost use Rattle.lsdb_build.specs.Graphs.{IsDatabase};
+ghost use Rattle.lsdb_build.specs.Checks.{link_among};
+
+use crate::checks::{
+    Check, refuse_first, refuse_many_configs, refuse_many_ports, refuse_second_name,
+    refuse_undesignated,
+};
+use crate::links::{linked_ports, links_of, names_of, subnets_of, transit_ports};
+use crate::port::{Port, active_ports};
+use crate::{Lsdb, TopologyStop};
+use cost_base::{Listed, OutOfMemory};
+use interface_model::RouterConfig;
+use std::alloc::Global;
+
+/// Refuses what the checks before the designated routers refuse.
+fn refuse_ports(configs: &[RouterConfig], ports: &[Port]) -> Result<(), TopologyStop>
+    requires { length configs.now ≤ 1000 }
+    ensures fault { let fault = first_some (at_port 17 (slice_get ports.now 4000)
+        ∷ at_config 10 (second_of_name [] 0 configs.now)
+        ∷ at_port 14 (first_where is_second_of_router [] ports.now)
+        ∷ at_port 11 (first_where is_second_of_address [] ports.now)
+        ∷ at_port 12 (first_where is_mismatch [] ports.now)
+        ∷ at_port 13 (first_where is_crowding [] ports.now)
+        ∷ []) in
+        MatchResult result (λ _. fault ≡ None) (Tells fault) }
+    ensures few { OnOk result (length ports.now ≤ 4000) }
+{
+    refuse_many_ports(ports)?;
+    refuse_second_name(configs)?;
+    refuse_first(Check::SameRouterTwice, ports)?;
+    refuse_first(Check::AddressTwice, ports)?;
+    refuse_first(Check::TypeMismatch, ports)?;
+    refuse_first(Check::CrowdedLink, ports)?;
+    Ok(())
+}
+
+/// The database of linked ports and the first members of their transit subnets.
+fn assemble(
+    alloc: Global,
+    configs: &[RouterConfig],
+    links: &[Port],
+    transit: &[Port],
+) -> Result<Lsdb, OutOfMemory>
+    requires links { length links.now ≤ 4000 }
+    requires transit { length transit.now ≤ 4000 }
+    requires fits { IsDatabase (record {
+      routers = map (λ r. r.name) configs.now;
+      links = map (link_among links.now transit.now) links.now;
+      subnets = map (λ first. places_from 0 (shares_subnet first) links.now) transit.now;
+    }) }
+    ensures { IfOk result (λ d. d ≡ record {
+      routers = map (λ r. r.name) configs.now;
+      links = map (link_among links.now transit.now) links.now;
+      subnets = map (λ first. places_from 0 (shares_subnet first) links.now) transit.now;
+    }) }
+{
+    let routers = names_of(alloc, configs)?;
+    let made = links_of(alloc, links, transit)?;
+    let subnets = subnets_of(alloc, links, transit)?;
+    Ok(Lsdb {
+        routers: Listed::from_items(routers),
+        links: Listed::from_items(made),
+        subnets: Listed::from_items(subnets),
+    })
+}
+
+/// The routers, links and transit subnets of an area, from the configurations of its routers in order.
+///
+/// Refuses, in this order and at the first place: 17 too many configurations (more than 1,000) or active
+/// interfaces (more than 4,000); 10 a name twice; 14 a router twice on one subnet; 11 an address twice;
+/// 12 another network kind on one subnet; 13 a third interface on a point-to-point subnet; 15 a transit
+/// subnet whose members all have priority 0 (RFC 2328, 9.4); 16 overlapping subnets of two routers.
+pub fn build(alloc: Global, configs: &[RouterConfig], area: u32) -> Result<Lsdb, TopologyStop>
+    ensures made { IfOk result (λ d. (topology_fault area configs.now ≡ None) × (d ≡ database_of area configs.now)) }
+    ensures refused { IfErr result (Tells (topology_fault area configs.now)) }
+{
+    refuse_many_configs(configs)?;
+    let ports = active_ports(alloc, configs, area)?;
+    refuse_ports(configs, &ports)?;
+    let links = linked_ports(alloc, &ports)?;
+    let transit = transit_ports(alloc, &links)?;
+    refuse_undesignated(&ports, &transit)?;
+    refuse_first(Check::OverlapPrefix, &ports)?;
+    Ok(assemble(alloc, configs, &links, &transit)?)
+}
