@@ -1,14 +1,15 @@
 -- What the numbers of a step give: the exact fraction within the top, or a number that passes it.
-use Rattle.std.proofs.Common.{◌≡◌, ℕ, ◌^◌, ◌<◌, ◌≤◌, ◌*◌, ◌/◌, refl, sym, ◌∙◌, ap, subst, inl, inr, arith, [], ◌∷◌}
-use Rattle.std.specs.Prelude.{ℤ, pos, nat_abs, ◌+ℤ◌, ◌*ℤ◌, Any, All, Some}
+use Rattle.std.proofs.Common.{◌≡◌, ℕ, suc, ◌^◌, ◌<◌, ◌≤◌, ◌*◌, ◌/◌, refl, sym, ◌∙◌, ap, subst, inl, inr, arith, [], ◌∷◌}
+use Rattle.std.specs.Prelude.{ℤ, pos, negsuc, neg_ℤ, nat_abs, ◌+ℤ◌, ◌*ℤ◌, Any, All, Some}
 use Rattle.std.proofs.lemmas.List.Elements.{All-cons, All-nil}
-use Rattle.std.proofs.lemmas.Int.{unsigned_abs-mul}
-use native.Mathlib.Nat.{div-le_self}
+use Rattle.std.proofs.lemmas.Int.{ints, unsigned_abs-mul}
+use native.Mathlib.Nat.{div-le_self, div-one}
 use mathlib.Core.Path.{ap₂}
-use Rattle.whole_numbers.specs.Fractions.{Fraction, IsLowest, gcd, over, plus, times, listed_of_sum, listed_of_product}
+use Rattle.whole_numbers.specs.Fractions.{Fraction, IsLowest, gcd, over, plus, times, whole, listed_of_sum, listed_of_product}
 use Rattle.whole_numbers.proofs.FractionLaws.{nat_abs-over, product_positive, reduced_lowest}
+use Rattle.whole_numbers.proofs.Divisors.{gcd-one}
 use Rattle.whole_numbers.proofs.Steps.{sum_exact, product_exact}
-use Rattle.wide_fraction.specs.Widths.{IsKept, IsAnswer, IsCrossWide, IsCrossWithin}
+use Rattle.wide_fraction.specs.Widths.{IsKept, IsAnswer, IsCrossWide, IsCrossWithin, IsWithin}
 
 -- each of four numbers is within the top
 each_of_four : (top a b c d : ℕ) → a ≤ top → b ≤ top → c ≤ top → d ≤ top → All (λ n. n ≤ top) (a ∷ b ∷ c ∷ d ∷ [])
@@ -176,3 +177,47 @@ product_kept top p q g h x y b d z m top_fits p_lowest q_lowest multiplies above
       numerator = omega (arith, z_within);
       denominator = omega arith;
     }
+
+whole_lowest : (a : ℤ) → IsLowest (whole a)
+whole_lowest a = record { positive = omega arith; lowest = gcd-one (nat_abs a) }
+
+times_one : (a : ℤ) → (a *ℤ pos 1) ≡ a
+times_one a = omega (arith, ints)
+
+over_one : (a : ℤ) → over a 1 ≡ a
+over_one (pos n) = ap pos (div-one n)
+over_one (negsuc n) = ap (λ (m : ℕ). neg_ℤ (pos m)) (div-one (suc n))
+
+-- two whole numbers share nothing and stay as they are
+whole_shares : (a c : ℤ) → Shares (whole a) (whole c) 1 1 1
+whole_shares a c = record { common = refl; left = refl; right = refl }
+
+-- their sum passes the top
+pub whole_sum_passes : (top : ℕ) (a c : ℤ) → top < nat_abs (a +ℤ c) → Any (λ n. top < n) (listed_of_sum (whole a) (whole c))
+whole_sum_passes top a c wide =
+    sum_crossed top (whole a) (whole c) 1 1 1 (whole_shares a c) (inr (inr (subst (λ (z : ℤ). top < nat_abs z) (ap₂ (λ (x y : ℤ). x +ℤ y) (sym (times_one a)) (sym (times_one c))) wide)))
+
+-- or is the answer
+pub whole_sum_answer : (top : ℕ) (a c s : ℤ) → IsWithin top (whole a) → IsWithin top (whole c) → s ≡ (a +ℤ c) → nat_abs (a +ℤ c) ≤ top → IsAnswer top (listed_of_sum (whole a) (whole c)) (plus (whole a) (whole c)) (Some (whole s))
+whole_sum_answer top a c s a_within c_within s_is within =
+    let both = ap₂ (λ (x y : ℤ). x +ℤ y) (sym (times_one a)) (sym (times_one c)) in
+    let adds : Adds (whole a) (whole c) 1 1 1 s 1 1 = record { shares = whole_shares a c; sum = s_is ∙ both; common = sym (gcd-one (nat_abs s)); rest = refl } in
+    sum_answer top (whole a) (whole c) 1 1 1 s 1 1 s 1 (whole_lowest a) (whole_lowest c) adds
+    (subst (λ (z : ℤ). nat_abs z ≤ top) (sym (times_one a)) a_within.numerator, subst (λ (z : ℤ). nat_abs z ≤ top) (sym (times_one c)) c_within.numerator, subst (λ (z : ℤ). nat_abs z ≤ top) both within)
+    (sym (over_one s)) refl a_within.denominator
+
+whole_crosses : (a c : ℤ) → Crosses (whole a) (whole c) 1 1 a c
+whole_crosses a c = record { left_common = sym (gcd-one (nat_abs a)); right_common = sym (gcd-one (nat_abs c)); left = sym (over_one a); right = sym (over_one c) }
+
+-- their product passes the top
+pub whole_product_passes : (top : ℕ) (a c : ℤ) → top < nat_abs (a *ℤ c) → Any (λ n. top < n) (listed_of_product (whole a) (whole c))
+whole_product_passes top a c wide = product_numerator_passes top (whole a) (whole c) 1 1 a c (whole_crosses a c) wide
+
+-- or is the answer
+pub whole_product_answer : (top : ℕ) (a c z : ℤ) → IsWithin top (whole a) → z ≡ (a *ℤ c) → nat_abs (a *ℤ c) ≤ top → IsAnswer top (listed_of_product (whole a) (whole c)) (times (whole a) (whole c)) (Some (whole z))
+whole_product_answer top a c z a_within z_is within =
+    product_answer top (whole a) (whole c) 1 1 a c 1 1 z 1 (whole_lowest a) (whole_lowest c) (record { crosses = whole_crosses a c; left = refl; right = refl }) within z_is refl a_within.denominator
+
+-- a fraction over 1 is whole
+pub whole_seen : (q : Fraction) → q.denominator ≡ 1 → whole q.numerator ≡ q
+whole_seen q e = ap (λ (d : ℕ). record { numerator = q.numerator; denominator = d }) (sym e)

@@ -1,5 +1,6 @@
 //! Widths of whole numbers, and the limits of a search.
 ghost use Rattle.std.specs.Prelude.{◌≡◌, ℕ, ◌-◌, ◌^◌, ◌<◌, ◌≤◌, pos, MatchOption, ◌⊎◌};
+ghost use Rattle.wide_fraction.specs.Widths.{IsTop};
 
 use std::marker::Model;
 
@@ -44,7 +45,8 @@ impl Top {
 
     /// The number itself.
     pub fn value(&self) -> i128
-        ensures { result ≡ pos self.now }
+        ensures value { result ≡ pos self.now }
+        ensures width { IsTop self.now }
     {
         self.value
     }

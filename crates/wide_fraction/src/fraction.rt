@@ -81,14 +81,16 @@ impl Frac {
 
     /// The number above the line.
     pub fn numerator(&self) -> i128
-        ensures { result ≡ self.now.numerator }
+        ensures value { result ≡ self.now.numerator }
+        ensures kept { IsKept self.now }
     {
         self.numerator
     }
 
     /// The number below the line.
     pub fn denominator(&self) -> i128
-        ensures { result ≡ pos self.now.denominator }
+        ensures value { result ≡ pos self.now.denominator }
+        ensures kept { IsKept self.now }
     {
         self.denominator as i128
     }

@@ -4,8 +4,8 @@ ghost use Rattle.whole_numbers.specs.Fractions.{plus, minus, times, divided, who
 ghost use Rattle.wide_fraction.specs.Widths.{IsWithin, Fits, Passes, IsAnswer};
 
 use crate::words::{
-    bounded_cross_sum, bounded_product, bounded_signed_product, greatest_common_divisor, quotient,
-    signed_quotient,
+    bounded_cross_sum, bounded_product, bounded_signed_product, bounded_sum,
+    greatest_common_divisor, quotient, signed_quotient,
 };
 use crate::{Frac, Top};
 use cost_base::StepName;
@@ -106,8 +106,37 @@ pub fn div(left: Frac, right: Frac, top: Top) -> Result<Frac, Wide>
     }
 }
 
-/// The sum, or nothing where a whole number on its way passes `top`.
+/// The sum, or nothing where a whole number on its way passes `top`. Two whole numbers take the short way.
+#[inline]
 fn sum(left: Frac, right: Frac, top: Top) -> Option<Frac>
+    requires left_within { IsWithin top left }
+    requires right_within { IsWithin top right }
+    ensures { IsAnswer top (listed_of_sum left right) (plus left right) result }
+{
+    if left.denominator != 1 {
+        fraction_sum(left, right, top)
+    } else if right.denominator != 1 {
+        fraction_sum(left, right, top)
+    } else {
+        whole_sum(left.numerator, right.numerator, top)
+    }
+}
+
+/// The sum of two whole numbers.
+#[inline]
+fn whole_sum(left: i128, right: i128, top: Top) -> Option<Frac>
+    requires left_within { IsWithin top (whole left) }
+    requires right_within { IsWithin top (whole right) }
+    ensures { IsAnswer top (listed_of_sum (whole left) (whole right)) (plus (whole left) (whole right)) result }
+{
+    match bounded_sum(left, right, top.size()) {
+        None => None,
+        Some(sum) => Some(Frac::whole_wide(sum)),
+    }
+}
+
+/// The sum of two fractions.
+fn fraction_sum(left: Frac, right: Frac, top: Top) -> Option<Frac>
     requires left_within { IsWithin top left }
     requires right_within { IsWithin top right }
     ensures { IsAnswer top (listed_of_sum left right) (plus left right) result }
@@ -131,8 +160,35 @@ fn sum(left: Frac, right: Frac, top: Top) -> Option<Frac>
     }
 }
 
-/// The product, or nothing where a whole number on its way passes `top`.
+/// The product, or nothing where a whole number on its way passes `top`. Two whole numbers take the short way.
+#[inline]
 fn product(left: Frac, right: Frac, top: Top) -> Option<Frac>
+    requires { IsWithin top left }
+    ensures { IsAnswer top (listed_of_product left right) (times left right) result }
+{
+    if left.denominator != 1 {
+        fraction_product(left, right, top)
+    } else if right.denominator != 1 {
+        fraction_product(left, right, top)
+    } else {
+        whole_product(left.numerator, right.numerator, top)
+    }
+}
+
+/// The product of two whole numbers.
+#[inline]
+fn whole_product(left: i128, right: i128, top: Top) -> Option<Frac>
+    requires { IsWithin top (whole left) }
+    ensures { IsAnswer top (listed_of_product (whole left) (whole right)) (times (whole left) (whole right)) result }
+{
+    match bounded_signed_product(left, right, top.size()) {
+        None => None,
+        Some(product) => Some(Frac::whole_wide(product)),
+    }
+}
+
+/// The product of two fractions.
+fn fraction_product(left: Frac, right: Frac, top: Top) -> Option<Frac>
     ensures { IsAnswer top (listed_of_product left right) (times left right) result }
 {
     let most = top.size();

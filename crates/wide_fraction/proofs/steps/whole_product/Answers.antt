@@ -1,0 +1,28 @@
+use Rattle.std.proofs.Common.{◌≡◌, ◌<◌, ℕ, sym, ◌∙◌, ap, subst, SFits, rules}
+use Rattle.std.specs.Prelude.{ℤ, Any, Some}
+use Rattle.std.proofs.lemmas.Int.{to_z-of_z}
+use mir.Syntax.{w128}
+use Rattle.whole_numbers.specs.Fractions.{Fraction, whole, times, listed_of_product}
+use Rattle.wide_fraction.specs.Widths.{IsWithin, IsAnswer}
+use Rattle.wide_fraction.proofs.Exact.{whole_product_passes, whole_product_answer}
+use Rattle.wide_fraction.proofs.steps.whole_product.Goals as goal
+
+pub returns-in-None : goal.returns-in-None
+returns-in-None c =
+    let left_fits : SFits w128 c.args.left = c.ranges.left in
+    let right_fits : SFits w128 c.args.right = c.ranges.right in
+    let wide = simp to_z-of_z at c.in-None.ensures in
+    subst (λ (t : ℕ). Any (λ n. t < n) (listed_of_product (whole c.args.left) (whole c.args.right))) c.size.ensures.value
+    (whole_product_passes c.size.result c.args.left c.args.right wide)
+
+pub returns-in-Some : goal.returns-in-Some
+returns-in-Some c =
+    let left_fits : SFits w128 c.args.left = c.ranges.left in
+    let right_fits : SFits w128 c.args.right = c.ranges.right in
+    let product_fits : SFits w128 c.in-Some.product = search rules in
+    let answer = simp to_z-of_z at c.in-Some.ensures in
+    let made : c.whole_wide.result ≡ whole c.in-Some.product = c.whole_wide.ensures ∙ ap (λ (z : ℤ). whole z) (to_z-of_z w128 c.in-Some.product product_fits) in
+    let left_within : IsWithin c.size.result (whole c.args.left) = subst (λ (t : ℕ). IsWithin t (whole c.args.left)) (sym c.size.ensures.value) c.requires in
+    subst (λ (q : Fraction). IsAnswer c.args.top (listed_of_product (whole c.args.left) (whole c.args.right)) (times (whole c.args.left) (whole c.args.right)) (Some q)) (sym made)
+    (subst (λ (t : ℕ). IsAnswer t (listed_of_product (whole c.args.left) (whole c.args.right)) (times (whole c.args.left) (whole c.args.right)) (Some (whole c.in-Some.product))) c.size.ensures.value
+    (whole_product_answer c.size.result c.args.left c.args.right c.in-Some.product left_within answer.0 answer.1))
