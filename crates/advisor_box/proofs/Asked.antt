@@ -4,7 +4,7 @@ use Rattle.std.proofs.Math.ListN.{set}
 use Rattle.std.proofs.Math.Seq.{drop-cons, take-suc-set}
 use Rattle.std.proofs.lemmas.List.{drop-set-lt, drop_all, take_all, take-append-le}
 use Rattle.std.specs.List.{AllZip, remove}
-use Rattle.advisor_box.specs.Choosing.{IsChosen, StandsFirst}
+use Rattle.advisor_box.specs.Choosing.{IsChosen}
 
 -- where the rest turns into some list as R says, the whole turns into what was told and that list
 abbrev pub IsTold : {A : Type 0} → List A → List A → ℕ → (A → A → Type 0) → Type 0

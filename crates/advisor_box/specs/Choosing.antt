@@ -13,4 +13,4 @@ abbrev pub IsChosen : {A : Type 0} → (A → ℕ) → (A → A → Type 0) → 
 IsChosen would Asked choices [] answer left = (answer ≡ 0) × (left ≡ [])
 IsChosen would Asked choices (advisor ∷ others) answer left =
     (would advisor < choices → (answer ≡ would advisor) × StandsFirst Asked advisor others left)
-  × (choices ≤ would advisor → IsChosen would Asked choices others answer left)
+    × (choices ≤ would advisor → IsChosen would Asked choices others answer left)

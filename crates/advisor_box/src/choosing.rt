@@ -29,12 +29,11 @@ fn tell_one(advisor: &mut Box<dyn Advisor>, entry: &Entry)
 /// and stands at the state that its answer leaves; those after it stay as they are. No memory is taken.
 pub fn choose(advisors: &mut Vec<Box<dyn Advisor>>, choices: &[Candidate]) -> u32
     requires { 0 < length choices.now }
-    ensures {
-      IsChosen
+    ensures in_range { result < length choices.now }
+    ensures chosen { IsChosen
         (λ b. (⟦<dyn Advisor as Advisor>⟧ b.vtable).would (state b) choices.now)
         (λ b c. (c.vtable ≡ b.vtable) × (state c ≡ (⟦<dyn Advisor as Advisor>⟧ b.vtable).left (state b) choices.now))
-        (length choices.now) advisors.old.items result advisors.new.items
-    }
+        (length choices.now) advisors.old.items result advisors.new.items }
 {
     while !advisors.is_empty() {
         let answer = ask(&mut advisors[0], choices);
@@ -48,11 +47,9 @@ pub fn choose(advisors: &mut Vec<Box<dyn Advisor>>, choices: &[Candidate]) -> u3
 
 /// Tells each advisor of the entry, once and in order. Every advisor stays in its place. No memory is taken.
 pub fn tell(advisors: &mut Vec<Box<dyn Advisor>>, entry: &Entry)
-    ensures {
-      AllZip
+    ensures { AllZip
         (λ b c. (c.vtable ≡ b.vtable) × (state c ≡ (⟦<dyn Advisor as Advisor>⟧ b.vtable).after (state b) entry.now))
-        advisors.old.items advisors.new.items
-    }
+        advisors.old.items advisors.new.items }
 {
     for advisor in advisors.iter_mut() {
         tell_one(advisor, entry);

@@ -4,7 +4,7 @@ use Rattle.advisor_box.proofs.choosing.choose.Given as goal
 
 abbrev pub invariant-loop-advisors : goal.invariant-loop-advisors
 invariant-loop-advisors g l =
-  IsAsked l.initial.advisors.items l.advisors.items (length l.choices)
+    IsAsked l.initial.advisors.items l.advisors.items (length l.choices)
     (λ b. (goal.Advisor-dyn g (b.vtable, b.value)).would ((goal.Advisor-dyn g (b.vtable, b.value)).state b.value) l.choices)
     (λ b c. (c.vtable ≡ b.vtable) × ((goal.Advisor-dyn g (c.vtable, c.value)).state c.value ≡ (goal.Advisor-dyn g (b.vtable, b.value)).left ((goal.Advisor-dyn g (b.vtable, b.value)).state b.value) l.choices))
 

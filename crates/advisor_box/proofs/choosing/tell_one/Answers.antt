@@ -5,4 +5,4 @@ use Rattle.advisor_box.proofs.choosing.tell_one.Goals as goal
 pub returns-clause-state : goal.returns-clause-state
 returns-clause-state g c =
     c.told.ensures
-  ∙ ap (λ p. (goal.Advisor-dyn g p).after ((goal.Advisor-dyn g p).state p.1) c.args.entry.now) c.deref_box_mut-1.ensures.value.1
+    ∙ ap (λ p. (goal.Advisor-dyn g p).after ((goal.Advisor-dyn g p).state p.1) c.args.entry.now) c.deref_box_mut-1.ensures.value.1
