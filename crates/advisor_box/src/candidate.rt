@@ -5,7 +5,7 @@
 pub struct Candidate {
     /// The number of the variable.
     pub var: u32,
-    /// The whole part of the variable's value at the point of the box.
+    /// The variable's value at the point of the box, rounded down.
     pub floor: u16,
     /// The lowest value of the variable in the box.
     pub low: u16,
