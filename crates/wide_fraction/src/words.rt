@@ -113,17 +113,6 @@ pub(crate) fn bounded_product(left: u128, right: u128, most: u128) -> Option<u12
     if product <= most { Some(product) } else { None }
 }
 
-/// The exact quotient of a whole number by a divisor of its size, with its sign.
-#[inline]
-pub(crate) fn signed_quotient(value: i128, divisor: u128) -> i128
-    requires positive { 0 < divisor }
-    requires not_least { nat_abs value < 2 ^ 127 }
-    ensures { result ≡ over value divisor }
-{
-    let size = quotient(value.unsigned_abs(), divisor) as i128;
-    if value < 0 { -size } else { size }
-}
-
 /// A size with the sign of a value.
 #[inline]
 pub(crate) fn with_sign_of(value: i128, size: u128) -> i128
@@ -135,6 +124,16 @@ pub(crate) fn with_sign_of(value: i128, size: u128) -> i128
     } else {
         size as i128
     }
+}
+
+/// The exact quotient of a whole number by a divisor of its size, with its sign.
+#[inline]
+pub(crate) fn signed_quotient(value: i128, divisor: u128) -> i128
+    requires positive { 0 < divisor }
+    requires not_least { nat_abs value < 2 ^ 127 }
+    ensures { result ≡ over value divisor }
+{
+    with_sign_of(value, quotient(value.unsigned_abs(), divisor))
 }
 
 /// The product of two whole numbers with their signs, where its size is at most `most`.

@@ -1,4 +1,4 @@
-use Rattle.std.proofs.Common.{◌≡◌, ◌≢◌, ap, sym, ◌∙◌, SFits, rules}
+use Rattle.std.proofs.Common.{◌≢◌, ap, sym, ◌∙◌, SFits, rules}
 use Rattle.std.specs.Prelude.{ℤ, pos, nat_abs}
 use Rattle.std.proofs.lemmas.Int.{to_z-of_z}
 use Rattle.whole_numbers.specs.Fractions.{Fraction}
