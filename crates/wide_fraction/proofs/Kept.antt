@@ -1,8 +1,8 @@
 -- Fractions that a `Frac` can hold: what keeps them in lowest terms and within 127 bits.
 use Rattle.std.proofs.Common.{◌≡◌, ◌≢◌, ℕ, zero, suc, ◌^◌, ◌<◌, ◌≤◌, ◌-◌, ◌*◌, ◌/◌, ◌%◌, refl, sym, ◌∙◌, ap, subst, arith}
-use Rattle.std.specs.Prelude.{ℤ, pos, negsuc, neg_ℤ, nat_abs, ◌<ℤ◌, ◌≤ℤ◌}
+use Rattle.std.specs.Prelude.{ℤ, pos, negsuc, nat_abs}
 use Rattle.std.proofs.lemmas.Nat.{one_shl, pow_pos}
-use Rattle.std.proofs.lemmas.Int.{ints, to_z_pos}
+use Rattle.std.proofs.lemmas.Int.{to_z_pos}
 use mir.Syntax.{w128}
 use mir.Val.{to_z}
 use mathlib.Core.Path.{ap₂}
@@ -11,6 +11,7 @@ use Rattle.whole_numbers.specs.Fractions.{Fraction, gcd, over, reduced, inverse,
 use Rattle.whole_numbers.proofs.Divisors.{gcd-swap}
 use Rattle.whole_numbers.proofs.FractionLaws.{nat_abs-over, nat_abs-neg, reduced_lowest}
 use Rattle.wide_fraction.specs.Widths.{IsKept}
+use Rattle.wide_fraction.specs.Laws.{signed_by}
 
 -- the greatest number of some bits, as the code shifts for it
 pub shifted : (bits : ℕ) → bits ≤ 127 → (1 * 2 ^ bits) % 2 ^ 128 - 1 ≡ 2 ^ bits - 1
@@ -49,27 +50,15 @@ pub inverse_kept : (q : Fraction) → IsKept q → q.numerator ≢ pos 0 → IsK
 inverse_kept q kept not_zero =
     inverted_kept q.numerator q.denominator kept.lowest.positive kept.lowest.lowest kept.numerator kept.denominator not_zero
 
-pub inverted_negative : (n : ℤ) (d : ℕ) → n <ℤ pos 0 → record { numerator = neg_ℤ (pos d); denominator = nat_abs n } ≡ inverted n d
-inverted_negative (pos n) d h = absurd (omega (arith, ints))
-inverted_negative (negsuc n) d h = refl
+-- the fraction upside down, as the code makes its numbers
+inverted_made : (n : ℤ) (d : ℕ) → n ≢ pos 0 → record { numerator = signed_by n (pos d); denominator = nat_abs n } ≡ inverted n d
+inverted_made (pos zero) d not_zero = absurd (not_zero refl)
+inverted_made (pos (suc n)) d not_zero = refl
+inverted_made (negsuc n) d not_zero = refl
 
-pub inverted_positive : (n : ℤ) (d : ℕ) → pos 0 ≤ℤ n → n ≢ pos 0 → record { numerator = pos d; denominator = nat_abs n } ≡ inverted n d
-inverted_positive (pos zero) d h not_zero = absurd (not_zero refl)
-inverted_positive (pos (suc n)) d h not_zero = refl
-inverted_positive (negsuc n) d h not_zero = absurd (omega (arith, ints))
-
--- a fraction below 0 upside down, as the code makes its numbers
-pub upside_negative : (n : ℤ) (d : ℕ) (z : ℤ) (m : ℕ) → IsKept (record { numerator = n; denominator = d }) → n <ℤ pos 0 → z ≡ neg_ℤ (pos d) → m ≡ nat_abs n → IsKept (record { numerator = z; denominator = m })
-upside_negative n d z m kept negative z_is m_is =
-    let not_zero : n ≢ pos 0 = λ e. absurd (omega (arith, ints, e)) in
-    let turned : IsKept (inverted n d) = inverted_kept n d kept.lowest.positive kept.lowest.lowest kept.numerator kept.denominator not_zero in
-    subst (λ (q : Fraction). IsKept q) (sym (ap₂ (λ (t : ℤ) (b : ℕ). record { numerator = t; denominator = b }) z_is m_is ∙ inverted_negative n d negative)) turned
-
--- and one that isn't
-pub upside_positive : (n : ℤ) (d : ℕ) (z : ℤ) (m : ℕ) → IsKept (record { numerator = n; denominator = d }) → pos 0 ≤ℤ n → n ≢ pos 0 → z ≡ pos d → m ≡ nat_abs n → IsKept (record { numerator = z; denominator = m })
-upside_positive n d z m kept not_negative not_zero z_is m_is =
-    let turned : IsKept (inverted n d) = inverted_kept n d kept.lowest.positive kept.lowest.lowest kept.numerator kept.denominator not_zero in
-    subst (λ (q : Fraction). IsKept q) (sym (ap₂ (λ (t : ℤ) (b : ℕ). record { numerator = t; denominator = b }) z_is m_is ∙ inverted_positive n d not_negative not_zero)) turned
+pub upside_down_kept : (n : ℤ) (d : ℕ) (z : ℤ) (m : ℕ) → IsKept (record { numerator = n; denominator = d }) → n ≢ pos 0 → z ≡ signed_by n (pos d) → m ≡ nat_abs n → IsKept (record { numerator = z; denominator = m })
+upside_down_kept n d z m kept not_zero z_is m_is =
+    subst (λ (q : Fraction). IsKept q) (sym (ap₂ (λ (t : ℤ) (b : ℕ). record { numerator = t; denominator = b }) z_is m_is ∙ inverted_made n d not_zero)) (inverse_kept (record { numerator = n; denominator = d }) kept not_zero)
 
 -- a fraction with the numbers of a reduced one
 pub reduced_seen : (n : ℤ) (d : ℕ) (z : ℤ) (m : ℕ) → 0 < d → nat_abs n < 2 ^ 127 → d < 2 ^ 127 → z ≡ over n (gcd (nat_abs n) d) → m ≡ d / gcd (nat_abs n) d → IsKept (record { numerator = z; denominator = m })

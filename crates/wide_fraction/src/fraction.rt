@@ -4,7 +4,7 @@ ghost use Rattle.whole_numbers.specs.Fractions.{whole, negated, inverse, reduced
 ghost use Rattle.wide_fraction.specs.Widths.{IsKept, IsWithin, IsTooWide};
 
 use crate::Top;
-use crate::words::{greatest_common_divisor, quotient, signed_quotient};
+use crate::words::{greatest_common_divisor, quotient, signed_quotient, with_sign_of};
 use std::marker::Model;
 
 /// A fraction in lowest terms with a positive denominator; zero is 0/1. Each of its numbers has at most 127 bits.
@@ -131,16 +131,9 @@ impl Frac {
         requires { self.numerator ≢ pos 0 }
         ensures { result ≡ inverse self }
     {
-        if self.numerator < 0 {
-            Frac {
-                numerator: -(self.denominator as i128),
-                denominator: self.numerator.unsigned_abs(),
-            }
-        } else {
-            Frac {
-                numerator: self.denominator as i128,
-                denominator: self.numerator.unsigned_abs(),
-            }
+        Frac {
+            numerator: with_sign_of(self.numerator, self.denominator),
+            denominator: self.numerator.unsigned_abs(),
         }
     }
 }

@@ -1,5 +1,6 @@
 //! Whole numbers of up to 128 bits. Each call has one meaning and takes 64-bit arithmetic where the numbers allow it.
 ghost use Rattle.std.specs.Prelude.{◌≡◌, ℕ, ◌*◌, ◌/◌, ◌%◌, ◌^◌, ◌<◌, ◌≤◌, pos, ◌+ℤ◌, ◌*ℤ◌, nat_abs, MatchOption};
+ghost use Rattle.wide_fraction.specs.Laws.{signed_by};
 ghost use Rattle.wide_fraction.specs.Widths.{IsCrossWide, IsCrossWithin};
 ghost use Rattle.whole_numbers.specs.Fractions.{gcd, over};
 
@@ -112,6 +113,19 @@ pub(crate) fn bounded_product(left: u128, right: u128, most: u128) -> Option<u12
     if product <= most { Some(product) } else { None }
 }
 
+/// A size with the sign of a value.
+#[inline]
+pub(crate) fn with_sign_of(value: i128, size: u128) -> i128
+    requires { size < 2 ^ 127 }
+    ensures { result ≡ signed_by value (pos size) }
+{
+    if value < 0 {
+        -(size as i128)
+    } else {
+        size as i128
+    }
+}
+
 /// The exact quotient of a whole number by a divisor of its size, with its sign.
 #[inline]
 pub(crate) fn signed_quotient(value: i128, divisor: u128) -> i128
@@ -119,8 +133,7 @@ pub(crate) fn signed_quotient(value: i128, divisor: u128) -> i128
     requires not_least { nat_abs value < 2 ^ 127 }
     ensures { result ≡ over value divisor }
 {
-    let size = quotient(value.unsigned_abs(), divisor) as i128;
-    if value < 0 { -size } else { size }
+    with_sign_of(value, quotient(value.unsigned_abs(), divisor))
 }
 
 /// The product of two whole numbers with their signs, where its size is at most `most`.
