@@ -7,9 +7,7 @@ ghost use Rattle.worked_cases.specs.Twin.{twin_graph, twin_names, twin_problem, 
 
 use area_graph::{Edge, Graph, Path, Price, Vertex};
 use cost_base::{Listed, Name};
-use path_rows::{
-    CostBox, CostList, Form, Problem, Request, Row, VarName, box_at, form_of, greatest_over,
-};
+use path_rows::{CostBox, Form, Problem, Request, Row, VarName, box_at, form_of, greatest_over};
 use std::alloc::Global;
 use std::test::Fail;
 
@@ -18,10 +16,26 @@ fn graph_of_twin(alloc: Global) -> Result<Graph, Fail>
 {
     let vertices = vec![in alloc; Vertex::Router(0), Vertex::Router(1)]?;
     let edges = vec![in alloc;
-        Edge { from: 0, to: 1, price: Price::Var(0) },
-        Edge { from: 0, to: 1, price: Price::Var(1) },
-        Edge { from: 1, to: 0, price: Price::Var(2) },
-        Edge { from: 1, to: 0, price: Price::Var(3) }
+        Edge {
+            from: 0,
+            to: 1,
+            price: Price::Var(0)
+        },
+        Edge {
+            from: 0,
+            to: 1,
+            price: Price::Var(1)
+        },
+        Edge {
+            from: 1,
+            to: 0,
+            price: Price::Var(2)
+        },
+        Edge {
+            from: 1,
+            to: 0,
+            price: Price::Var(3)
+        },
     ]?;
     Ok(Graph::new(alloc, vertices, edges)?)
 }
@@ -116,58 +130,54 @@ fn greatest_at(alloc: Global, problem: &Problem, form: &Form, cap: u16) -> Resul
     Ok(greatest_over(form, &costs))
 }
 
-/// The twin with its one request.
-fn twin_with_request(alloc: Global, problem: &Problem) -> Result<Problem, Fail>
-    requires { problem.now ≡ twin_problem }
+/// The greatest value of the rival's form over the box of the twin at a cap.
+fn greatest_of_twin(alloc: Global, cap: u16) -> Result<i128, Fail>
+    requires { 1 ≤ cap }
 {
-    Ok(problem.only(alloc, &[0])?)
+    let problem = twin(alloc)?;
+    let form = form_of_twin(alloc, &problem)?;
+    greatest_at(alloc, &problem, &form, cap)
 }
 
-/// The twin with no request.
-fn twin_without_request(alloc: Global, problem: &Problem) -> Result<Problem, Fail> {
-    Ok(problem.only(alloc, &[])?)
+/// Whether a form is x0 - x1 - 1.
+fn is_expected(form: &Form) -> bool {
+    form.constant == -1 && form.coefficients.as_slice() == [1i64, -1, 0, 0].as_slice()
+}
+
+/// Whether the rival's form is x0 - x1 - 1.
+fn has_expected_form(alloc: Global) -> Result<bool, Fail> {
+    let problem = twin(alloc)?;
+    let form = form_of_twin(alloc, &problem)?;
+    Ok(is_expected(&form))
+}
+
+/// How many paths the twin has with its one request alone.
+fn paths_with_request(alloc: Global) -> Result<usize, Fail> {
+    let problem = twin(alloc)?;
+    let kept = problem.only(alloc, &[0])?;
+    Ok(kept.paths.as_slice().len())
+}
+
+/// How many paths the twin has with no request.
+fn paths_without_request(alloc: Global) -> Result<usize, Fail> {
+    let problem = twin(alloc)?;
+    let kept = problem.only(alloc, &[])?;
+    Ok(kept.paths.as_slice().len())
 }
 
 /// The form x0 - x1 - 1 is at most 9 - 1 - 1 over the whole box, and 1 - 1 - 1 at cap 1.
 #[test]
 fn twin_form(rt: HostRuntime) -> Result<(), Fail> {
-    let alloc = rt.alloc();
-    let problem = twin(alloc)?;
-    let form = form_of_twin(alloc, &problem)?;
-    assert_eq!(rt; greatest_at(alloc, &problem, &form, 9)?, 7);
-    assert_eq!(rt; greatest_at(alloc, &problem, &form, 1)?, -1);
-    assert_eq!(rt; form.constant, -1);
-    assert!(rt; form.coefficients.as_slice() == [1i64, -1, 0, 0].as_slice());
-    Ok(())
-}
-
-/// A cap cuts the upper bounds, and leaves the lower ones.
-#[test]
-fn twin_box(rt: HostRuntime) -> Result<(), Fail> {
-    let alloc = rt.alloc();
-    let problem = twin(alloc)?;
-    let costs = box_of_twin(alloc, &problem, 5)?;
-    assert!(rt; costs.low.as_slice() == [1u16, 1, 1, 1].as_slice());
-    assert!(rt; costs.high.as_slice() == [5u16, 5, 5, 5].as_slice());
+    assert!(rt; has_expected_form(rt.alloc())?);
+    assert_eq!(rt; greatest_of_twin(rt.alloc(), 9)?, 7);
+    assert_eq!(rt; greatest_of_twin(rt.alloc(), 1)?, -1);
     Ok(())
 }
 
 /// The restricted problem of the one request has its path, and that of no request has none.
 #[test]
 fn twin_restricted(rt: HostRuntime) -> Result<(), Fail> {
-    let alloc = rt.alloc();
-    let problem = twin(alloc)?;
-    let whole = twin_with_request(alloc, &problem)?;
-    assert_eq!(rt; whole.paths.as_slice().len(), 1);
-    let bare = twin_without_request(alloc, &problem)?;
-    assert_eq!(rt; bare.paths.as_slice().len(), 0);
-    Ok(())
-}
-
-/// Lists of costs give their items back.
-#[test]
-fn costs_give_their_items(rt: HostRuntime) -> Result<(), Fail> {
-    let costs = CostList::from_items(vec![in rt.alloc(); 7u16, 9]?);
-    assert!(rt; costs.as_slice() == [7u16, 9].as_slice());
+    assert_eq!(rt; paths_with_request(rt.alloc())?, 1);
+    assert_eq!(rt; paths_without_request(rt.alloc())?, 0);
     Ok(())
 }
