@@ -1,5 +1,5 @@
 -- The twin keeps what every problem keeps.
-use Rattle.std.proofs.Common.{◌≡◌, ℕ, zero, suc, ◌+◌, ◌<◌, ◌≤◌, refl, sym, List, [], ◌∷◌, length, slice_index, arith, rules}
+use Rattle.std.proofs.Common.{◌≡◌, ℕ, zero, suc, ◌<◌, ◌≤◌, refl, List, [], ◌∷◌, slice_index, arith, rules}
 use Rattle.std.specs.Prelude.{Any, All}
 use Rattle.area_graph.specs.Area.{Area}
 use Rattle.path_rows.specs.declared.problem.VarName.{VarName}

@@ -1,4 +1,4 @@
-use Rattle.std.proofs.Common.{◌≡◌, ◌≤◌, sym, subst}
+use Rattle.std.proofs.Common.{◌≤◌, sym, subst}
 use Rattle.std.specs.Prelude.{All}
 use Rattle.path_rows.specs.Problems.{DesignProblem}
 use Rattle.worked_cases.proofs.TwinProblem.{twin_low_below}
