@@ -152,12 +152,7 @@ fn push_block_texts(
 }
 
 /// Adds what the three routers of a block have.
-fn push_three(
-    all: &mut Vec<Name>,
-    upper: Name,
-    lower: Name,
-    joint: Name,
-) -> Result<(), OutOfMemory>
+fn push_three(all: &mut Vec<Name>, upper: Name, lower: Name, joint: Name) -> Result<(), OutOfMemory>
     ensures { OnOk result (all.new.items ≡ all.old.items ++ upper ∷ lower ∷ joint ∷ []) }
 {
     all.push(upper)?;

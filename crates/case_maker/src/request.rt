@@ -49,10 +49,7 @@ pub(crate) fn request_text(alloc: Global, blocks: u32, start: u32) -> Result<Nam
     ensures { IfOk result (λ text. text ≡ cases.request start blocks) }
 {
     let mut text = Vec::new(alloc);
-    push_bytes(
-        &mut text,
-        b"ospfcost request 1\narea 0\nfree all 1 65535\n",
-    )?;
+    push_bytes(&mut text, b"ospfcost request 1\narea 0\nfree all 1 65535\n")?;
     let mut whole = Vec::new(alloc);
     push_bytes(&mut whole, b"path ")?;
     let mut number = u64::from(start);
