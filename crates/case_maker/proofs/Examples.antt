@@ -1,5 +1,5 @@
 -- A case of one block, and the sides that start 1 chooses.
-use Rattle.std.proofs.Common.{◌≡◌, ℕ, List, [], ◌∷◌, Bool, true, false, refl, map}
+use Rattle.std.proofs.Common.{◌≡◌, [], ◌∷◌, true, false, refl, map}
 use Rattle.std.specs.Prelude.{codes}
 use Rattle.case_maker.specs.Cases.{made_case, takes_upper, begins_block, joint_config, side_config}
 
