@@ -1,11 +1,10 @@
 -- Numbers that walks reach and that no edge lowers are the least costs of simple paths.
-use Rattle.std.proofs.Common.{◌≡◌, ℕ, ◌+◌, ◌<◌, ◌≤◌, refl, sym, ◌∙◌, ap, subst, List, length, get_or, map, inl, inr, arith, Option, Some, None, true, false, cond, zero, suc, ◌∷◌, [], replicate, set, get_or-set_same, get_or-set_other, length-set}
+use Rattle.std.proofs.Common.{◌≡◌, ℕ, ◌<◌, ◌≤◌, refl, sym, ◌∙◌, ap, subst, List, length, get_or, map, inl, inr, arith, Some, None, cond, zero, suc, ◌∷◌, [], replicate, set, get_or-set_same, get_or-set_other, length-set}
 use Rattle.std.proofs.lemmas.Bool.{cases_lt, lt-ltb, le-ltb}
 use Rattle.std.proofs.lemmas.List.{get_or-map, get_or-replicate, length-replicate}
 use native.Mathlib.Decide.{ℕ_discrete}
-use Rattle.cost_base.specs.Lists.{Lacks}
 use Rattle.area_graph.specs.declared.Point.{Point}
-use Rattle.area_graph.specs.Area.{Area, edge_at, FitsGraph, HasMetrics}
+use Rattle.area_graph.specs.Area.{Area, FitsGraph, HasMetrics}
 use Rattle.area_graph.specs.Paths.{Ends, IsPathOf}
 use Rattle.area_graph.specs.Costs.{cost, FitsPoint}
 use Rattle.area_graph.specs.Distances.{far, AreReached, SettledBelow}
@@ -22,9 +21,9 @@ at_most g p gone t v d reached settled es path =
 -- a number below `far` is the least cost, and another says that there is no path
 pub least_costs : (g : Area) (p : Point) (gone : List ℕ) (t v : ℕ) (d : List ℕ) → FitsGraph g → HasMetrics g → FitsPoint g p → t < length g.vertices → length d ≡ length g.vertices → v < length g.vertices → AreReached g p gone t d → SettledBelow (length g.edges) g p gone d → IsLeastCost g p (record { start = v; end = t; gone = gone }) (cost_below (far p) (get_or d v 0))
 least_costs g p gone t v d graph metrics fits target count start reached settled = elim (cases_lt (get_or d v 0) (far p)) [
-    | inl near ↦ subst (λ b. IsLeastCost g p ends (cond b (Some (get_or d v 0)) None)) (sym (lt-ltb (get_or d v 0) (far p) near)) (known near)
-    | inr none ↦ subst (λ b. IsLeastCost g p ends (cond b (Some (get_or d v 0)) None)) (sym (le-ltb (get_or d v 0) (far p) none)) (unknown none)
-  ]
+  | inl near ↦ subst (λ b. IsLeastCost g p ends (cond b (Some (get_or d v 0)) None)) (sym (lt-ltb (get_or d v 0) (far p) near)) (known near)
+  | inr none ↦ subst (λ b. IsLeastCost g p ends (cond b (Some (get_or d v 0)) None)) (sym (le-ltb (get_or d v 0) (far p) none)) (unknown none)
+]
   where
     ends : Ends
     ends = record { start = v; end = t; gone = gone }

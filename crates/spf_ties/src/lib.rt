@@ -2,6 +2,10 @@
 #![tactic(auto)]
 
 mod lowering;
+mod next_hops;
 mod room;
+#[cfg(test)]
+mod tests;
 
+pub use next_hops::NextHops;
 pub use room::Room;

@@ -1,10 +1,10 @@
 //! The room in which distances are found and kept.
 
-ghost use Rattle.std.specs.Prelude.{◌≡◌, ◌↔◌, ℕ, ◌<◌, [], replicate, length, IfOk, IsTrue, None, true};
-ghost use Rattle.area_graph.specs.Area.{edge_at};
+ghost use Rattle.std.specs.Prelude.{◌≡◌, ℕ, ◌<◌, [], replicate, length, IfOk, None};
 ghost use Rattle.area_graph.specs.Costs.{FitsPoint};
-ghost use Rattle.spf_ties.specs.Distances.{Costs, IsLeastCost, IsRoomFor, distance_at, is_tight};
+ghost use Rattle.spf_ties.specs.Distances.{IsLeastCost, IsRoomFor, distance_at, is_tight, tight_out};
 
+use crate::NextHops;
 use crate::lowering::{Removal, edge_of, find, mark_gone, price_of};
 use area_graph::{Graph, Point};
 use cost_base::OutOfMemory;
@@ -91,7 +91,11 @@ impl Room {
         ensures { result ≡ distance_at self.now vertex }
     {
         let number = self.numbers[vertex as usize];
-        if number < self.far { Some(number) } else { None }
+        if number < self.far {
+            Some(number)
+        } else {
+            None
+        }
     }
 
     /// Whether an edge is tight: both its ends have distances, and the first is the edge's price plus the second. It
@@ -100,7 +104,7 @@ impl Room {
         requires room { IsRoomFor graph.now self.now }
         requires fits { FitsPoint graph.now point.now }
         requires edge { edge < length graph.now.edges }
-        ensures { IsTrue result ↔ (is_tight graph.now point.now self.now edge ≡ true) }
+        ensures { result ≡ is_tight graph.now point.now self.now edge }
     {
         graph.keeps_conditions();
         let edge = edge_of(graph, edge);
@@ -110,6 +114,22 @@ impl Room {
                 price <= from && from - price == to
             }
             _ => false,
+        }
+    }
+
+    /// The tight edges out of a vertex, in rising order: where the last call took no edge away, the next hops of its
+    /// least-cost paths to the target.
+    pub fn next_hops<'a>(&'a self, graph: &'a Graph, point: &'a Point, vertex: u32) -> NextHops<'a>
+        requires room { IsRoomFor graph.now self.now }
+        requires fits { FitsPoint graph.now point.now }
+        requires vertex { vertex < length graph.now.vertices }
+        ensures { result ≡ tight_out graph.now point.now self.now vertex }
+    {
+        NextHops {
+            room: self,
+            graph,
+            point,
+            left: graph.edges_out(vertex),
         }
     }
 }
