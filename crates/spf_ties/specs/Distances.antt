@@ -1,5 +1,5 @@
 -- Least costs over simple paths, and the edges on which they lie.
-use Rattle.std.specs.Prelude.{◌≡◌, ℕ, ◌+◌, ◌≤◌, ◌==◌, nat_lt, List, length, slice_index_or, filter, Option, Some, None, Bool, false, cond}
+use Rattle.std.specs.Prelude.{◌≡◌, ℕ, ◌+◌, ◌≤◌, ◌==◌, nat_lt, List, [], ◌∷◌, length, slice_index_or, filter, Option, Some, None, Bool, true, false, cond}
 use Rattle.area_graph.specs.declared.Point.{Point}
 use Rattle.area_graph.specs.Area.{Area, edge_at, edges_out}
 use Rattle.area_graph.specs.Paths.{Ends, IsPathOf}
@@ -51,3 +51,8 @@ is_tight g p room e = adds_up (distance_at room (edge_at g e).from) (price_at p 
 -- the tight edges out of a vertex, in rising order
 abbrev pub tight_out : Area → Point → Costs → ℕ → List ℕ
 tight_out g p room v = filter (is_tight g p room) (edges_out g v)
+
+-- each edge of a path is tight
+abbrev pub AreTight : Area → Point → Costs → List ℕ → Type 0
+AreTight g p room [] = Unit {0}
+AreTight g p room (e ∷ es) = (is_tight g p room e ≡ true) × AreTight g p room es

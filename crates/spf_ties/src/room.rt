@@ -1,8 +1,9 @@
 //! The room in which distances are found and kept.
 
-ghost use Rattle.std.specs.Prelude.{◌≡◌, ℕ, ◌<◌, [], replicate, length, IfOk, None};
-ghost use Rattle.area_graph.specs.Costs.{FitsPoint};
-ghost use Rattle.spf_ties.specs.Distances.{IsLeastCost, IsRoomFor, distance_at, is_tight, tight_out};
+ghost use Rattle.std.specs.Prelude.{◌≡◌, ◌↔◌, List, Some, ℕ, ◌<◌, [], replicate, length, IfOk, None};
+ghost use Rattle.area_graph.specs.Costs.{FitsPoint, cost};
+ghost use Rattle.area_graph.specs.Paths.{IsPathOf};
+ghost use Rattle.spf_ties.specs.Distances.{AreTight, IsLeastCost, IsRoomFor, distance_at, is_tight, tight_out};
 
 use crate::NextHops;
 use crate::lowering::{Removal, edge_of, find, mark_gone, price_of};
@@ -53,7 +54,8 @@ impl Room {
         })
     }
 
-    /// Finds each vertex's least cost of a simple path to the target.
+    /// Finds each vertex's least cost of a simple path to the target. A simple path has least cost exactly where each of
+    /// its edges is tight.
     pub fn distances_to(&mut self, graph: &Graph, point: &Point, target: u32)
         requires room { IsRoomFor graph.now self.old }
         requires fits { FitsPoint graph.now point.now }
@@ -61,11 +63,14 @@ impl Room {
         ensures room { IsRoomFor graph.now self.new }
         ensures least { (v : ℕ) → v < length graph.now.vertices →
             IsLeastCost graph.now point.now (record { start = v; end = target; gone = [] }) (distance_at self.new v) }
+        ensures tight { (v : ℕ) (path : List ℕ) → IsPathOf graph.now (record { start = v; end = target; gone = [] }) path →
+            (distance_at self.new v ≡ Some (cost graph.now point.now path)) ↔ AreTight graph.now point.now self.new path }
     {
         self.distances_without(graph, point, target, &[]);
     }
 
     /// Finds each vertex's least cost of a simple path to the target that has none of the edges of `gone`.
+    /// Among these paths one has least cost exactly where each of its edges is tight.
     pub fn distances_without(&mut self, graph: &Graph, point: &Point, target: u32, gone: &[u32])
         requires room { IsRoomFor graph.now self.old }
         requires fits { FitsPoint graph.now point.now }
@@ -73,6 +78,8 @@ impl Room {
         ensures room { IsRoomFor graph.now self.new }
         ensures least { (v : ℕ) → v < length graph.now.vertices →
             IsLeastCost graph.now point.now (record { start = v; end = target; gone = gone.now }) (distance_at self.new v) }
+        ensures tight { (v : ℕ) (path : List ℕ) → IsPathOf graph.now (record { start = v; end = target; gone = gone.now }) path →
+            (distance_at self.new v ≡ Some (cost graph.now point.now path)) ↔ AreTight graph.now point.now self.new path }
     {
         graph.keeps_conditions();
         mark_gone(&mut self.marks, gone);
