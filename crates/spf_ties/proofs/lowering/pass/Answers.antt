@@ -1,0 +1,18 @@
+use Rattle.std.proofs.Common.{rules, ◌+◌, ◌<◌, sym, subst, Bool, length}
+use Rattle.area_graph.proofs.Passes.{Passed, passed_lower, passed_stays}
+use Rattle.spf_ties.proofs.lowering.pass.Goals.{then-visit, else-visit}
+use Rattle.spf_ties.proofs.lowering.pass.Goals as goal
+
+pub loop-number-preserved : goal.loop-number-preserved
+loop-number-preserved c =
+    let known : c.loop-number.number < length c.args.graph.now.edges = search rules in
+    let after = λ (b : Bool). Passed c.args.graph.now c.args.point.now c.args.removal.now.numbers (c.loop-number.number + 1) c.args.distances.now.items c.visit.new.distances.items b in
+    elim c.if-visit.branch [
+      | then-visit w ↦
+          let both = c.visit.ensures.lowered w.if-visit.true in
+          subst after (sym w.lowered-is)
+          (passed_lower c.args.graph.now c.args.point.now c.args.removal.now.numbers c.loop-number.number c.args.distances.now.items c.loop-number.distances.items c.visit.new.distances.items c.loop-number.lowered c.keeps_conditions.ensures.fits c.requires.count c.loop-number.invariant known both.0 both.1)
+      | else-visit w ↦
+          subst after (sym w.lowered-is)
+          (passed_stays c.args.graph.now c.args.point.now c.args.removal.now.numbers c.loop-number.number c.args.distances.now.items c.loop-number.distances.items c.visit.new.distances.items c.loop-number.lowered c.loop-number.invariant (c.visit.ensures.same w.if-visit.false) (c.visit.ensures.least w.if-visit.false))
+    ]

@@ -1,0 +1,58 @@
+-- Least costs over simple paths, and the edges on which they lie.
+use Rattle.std.specs.Prelude.{◌≡◌, ℕ, ◌+◌, ◌≤◌, ◌==◌, nat_lt, List, [], ◌∷◌, length, slice_index_or, filter, Option, Some, None, Bool, true, false, cond}
+use Rattle.area_graph.specs.declared.Point.{Point}
+use Rattle.area_graph.specs.Area.{Area, edge_at, edges_out}
+use Rattle.area_graph.specs.Paths.{Ends, IsPathOf}
+use Rattle.area_graph.specs.Costs.{price_at, cost}
+
+-- some path of the request costs so much, and none costs less
+pub record IsLeast (g : Area) (p : Point) (ends : Ends) (least : ℕ) : Type 0 where
+  pub path : List ℕ
+  pub is_path : IsPathOf g ends path
+  pub costs : cost g p path ≡ least
+  pub none_less : (other : List ℕ) → IsPathOf g ends other → least ≤ cost g p other
+
+-- the least cost of a path of the request, None where it has no path
+abbrev pub IsLeastCost : Area → Point → Ends → Option ℕ → Type 0
+IsLeastCost g p ends (Some least) = IsLeast g p ends least
+IsLeastCost g p ends None = (path : List ℕ) → IsPathOf g ends path → ⊥
+
+-- what a room tells: each vertex's least cost to the target of the last call
+pub record Costs : Type 0 where
+  pub edges : ℕ
+  pub costs : List (Option ℕ)
+
+-- a number that stands for a least cost where it is below `far`
+abbrev pub cost_below : ℕ → ℕ → Option ℕ
+cost_below far number = cond (nat_lt number far) (Some number) None
+
+abbrev pub distance_at : Costs → ℕ → Option ℕ
+distance_at room v = slice_index_or room.costs v None
+
+-- a room made for a graph of as many vertices and edges
+pub record IsRoomFor (g : Area) (room : Costs) : Type 0 where
+  pub vertices : length room.costs ≡ length g.vertices
+  pub edges : room.edges ≡ length g.edges
+
+-- the edges that are gone, of a graph with so many edges
+pub record Gone : Type 0 where
+  pub numbers : List ℕ
+  pub edges : ℕ
+
+abbrev pub adds_up : Option ℕ → ℕ → Option ℕ → Bool
+adds_up None price to = false
+adds_up (Some from) price None = false
+adds_up (Some from) price (Some to) = from == price + to
+
+-- both ends have distances, and the first is the edge's price and the second
+abbrev pub is_tight : Area → Point → Costs → ℕ → Bool
+is_tight g p room e = adds_up (distance_at room (edge_at g e).from) (price_at p (edge_at g e).price) (distance_at room (edge_at g e).to)
+
+-- the tight edges out of a vertex, in rising order
+abbrev pub tight_out : Area → Point → Costs → ℕ → List ℕ
+tight_out g p room v = filter (is_tight g p room) (edges_out g v)
+
+-- each edge of a path is tight
+abbrev pub AreTight : Area → Point → Costs → List ℕ → Type 0
+AreTight g p room [] = Unit {0}
+AreTight g p room (e ∷ es) = (is_tight g p room e ≡ true) × AreTight g p room es

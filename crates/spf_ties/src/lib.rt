@@ -1,0 +1,11 @@
+//! Distances to a target over simple paths, and the edges that tie for the next hop (RFC 2328, 16.1 and 16.8).
+#![tactic(auto)]
+
+mod lowering;
+mod next_hops;
+mod room;
+#[cfg(test)]
+mod tests;
+
+pub use next_hops::NextHops;
+pub use room::Room;

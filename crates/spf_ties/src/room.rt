@@ -1,0 +1,142 @@
+//! The room in which distances are found and kept.
+
+ghost use Rattle.std.specs.Prelude.{◌≡◌, ◌↔◌, List, Some, ℕ, ◌<◌, [], replicate, length, IfOk, None};
+ghost use Rattle.area_graph.specs.Costs.{FitsPoint, cost};
+ghost use Rattle.area_graph.specs.Paths.{IsPathOf};
+ghost use Rattle.spf_ties.specs.Distances.{AreTight, IsLeastCost, IsRoomFor, distance_at, is_tight, tight_out};
+
+use crate::NextHops;
+use crate::lowering::{Removal, edge_of, find, mark_gone, price_of};
+use area_graph::{Graph, Point};
+use cost_base::OutOfMemory;
+use std::alloc::Global;
+use std::marker::Model;
+
+/// Room for the distances of a graph's vertices to a target. Contracts see the distances of the last call, none of them
+/// known before it, and how many edges the graph has.
+#[derive(Drop)]
+pub struct Room {
+    far: u128,
+    numbers: Vec<u128>,
+    marks: Vec<bool>,
+}
+
+impl Model for Room {
+    ghost use Rattle.std.specs.Prelude.{length, map};
+    ghost use Rattle.spf_ties.specs.Distances.{Costs, cost_below};
+
+    ghost Value = { Costs };
+
+    ghost view = { λ r. record { edges = length r.marks.items; costs = map (cost_below r.far) r.numbers.items } };
+}
+
+impl Room {
+    /// Room for a graph, with no distance known. No later call takes memory.
+    ///
+    /// # Errors
+    ///
+    /// `OutOfMemory` where the room got no memory.
+    pub fn new(alloc: Global, graph: &Graph) -> Result<Room, OutOfMemory>
+        ensures { IfOk result (λ room. room ≡ record { edges = length graph.now.edges; costs = replicate (length graph.now.vertices) None }) }
+    {
+        let numbers = match vec![in alloc; 0; graph.vertices().len()] {
+            Ok(numbers) => numbers,
+            Err(_) => return Err(OutOfMemory),
+        };
+        let marks = match vec![in alloc; false; graph.edges().len()] {
+            Ok(marks) => marks,
+            Err(_) => return Err(OutOfMemory),
+        };
+        Ok(Room {
+            far: 0,
+            numbers,
+            marks,
+        })
+    }
+
+    /// Finds each vertex's least cost of a simple path to the target. A simple path has least cost exactly where each of
+    /// its edges is tight.
+    pub fn distances_to(&mut self, graph: &Graph, point: &Point, target: u32)
+        requires room { IsRoomFor graph.now self.old }
+        requires fits { FitsPoint graph.now point.now }
+        requires target { target < length graph.now.vertices }
+        ensures room { IsRoomFor graph.now self.new }
+        ensures least { (v : ℕ) → v < length graph.now.vertices →
+            IsLeastCost graph.now point.now (record { start = v; end = target; gone = [] }) (distance_at self.new v) }
+        ensures tight { (v : ℕ) (path : List ℕ) → IsPathOf graph.now (record { start = v; end = target; gone = [] }) path →
+            (distance_at self.new v ≡ Some (cost graph.now point.now path)) ↔ AreTight graph.now point.now self.new path }
+    {
+        self.distances_without(graph, point, target, &[]);
+    }
+
+    /// Finds each vertex's least cost of a simple path to the target that has none of the edges of `gone`.
+    /// Among these paths one has least cost exactly where each of its edges is tight.
+    pub fn distances_without(&mut self, graph: &Graph, point: &Point, target: u32, gone: &[u32])
+        requires room { IsRoomFor graph.now self.old }
+        requires fits { FitsPoint graph.now point.now }
+        requires target { target < length graph.now.vertices }
+        ensures room { IsRoomFor graph.now self.new }
+        ensures least { (v : ℕ) → v < length graph.now.vertices →
+            IsLeastCost graph.now point.now (record { start = v; end = target; gone = gone.now }) (distance_at self.new v) }
+        ensures tight { (v : ℕ) (path : List ℕ) → IsPathOf graph.now (record { start = v; end = target; gone = gone.now }) path →
+            (distance_at self.new v ≡ Some (cost graph.now point.now path)) ↔ AreTight graph.now point.now self.new path }
+    {
+        graph.keeps_conditions();
+        mark_gone(&mut self.marks, gone);
+        let removal = Removal {
+            gone,
+            marks: self.marks.as_slice(),
+        };
+        find(graph, point, &removal, target, &mut self.numbers);
+        self.far = (1 << 26) * point.scale;
+    }
+
+    /// The least cost of a simple path from the vertex to the target of the last call; None where none leads there, or
+    /// before any call.
+    pub fn distance(&self, vertex: u32) -> Option<u128>
+        requires { vertex < length self.now.costs }
+        ensures { result ≡ distance_at self.now vertex }
+    {
+        let number = self.numbers[vertex as usize];
+        if number < self.far {
+            Some(number)
+        } else {
+            None
+        }
+    }
+
+    /// Whether an edge is tight: both its ends have distances, and the first is the edge's price plus the second. It
+    /// asks only for price and distances, also of an edge that was taken away.
+    pub fn tight(&self, graph: &Graph, point: &Point, edge: u32) -> bool
+        requires room { IsRoomFor graph.now self.now }
+        requires fits { FitsPoint graph.now point.now }
+        requires edge { edge < length graph.now.edges }
+        ensures { result ≡ is_tight graph.now point.now self.now edge }
+    {
+        graph.keeps_conditions();
+        let edge = edge_of(graph, edge);
+        match (self.distance(edge.from), self.distance(edge.to)) {
+            (Some(from), Some(to)) => {
+                let price = price_of(edge.price, point);
+                price <= from && from - price == to
+            }
+            _ => false,
+        }
+    }
+
+    /// The tight edges out of a vertex, in rising order: where the last call took no edge away, the next hops of its
+    /// least-cost paths to the target.
+    pub fn next_hops<'a>(&'a self, graph: &'a Graph, point: &'a Point, vertex: u32) -> NextHops<'a>
+        requires room { IsRoomFor graph.now self.now }
+        requires fits { FitsPoint graph.now point.now }
+        requires vertex { vertex < length graph.now.vertices }
+        ensures { result ≡ tight_out graph.now point.now self.now vertex }
+    {
+        NextHops {
+            room: self,
+            graph,
+            point,
+            left: graph.edges_out(vertex),
+        }
+    }
+}
