@@ -8,7 +8,8 @@ use crate::paths::edge_of;
 use crate::{Graph, Path, Point, Price};
 
 /// What a price counts at a point: a fixed cost counts the scale as often as its number says, a variable its value.
-pub(crate) fn price_of(price: Price, point: &Point) -> u128
+/// Takes no memory.
+pub fn price_of(price: Price, point: &Point) -> u128
     requires scale { point.now.scale < 2 ^ 100 }
     requires known { IsPriced (length point.now.values) price }
     ensures { result ≡ price_at point.now price }

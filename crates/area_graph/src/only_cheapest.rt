@@ -9,65 +9,11 @@ ghost use Rattle.area_graph.specs.Paths.{IsPathOf, IsSimple};
 ghost use Rattle.area_graph.specs.Distances.{AreMarks, AreReached, IsDearer, Leads, SettledBelow, ShorterBy, StaysBy, far, through};
 
 use crate::costs::{path_cost, price_of};
-use crate::paths::{edge_of, lacks};
+use crate::paths::edge_of;
+use crate::removal::{Removal, mark_gone};
 use crate::{Edge, Graph, Path, Point};
 use cost_base::OutOfMemory;
 use std::alloc::Global;
-use std::marker::Model;
-
-/// The edges that a request takes away, with a mark for each edge of the graph that tells at once whether it is one of
-/// them. Contracts see the list of their numbers.
-#[derive(Drop)]
-struct Removal<'a> {
-    gone: &'a [u32],
-    marks: Vec<bool>,
-}
-
-impl<'a> Model for Removal<'a> {
-    ghost use Rattle.std.specs.Prelude.{ℕ, List};
-
-    ghost Value = { List ℕ };
-
-    ghost use Rattle.area_graph.specs.Distances.{AreMarks};
-
-    ghost view = { λ r. r.gone.now };
-
-    ghost invariant = { λ r. AreMarks r.gone.now r.marks.items };
-}
-
-impl<'a> Removal<'a> {
-    fn new(alloc: Global, gone: &'a [u32], edges: usize) -> Result<Removal<'a>, OutOfMemory>
-        ensures { IfOk result (λ removal. removal ≡ gone.now) }
-    {
-        let mut marks = match vec![in alloc; false; edges] {
-            Ok(marks) => marks,
-            Err(_) => return Err(OutOfMemory),
-        };
-        for edge in gone {
-            mark(&mut marks, *edge);
-        }
-        Ok(Removal { gone, marks })
-    }
-
-    fn leaves(&self, edge: u32) -> bool
-        ensures { IsTrue result ↔ Lacks self.now edge }
-    {
-        if (edge as usize) < self.marks.len() {
-            !self.marks[edge as usize]
-        } else {
-            lacks(self.gone, edge)
-        }
-    }
-}
-
-/// Sets the mark of one edge more, if it is an edge of the graph.
-fn mark(marks: &mut Vec<bool>, edge: u32)
-    ensures { (gone : List ℕ) → AreMarks gone marks.old.items → AreMarks (gone ++ edge ∷ []) marks.new.items }
-{
-    if (edge as usize) < marks.len() {
-        marks[edge as usize] = true;
-    }
-}
 
 /// Lowers the number of an edge's start to the edge's price and its end's number, where that is less.
 fn shorten(edge: Edge, point: &Point, distances: &mut Vec<u128>) -> bool
@@ -252,7 +198,15 @@ pub fn is_only_cheapest(
         IsOnlyCheapest graph.now point.now (record { start = path.now.start; end = end; gone = gone.now }) path.now.edges) }
 {
     graph.keeps_conditions();
-    let removal = Removal::new(alloc, gone, graph.edges().len())?;
+    let mut marks = match vec![in alloc; false; graph.edges().len()] {
+        Ok(marks) => marks,
+        Err(_) => return Err(OutOfMemory),
+    };
+    mark_gone(&mut marks, gone);
+    let removal = Removal {
+        gone,
+        marks: marks.as_slice(),
+    };
     let distances = distances_to(alloc, graph, point, &removal, end)?;
     Ok(leads(graph, point, path, &removal, distances.as_slice()))
 }

@@ -7,8 +7,8 @@ ghost use Rattle.area_graph.specs.Paths.{Avoids, Ends, IsPathOf, IsSimple, Joins
 
 use crate::{Edge, Graph, Path};
 
-/// The edge of a number.
-pub(crate) fn edge_of(graph: &Graph, number: u32) -> Edge
+/// The edge of a number. Takes no memory.
+pub fn edge_of(graph: &Graph, number: u32) -> Edge
     requires { number < length graph.now.edges }
     ensures { result ≡ edge_at graph.now number }
 {

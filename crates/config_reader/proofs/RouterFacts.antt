@@ -1,15 +1,15 @@
 -- What a configuration says keeps the facts of a router.
-use Rattle.std.proofs.Common.{◌≡◌, ◌≢◌, ℕ, zero, suc, ◌+◌, ◌<◌, ◌≤◌, List, [], ◌∷◌, ◌++◌, length, get_or, map, All, Bool, cond, true, false, ◌&&◌, not, refl, sym, ap, ◌∙◌, subst, arith, Option, Some, None, eqb, leb}
+use Rattle.std.proofs.Common.{◌≡◌, ◌≢◌, ℕ, zero, suc, ◌+◌, ◌<◌, ◌≤◌, List, [], ◌∷◌, ◌++◌, length, get_or, map, All, Bool, cond, true, false, ◌&&◌, not, refl, sym, ap, ◌∙◌, subst, arith, Option, Some, None, eqb}
 use Rattle.std.specs.Prelude.{◌==◌, codes, AllPairs, nat_le}
 use Rattle.std.specs.List.{filter_map, list_any, list_all}
 use Rattle.std.proofs.lemmas.Bool.{false≢true, and_parts, or_left, or_right, or_from, ne_eqb, leb-true, not-true, eqb-false}
 use Rattle.std.proofs.lemmas.List.Folds.{list_all-append}
 use Rattle.std.proofs.lemmas.List.Elements.{All-nil, All-cons}
-use Rattle.cost_base.specs.Decimal.{is_digit, decimal_value}
 use Rattle.cost_base.specs.Lists.{numbers_from, first_of, last_of, same_bytes}
 use Rattle.cost_base.specs.Words.{is_blank, ends_a_word, IsOneWord, IsWord}
 use Rattle.text_lines.specs.Lines.{lines, words, ends_word, grow, kind_of, is_head}
 use Rattle.text_lines.specs.Numbers.{Prefix, prefix, prefix_of_pieces, joined_prefix, quad, number_within, split}
+use Rattle.text_lines.proofs.NumberLaws.{number_within-le}
 use Rattle.text_lines.specs.declared.LineKind.{LineKind}
 use Rattle.text_lines.specs.declared.LineKind.TheVariants.{Blank, Comment, Head, Indented}
 use Rattle.interface_model.specs.declared.Interface.{Interface}
@@ -45,15 +45,6 @@ fits_cond : (b : Bool) (s t : Statement) → Fits s → Fits t → Fits (cond b 
 fits_cond true s t f g = f
 fits_cond false s t f g = g
 
--- a number within bounds is at most the greatest
-within-le : (most greatest : ℕ) (text : List ℕ) (n : ℕ) → number_within most greatest text ≡ Some n → n ≤ greatest
-within-le most greatest text n e = cases (nat_le 1 (length text) && nat_le (length text) most && list_all is_digit text) (leb (decimal_value text) greatest) refl e
-  where
-    cases : (a b : Bool) → leb (decimal_value text) greatest ≡ b → cond (a && b) (Some (decimal_value text)) None ≡ Some n → n ≤ greatest
-    cases true true small h = let same : decimal_value text ≡ n = cc in omega (arith, leb-true (decimal_value text) greatest small)
-    cases true false small h = absurd (cc)
-    cases false b small h = absurd (cc)
-
 address_fits : (text : List ℕ) → Fits (address_statement (prefix text))
 address_fits text = by_pieces (split 47 text)
   where
@@ -66,7 +57,7 @@ address_fits text = by_pieces (split 47 text)
     by_pieces : (ps : List (List ℕ)) → Fits (address_statement (prefix_of_pieces ps))
     by_pieces [] = record { fact = tt }
     by_pieces (a ∷ []) = record { fact = tt }
-    by_pieces (a ∷ l ∷ []) = joined (quad a) (number_within 2 32 l) (λ n e. within-le 2 32 l n e)
+    by_pieces (a ∷ l ∷ []) = joined (quad a) (number_within 2 32 l) (λ n e. number_within-le 2 32 l n e)
     by_pieces (a ∷ l ∷ m ∷ ps) = record { fact = tt }
 
 alone_fits : (b : Bool) (s : Statement) → Fits s → Fits (alone b s)

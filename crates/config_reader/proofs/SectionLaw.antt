@@ -1,5 +1,6 @@
 -- A configuration with a printed section after it.
 use Rattle.std.proofs.Common.{◌≡◌, ℕ, ◌+◌, ◌≤◌, List, [], ◌∷◌, ◌++◌, length, map, All, Bool, cond, true, false, refl, sym, ap, ◌∙◌, subst, arith, append-nil, append_assoc, eqb, Some, Contains}
+use Rattle.std.proofs.lemmas.Simd.{map-map}
 use Rattle.std.specs.Prelude.{codes}
 use Rattle.std.specs.List.{filter, join_with_byte}
 use Rattle.std.proofs.lemmas.Bool.{ne_eqb}
@@ -41,10 +42,6 @@ config_of-lines file_name bytes = refl
 pub map_agree : {X Y : Type 0} (f g : X → Y) (xs : List X) → ((x : X) → f x ≡ g x) → map f xs ≡ map g xs
 map_agree f g [] agree = refl
 map_agree f g (x ∷ xs) agree = cc (agree x, map_agree f g xs agree)
-
-map-map : {X Y Z : Type 0} (f : Y → Z) (g : X → Y) (xs : List X) → map f (map g xs) ≡ map (λ x. f (g x)) xs
-map-map f g [] = refl
-map-map f g (x ∷ xs) = ap (λ ys. f (g x) ∷ ys) (map-map f g xs)
 
 -- one more thing said that is of no router block keeps the router id
 router_id_kept : (all : List Said) (s : Said) → is_of_router s.block ≡ false → about_router (all ++ s ∷ []) ≡ about_router all

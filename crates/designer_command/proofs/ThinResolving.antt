@@ -20,7 +20,7 @@ use Rattle.path_requests.specs.Resolution.{is_known, is_joined, is_none_twice, i
 use Rattle.path_requests.specs.Thin.{IsThinAsked}
 use Rattle.path_requests.proofs.RouteLaws.{numbers_length, route_simple}
 use Rattle.path_requests.proofs.ThinProblems.{plain_request, routes_of, thin_owners, thin_problem_is}
-use Rattle.path_requests.proofs.ProblemLaws.{same_problem, plain_problem, thin_problem_plain, thin_is_problem}
+use Rattle.path_requests.proofs.ProblemLaws.{same_whole_problem, plain_problem, thin_problem_plain, thin_is_problem}
 use Rattle.designer_command.specs.ThinRequests.{IsThin}
 use Rattle.designer_command.specs.ThinResolution.{IsPlainGraph, first_range, problem_with}
 
@@ -97,7 +97,7 @@ items_resolve a d g paths thin asked base few plain passes paths_are =
     (le-leb (length (owners a d)) 1000 (omega arith)) in
     let range = ap first_range form.lines_are in
     let same : problem_with d (first_range a.items) g paths ≡ problem_of a d
-    = same_problem (problem_with d (first_range a.items) g paths) (plain_problem d lo hi (routes_of form.paths)) plain.is refl
+    = same_whole_problem (problem_with d (first_range a.items) g paths) (plain_problem d lo hi (routes_of form.paths)) plain.is refl
     (ap (λ (r : ℕ × ℕ). replicate n r.0) range) (ap (λ (r : ℕ × ℕ). replicate n r.1) range)
     (paths_are ∙ ap (λ (items : List Item). map (plain_request d g) (routes_of items)) form.lines_are ∙ ap (λ (h : Area). map (plain_request d h) (routes_of form.paths)) plain.is)
     ∙ sym (thin_problem_plain a d lo hi form) in

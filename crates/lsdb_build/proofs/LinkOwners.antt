@@ -1,5 +1,5 @@
 -- Each link of an area's database is an interface of its router's configuration.
-use Rattle.std.proofs.Common.{◌≡◌, ℕ, suc, ◌+◌, refl, sym, ◌∙◌, ap, List, [], ◌∷◌, length, map, arith, Bool, true, false, cond, Option, Some, None}
+use Rattle.std.proofs.Common.{◌≡◌, ℕ, suc, ◌+◌, refl, sym, ◌∙◌, ap, List, [], ◌∷◌, map, arith, Bool, true, false, cond, Option, Some, None}
 use Rattle.std.specs.Prelude.{All, Contains, slice_get, not, ◌&&◌, nat_le}
 use Rattle.std.proofs.lemmas.List.Elements.{All-nil, All-cons, All-append, All-weaker, All-filter, All-map}
 use Rattle.interface_model.specs.declared.Interface.{Interface}

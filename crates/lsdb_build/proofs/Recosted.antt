@@ -3,6 +3,7 @@ use Rattle.std.proofs.Common.{◌≡◌, ℕ, zero, suc, ◌+◌, refl, sym, ◌
 use Rattle.std.specs.Prelude.{filter, unwrap_or, not, ◌&&◌, ◌||◌, nat_le}
 use Rattle.std.specs.List.{list_any}
 use Rattle.std.proofs.lemmas.List.{map-append}
+use Rattle.std.proofs.lemmas.Simd.{map-map}
 use Rattle.std.proofs.lemmas.List.Elements.{filter_agree}
 use Rattle.std.proofs.lemmas.List.Folds.{fold-map}
 use Rattle.area_graph.specs.declared.Price.{Price}
@@ -56,14 +57,6 @@ filter_map_is test f (x ∷ xs) =
 any_map_is : {X Y : Type 0} (test : Y → Bool) (f : X → Y) (xs : List X) → list_any test (map f xs) ≡ list_any (λ x. test (f x)) xs
 any_map_is test f [] = refl
 any_map_is test f (x ∷ xs) = ap (λ later. test (f x) || later) (any_map_is test f xs)
-
-map_map : {X Y Z : Type 0} (f : X → Y) (g : Y → Z) (xs : List X) → map g (map f xs) ≡ map (λ x. g (f x)) xs
-map_map f g [] = refl
-map_map f g (x ∷ xs) = ap (λ zs. g (f x) ∷ zs) (map_map f g xs)
-
-map_agree : {X Y : Type 0} (f g : X → Y) (xs : List X) → ((x : X) → f x ≡ g x) → map f xs ≡ map g xs
-map_agree f g [] agree = refl
-map_agree f g (x ∷ xs) agree = cc (agree x, map_agree f g xs agree)
 
 -- Each step of the topology.
 
@@ -149,16 +142,16 @@ names_are c n (r ∷ routers) = ap (λ names. r.name ∷ names) (names_are c (n 
 links_are : (c : ℕ → List ℕ → Option ℕ → Option ℕ) (all : List Port) → map (link_of (map (recosted_port c) all)) (linked (map (recosted_port c) all)) ≡ map (recosted_link c) (map (link_of all) (linked all))
 links_are c all =
     rw (linked_is c all)
-    (map_map (recosted_port c) (link_of (map (recosted_port c) all)) (linked all)
-    ∙ map_agree (λ (p : Port). link_of (map (recosted_port c) all) (recosted_port c p)) (λ (p : Port). recosted_link c (link_of all p)) (linked all) (link_is c all)
-    ∙ sym (map_map (link_of all) (recosted_link c) (linked all)))
+    (map-map (link_of (map (recosted_port c) all)) (recosted_port c) (linked all)
+    ∙ ap (λ (f : Port → Linked). map f (linked all)) (λ i p. link_is c all p i)
+    ∙ sym (map-map (recosted_link c) (link_of all) (linked all)))
 
 subnets_are : (c : ℕ → List ℕ → Option ℕ → Option ℕ) (all : List Port) → map (λ first. places_from 0 (shares_subnet first) (linked (map (recosted_port c) all))) (transit_subnets (map (recosted_port c) all)) ≡ map (λ first. places_from 0 (shares_subnet first) (linked all)) (transit_subnets all)
 subnets_are c all =
     rw (transit_is c all, linked_is c all)
-    (map_map (recosted_port c) (λ (first : Port). places_from 0 (shares_subnet first) (map (recosted_port c) (linked all))) (transit_subnets all)
-    ∙ map_agree (λ (first : Port). places_from 0 (shares_subnet (recosted_port c first)) (map (recosted_port c) (linked all))) (λ (first : Port). places_from 0 (shares_subnet first) (linked all)) (transit_subnets all)
-    (λ first. places_is (recosted_port c) (shares_subnet (recosted_port c first)) 0 (linked all)))
+    (map-map (λ (first : Port). places_from 0 (shares_subnet first) (map (recosted_port c) (linked all))) (recosted_port c) (transit_subnets all)
+    ∙ ap (λ (f : Port → List ℕ). map f (transit_subnets all))
+    (λ i first. places_is (recosted_port c) (shares_subnet (recosted_port c first)) 0 (linked all) i))
 
 database_parts : (routers names : List (List ℕ)) (links others : List Linked) (subnets members : List (List ℕ)) → routers ≡ names → links ≡ others → subnets ≡ members →
     ◌≡◌ {A = Database} (record { routers = routers; links = links; subnets = subnets }) (record { routers = names; links = others; subnets = members })
@@ -188,7 +181,7 @@ link_edges_are c n (link ∷ links) (price ∷ prices) =
 subnet_edges_are : (c : ℕ → List ℕ → Option ℕ → Option ℕ) (links : List Linked) (vertex : ℕ) (subnets : List (List ℕ)) → subnet_edges (map (recosted_link c) links) vertex subnets ≡ subnet_edges links vertex subnets
 subnet_edges_are c links vertex [] = refl
 subnet_edges_are c links vertex (members ∷ subnets) =
-    rw (map_map (recosted_link c) (λ (link : Linked). link.router) links)
+    rw (map-map (λ (link : Linked). link.router) (recosted_link c) links)
     (ap (λ (es : List Edge). map (λ l. record { from = vertex; to = router_of links l; price = Zero }) members ++ es) (subnet_edges_are c links (vertex + 1) subnets))
 
 -- the graph at given prices is that of the database with other costs

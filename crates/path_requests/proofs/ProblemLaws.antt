@@ -6,6 +6,7 @@ use Rattle.std.proofs.lemmas.List.{get_or_default, length-map, length-replicate,
 use Rattle.std.proofs.lemmas.List.Elements.{All-nil, All-cons, All-head, All-tail, All-append, All-map}
 use Rattle.std.proofs.lemmas.List.Sums.{sum_by-cons}
 use Rattle.std.proofs.lemmas.Bool.{and_parts, leb-true}
+use Rattle.path_rows.proofs.RestrictedProblems.{same_problem}
 use Rattle.cost_base.specs.Words.{IsWord}
 use Rattle.cost_base.specs.Lists.{numbers_from}
 use Rattle.area_graph.specs.declared.Price.{Price}
@@ -105,14 +106,9 @@ names_words d l (link ∷ links) words each =
     All-cons (λ (name : VarName). IsWord name.router × IsWord name.interface) (record { router = slice_index_or d.routers link.router []; interface = link.interface; var = l }) (plain_names d.routers (l + 1) links)
     (words link.router [] first.router, first.name) (names_words d (l + 1) links words (All-tail (IsLink d) link links each))
 
-same_parts : (g h : Area) (v w : List VarName) (l m hi hj : List ℕ) (rs ss : List Request) → g ≡ h → v ≡ w → l ≡ m → hi ≡ hj → rs ≡ ss →
-    ◌≡◌ {A = DesignProblem} (record { graph = g; vars = v; low = l; high = hi; paths = rs }) (record { graph = h; vars = w; low = m; high = hj; paths = ss })
-same_parts g h v w l m hi hj rs ss graph vars low high paths = cc
-
 -- problems with the same parts are one
-pub same_problem : (p q : DesignProblem) → p.graph ≡ q.graph → p.vars ≡ q.vars → p.low ≡ q.low → p.high ≡ q.high → p.paths ≡ q.paths → p ≡ q
-same_problem p q graph vars low high paths =
-    same_parts p.graph q.graph p.vars q.vars p.low q.low p.high q.high p.paths q.paths graph vars low high paths
+pub same_whole_problem : (p q : DesignProblem) → p.graph ≡ q.graph → p.vars ≡ q.vars → p.low ≡ q.low → p.high ≡ q.high → p.paths ≡ q.paths → p ≡ q
+same_whole_problem p q = same_problem p.graph q.graph p.vars q.vars p.low q.low p.high q.high p.paths q.paths
 
 -- the problem whose links are all free from lo to hi, each with the variable of its number
 abbrev pub plain_problem : Database → ℕ → ℕ → List Route → DesignProblem
@@ -130,7 +126,7 @@ plain_problem d lo hi routes =
 pub thin_problem_plain : (a : Asked) (d : Database) (lo hi : ℕ) (thin : IsThinAsked a lo hi) → problem_of a d ≡ plain_problem d lo hi (routes_of thin.paths)
 thin_problem_plain a d lo hi thin =
     let is = thin_problem_is a d lo hi thin in
-    same_problem (problem_of a d) (plain_problem d lo hi (routes_of thin.paths)) is.graph_is is.vars_are is.low_is is.high_is
+    same_whole_problem (problem_of a d) (plain_problem d lo hi (routes_of thin.paths)) is.graph_is is.vars_are is.low_is is.high_is
     (is.paths_are ∙ ap (λ (g : Area). map (plain_request d g) (routes_of thin.paths)) is.graph_is)
 
 pub plain_is_problem : (d : Database) (lo hi : ℕ) (routes : List Route) → IsDatabase d → 1 ≤ lo → lo ≤ hi → length d.links ≤ 1000 → length routes ≤ 10000 → All (λ route. resolves_route d (graph_at d (map Var (numbers_from 0 (length d.links)))) route ≡ true) routes → IsProblem (plain_problem d lo hi routes)

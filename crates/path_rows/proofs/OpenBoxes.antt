@@ -1,13 +1,13 @@
 -- One box and a stack of the ends that were changed stand for the list of the open boxes. So entries can be read from
 -- the first to the last with one box that is changed and put back, and no box is copied.
-use Rattle.std.proofs.Common.{◌≡◌, ℕ, ◌+◌, ◌<◌, refl, sym, ◌∙◌, ap, subst, List, [], ◌∷◌, ◌++◌, length, get_or, set}
+use Rattle.std.proofs.Common.{◌≡◌, ℕ, ◌+◌, sym, ◌∙◌, ap, subst, List, [], ◌∷◌}
 use Rattle.std.specs.Prelude.{slice_index, slice_set}
 use Rattle.std.proofs.lemmas.List.{set-get_or, set-set}
 use Rattle.path_rows.specs.declared.form.Form.{Form}
 use Rattle.path_rows.specs.declared.form.CostBox.{CostBox}
 use Rattle.path_rows.specs.declared.tree.Side.TheVariants.{Low, High}
 use Rattle.path_rows.specs.declared.tree.Entry.{Entry}
-use Rattle.path_rows.specs.declared.tree.Entry.TheVariants.{Tighten, Split, Halve, Refute, Undone}
+use Rattle.path_rows.specs.declared.tree.Entry.TheVariants.{Tighten, Split}
 use Rattle.path_rows.specs.Boxes.{with_low, with_high}
 use Rattle.path_rows.specs.Trees.{Sound, SoundAt}
 

@@ -10,6 +10,7 @@ use Rattle.std.proofs.lemmas.List.Folds.{Any-from_list_any}
 use Rattle.std.proofs.lemmas.Bool.{ne_eqb, eqb-true}
 use Rattle.cost_base.specs.Lists.{Lacks, NoneTwice}
 use Rattle.area_graph.specs.Area.{Area, FitsGraph, edge_at, no_edge}
+use Rattle.area_graph.proofs.Visits.{joined_known}
 use Rattle.area_graph.specs.Paths.{Joins, IsSimple, Ends, IsPathOf, visited}
 use Rattle.path_rows.specs.declared.problem.Request.{Request}
 use Rattle.path_rows.specs.Problems.{ends_of}
@@ -59,12 +60,6 @@ simple-short g s es t fits simple =
     let edges = length-map es (λ e. (edge_at g e).to) in
     omega arith
 
--- the edges of a path are edges of the graph
-pub joins-known : (g : Area) (s : ℕ) (es : List ℕ) (t : ℕ) → Joins g s es t → All (λ e. e < length g.edges) es
-joins-known g s [] t joins k d k_in = absurd (omega arith)
-joins-known g s (e ∷ es) t joins zero d k_in = joins.0
-joins-known g s (e ∷ es) t joins (suc k) d k_in = joins-known g (edge_at g e).to es t joins.2 k d (omega arith)
-
 -- a path of a request has fewer than 2^32 edges
 pub path-short : (g : Area) (ends : Ends) (es : List ℕ) → FitsGraph g → IsPathOf g ends es → length es < 2 ^ 32
 path-short g ends es fits path =
@@ -72,7 +67,7 @@ path-short g ends es fits path =
     omega (arith, fits.vertex_count)
 
 pub path-known : (g : Area) (ends : Ends) (es : List ℕ) → IsPathOf g ends es → All (λ e. e < length g.edges) es
-path-known g ends es path = joins-known g ends.start es ends.end path.simple.joins
+path-known g ends es path = joined_known g ends.start es ends.end path.simple.joins
 
 -- a route's request is one of the list, and the route is a path of it
 pub record RequestOf (g : Area) (paths : List Request) (k : ℕ) (d : Request) (es : List ℕ) : Type 0 where

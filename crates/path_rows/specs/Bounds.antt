@@ -15,7 +15,6 @@ use Rattle.path_rows.specs.declared.answer.Floor.TheVariants.{Absent, Empty, Var
 use Rattle.path_rows.specs.declared.answer.CapTree.{CapTree}
 use Rattle.path_rows.specs.Trees.{IsWholeTree}
 use Rattle.path_rows.specs.Answers.{AnswerParts}
-use Rattle.path_rows.specs.Text.{IsAnswer}
 
 -- the number of a variable, a request or an edge; a cost or a bound; the number of a row
 abbrev pub IsThing : ℕ → Type 0
@@ -74,7 +73,3 @@ pub record HasBounds (a : AnswerParts) : Type 0 where
   pub rows : All BoundsRow a.rows
   pub proof : BoundsTree a.proof
   pub unfinished : BoundsTree a.unfinished
-
--- a value of the type of answers
-abbrev pub IsAnswerValue : AnswerParts → Type 0
-IsAnswerValue a = IsAnswer a × HasBounds a

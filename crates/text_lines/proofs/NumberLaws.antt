@@ -1,6 +1,6 @@
 -- Numbers that are printed are read back.
-use Rattle.std.proofs.Common.{◌≡◌, ◌<◌, ◌≤◌, ◌^◌, ℕ, List, [], ◌∷◌, ◌≢◌, length, leb, ◌&&◌, refl, ap, ◌∙◌, arith, Some, None}
-use Rattle.std.proofs.lemmas.Bool.{and_from, le-leb, cond-true}
+use Rattle.std.proofs.Common.{cond, nat_le, Bool, true, false, ◌≡◌, ◌<◌, ◌≤◌, ◌^◌, ℕ, List, [], ◌∷◌, ◌≢◌, length, leb, ◌&&◌, refl, ap, ◌∙◌, arith, Some, None}
+use Rattle.std.proofs.lemmas.Bool.{leb-true, and_from, le-leb, cond-true}
 use Rattle.std.specs.List.{list_all}
 use Rattle.cost_base.specs.Decimal.{is_digit, decimal, decimal_value}
 use Rattle.text_lines.specs.Numbers.{number, number_within}
@@ -31,3 +31,12 @@ number_within-decimal most greatest n some small bound =
 -- a number that is printed is read back
 pub number-decimal : (n greatest : ℕ) → n ≤ greatest → greatest < 10 ^ 10 → number (decimal n) greatest ≡ Some n
 number-decimal n greatest bound small = number_within-decimal 10 greatest n (omega arith) (omega arith) bound
+
+-- a number within bounds is at most the greatest
+pub number_within-le : (most greatest : ℕ) (text : List ℕ) (n : ℕ) → number_within most greatest text ≡ Some n → n ≤ greatest
+number_within-le most greatest text n is = cases (nat_le 1 (length text) && nat_le (length text) most && list_all is_digit text) (leb (decimal_value text) greatest) refl is
+  where
+    cases : (a b : Bool) → leb (decimal_value text) greatest ≡ b → cond (a && b) (Some (decimal_value text)) None ≡ Some n → n ≤ greatest
+    cases true true small h = let same : decimal_value text ≡ n = cc in omega (arith, leb-true (decimal_value text) greatest small)
+    cases true false small h = absurd (cc)
+    cases false b small h = absurd (cc)

@@ -46,10 +46,6 @@ twin_route = search rules
 pub twin_low_below : (cap : ℕ) → 1 ≤ cap → All (λ low. low ≤ cap) twin_problem.low
 twin_low_below cap h = search rules
 
--- a problem is its parts
-pub same_problem : (g h : Area) (vs us : List VarName) (ls ms hs ks : List ℕ) (rs qs : List Request) → g ≡ h → vs ≡ us → ls ≡ ms → hs ≡ ks → rs ≡ qs → (let p : DesignProblem = record { graph = g; vars = vs; low = ls; high = hs; paths = rs } in p) ≡ (let q : DesignProblem = record { graph = h; vars = us; low = ms; high = ks; paths = qs } in q)
-same_problem g h vs us ls ms hs ks rs qs a b c d e = λ i. record { graph = a i; vars = b i; low = c i; high = d i; paths = e i }
-
 -- a request is its parts
 pub same_request : (es fs gs hs : List ℕ) → es ≡ fs → gs ≡ hs → (let p : List Request = record { path = record { start = 0; edges = es }; end = 1; gone = gs } ∷ [] in p) ≡ (let q : List Request = record { path = record { start = 0; edges = fs }; end = 1; gone = hs } ∷ [] in q)
 same_request es fs gs hs a b = λ i. record { path = record { start = 0; edges = a i }; end = 1; gone = b i } ∷ []

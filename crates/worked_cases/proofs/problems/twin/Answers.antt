@@ -1,6 +1,7 @@
 use Rattle.std.proofs.Common.{◌∙◌, sym, subst}
 use Rattle.path_rows.specs.Problems.{IsProblem}
-use Rattle.worked_cases.proofs.TwinProblem.{twin_is_problem, same_problem, same_request}
+use Rattle.path_rows.proofs.RestrictedProblems.{same_problem}
+use Rattle.worked_cases.proofs.TwinProblem.{twin_is_problem, same_request}
 use Rattle.worked_cases.proofs.problems.twin.Goals as goal
 
 pub invariant_of-result : goal.invariant_of-result

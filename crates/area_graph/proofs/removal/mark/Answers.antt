@@ -1,11 +1,11 @@
 use Rattle.std.proofs.Common.{rules, ◌<◌, ◌≤◌, length}
 use Rattle.area_graph.proofs.Marks.{marks_more, marks_past}
-use Rattle.area_graph.proofs.only_cheapest.mark.Goals as goal
+use Rattle.area_graph.proofs.removal.mark.Goals as goal
 
-pub returns-then-edge-len : goal.returns-then-edge-len
-returns-then-edge-len c =
+pub returns-then-edge-len-clause-marks : goal.returns-then-edge-len-clause-marks
+returns-then-edge-len-clause-marks c =
     λ gone are. let within : c.args.edge < length c.args.marks.now.items = search rules in marks_more gone c.args.edge c.args.marks.now.items are within
 
-pub returns-else-edge-len : goal.returns-else-edge-len
-returns-else-edge-len c =
+pub returns-else-edge-len-clause-marks : goal.returns-else-edge-len-clause-marks
+returns-else-edge-len-clause-marks c =
     λ gone are. let past : length c.args.marks.now.items ≤ c.args.edge = search rules in marks_past gone c.args.edge c.args.marks.now.items are past
