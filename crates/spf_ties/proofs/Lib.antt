@@ -1,2 +1,4 @@
 pub mod LeastCosts
+pub mod Nearest
+pub mod Searching
 pub mod TightPaths

@@ -34,11 +34,6 @@ pub record IsRoomFor (g : Area) (room : Costs) : Type 0 where
   pub vertices : length room.costs ≡ length g.vertices
   pub edges : room.edges ≡ length g.edges
 
--- the edges that are gone, of a graph with so many edges
-pub record Gone : Type 0 where
-  pub numbers : List ℕ
-  pub edges : ℕ
-
 abbrev pub adds_up : Option ℕ → ℕ → Option ℕ → Bool
 adds_up None price to = false
 adds_up (Some from) price None = false

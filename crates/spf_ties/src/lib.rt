@@ -1,9 +1,10 @@
 //! Distances to a target over simple paths, and the edges that tie for the next hop (RFC 2328, 16.1 and 16.8).
 #![tactic(auto)]
 
-mod lowering;
+mod heap;
 mod next_hops;
 mod room;
+mod search;
 #[cfg(test)]
 mod tests;
 

@@ -6,8 +6,9 @@ ghost use Rattle.area_graph.specs.Paths.{IsPathOf};
 ghost use Rattle.spf_ties.specs.Distances.{AreTight, IsLeastCost, IsRoomFor, distance_at, is_tight, tight_out};
 
 use crate::NextHops;
-use crate::lowering::{Removal, edge_of, find, mark_gone, price_of};
-use area_graph::{Graph, Point};
+use crate::heap::Heap;
+use crate::search::{Front, find};
+use area_graph::{Graph, Point, Removal, edge_of, mark_gone, price_of};
 use cost_base::OutOfMemory;
 use std::alloc::Global;
 use std::marker::Model;
@@ -17,17 +18,22 @@ use std::marker::Model;
 #[derive(Drop)]
 pub struct Room {
     far: u128,
-    numbers: Vec<u128>,
+    front: Front,
     marks: Vec<bool>,
 }
 
 impl Model for Room {
-    ghost use Rattle.std.specs.Prelude.{length, map};
+    ghost use Rattle.std.specs.Prelude.{◌≡◌, ◌<◌, length, map};
     ghost use Rattle.spf_ties.specs.Distances.{Costs, cost_below};
 
     ghost Value = { Costs };
 
-    ghost view = { λ r. record { edges = length r.marks.items; costs = map (cost_below r.far) r.numbers.items } };
+    ghost view = { λ r. record { edges = length r.marks.items; costs = map (cost_below r.far) r.front.numbers.items } };
+
+    ghost invariant = { λ r. record {
+      settled : length r.front.settled.items ≡ length r.front.numbers.items;
+      places : length r.marks.items < r.front.waiting.places;
+    } };
 }
 
 impl Room {
@@ -39,8 +45,14 @@ impl Room {
     pub fn new(alloc: Global, graph: &Graph) -> Result<Room, OutOfMemory>
         ensures { IfOk result (λ room. room ≡ record { edges = length graph.now.edges; costs = replicate (length graph.now.vertices) None }) }
     {
+        graph.keeps_conditions();
+        let waiting = Heap::with_places(alloc, graph.edges().len() + 1)?;
         let numbers = match vec![in alloc; 0; graph.vertices().len()] {
             Ok(numbers) => numbers,
+            Err(_) => return Err(OutOfMemory),
+        };
+        let settled = match vec![in alloc; false; graph.vertices().len()] {
+            Ok(settled) => settled,
             Err(_) => return Err(OutOfMemory),
         };
         let marks = match vec![in alloc; false; graph.edges().len()] {
@@ -49,7 +61,11 @@ impl Room {
         };
         Ok(Room {
             far: 0,
-            numbers,
+            front: Front {
+                numbers,
+                settled,
+                waiting,
+            },
             marks,
         })
     }
@@ -87,7 +103,7 @@ impl Room {
             gone,
             marks: self.marks.as_slice(),
         };
-        find(graph, point, &removal, target, &mut self.numbers);
+        find(graph, point, &removal, target, &mut self.front);
         self.far = (1 << 26) * point.scale;
     }
 
@@ -97,7 +113,7 @@ impl Room {
         requires { vertex < length self.now.costs }
         ensures { result ≡ distance_at self.now vertex }
     {
-        let number = self.numbers[vertex as usize];
+        let number = self.front.numbers[vertex as usize];
         if number < self.far {
             Some(number)
         } else {

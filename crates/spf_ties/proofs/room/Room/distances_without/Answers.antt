@@ -7,12 +7,8 @@ use Rattle.spf_ties.proofs.room.Room.distances_without.Goals as goal
 
 pub returns-clause-least : goal.returns-clause-least
 returns-clause-least c = λ v start.
-    let old : length c.self.inside.numbers.items ≡ length c.args.graph.now.vertices =
-    sym (length-map c.self.inside.numbers.items (cost_below c.self.inside.far)) ∙ ap (λ room. length room.costs) c.self.view_is ∙ c.requires.room.vertices in
-    least_at c.args.graph.now c.args.point.now c.args.gone.now c.args.target v c.find.new.distances.items c.keeps_conditions.ensures.fits c.keeps_conditions.ensures.metrics c.requires.fits c.requires.target (c.find.ensures.count ∙ old) start c.find.ensures.reached c.find.ensures.settled
+    least_at c.args.graph.now c.args.point.now c.args.gone.now c.args.target v c.find.new.front.numbers.items c.keeps_conditions.ensures.fits c.keeps_conditions.ensures.metrics c.requires.fits c.requires.target c.find.ensures.count start c.find.ensures.reached c.find.ensures.settled
 
 pub returns-clause-tight : goal.returns-clause-tight
 returns-clause-tight c = λ v path is.
-    let old : length c.self.inside.numbers.items ≡ length c.args.graph.now.vertices =
-    sym (length-map c.self.inside.numbers.items (cost_below c.self.inside.far)) ∙ ap (λ room. length room.costs) c.self.view_is ∙ c.requires.room.vertices in
-    tight_paths c.args.graph.now c.args.point.now c.args.gone.now (length c.mark_gone.new.marks.items) c.args.target c.find.new.distances.items c.keeps_conditions.ensures.fits c.keeps_conditions.ensures.metrics c.requires.fits (c.find.ensures.count ∙ old) c.find.ensures.reached c.find.ensures.settled v path is
+    tight_paths c.args.graph.now c.args.point.now c.args.gone.now (length c.mark_gone.new.marks.items) c.args.target c.find.new.front.numbers.items c.keeps_conditions.ensures.fits c.keeps_conditions.ensures.metrics c.requires.fits c.find.ensures.count c.find.ensures.reached c.find.ensures.settled v path is

@@ -1,0 +1,13 @@
+use Rattle.std.proofs.Common.{◌≡◌, ◌≤◌, ◌+◌, ℕ, drop, length}
+use Rattle.area_graph.specs.Area.{edges_in}
+use Rattle.spf_ties.specs.Searches.{IsFront, Underway}
+use Rattle.spf_ties.proofs.search.settle.Given as goal
+
+abbrev pub invariant-loop-number : goal.invariant-loop-number
+invariant-loop-number l = record {
+  front : IsFront l.graph l.point l.front.numbers.items l.front.settled.items;
+  settled : l.front.settled.items ≡ l.initial.front.settled.items;
+  places : l.initial.front.waiting.places ≤ l.front.waiting.places;
+  count : length l.front.waiting.entries ≤ length l.initial.front.waiting.entries + l.number-index;
+  underway : (t least : ℕ) → Underway l.graph l.point l.removal t least (edges_in l.graph l.vertex) l.initial.front.numbers.items l.initial.front.settled.items l.initial.front.waiting.entries → Underway l.graph l.point l.removal t least (drop l.number-index (edges_in l.graph l.vertex)) l.front.numbers.items l.front.settled.items l.front.waiting.entries;
+}
