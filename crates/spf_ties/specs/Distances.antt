@@ -17,22 +17,24 @@ abbrev pub IsLeastCost : Area → Point → Ends → Option ℕ → Type 0
 IsLeastCost g p ends (Some least) = IsLeast g p ends least
 IsLeastCost g p ends None = (path : List ℕ) → IsPathOf g ends path → ⊥
 
--- what a room tells: each vertex's least cost to the target of the last call
-pub record Costs : Type 0 where
-  pub edges : ℕ
+-- what a room tells: each vertex's least cost to the target of the last call, a mark for each edge that the call took
+-- away, and the edges of a path
+pub record Findings : Type 0 where
   pub costs : List (Option ℕ)
+  pub marks : List Bool
+  pub path : List ℕ
 
 -- a number that stands for a least cost where it is below `far`
 abbrev pub cost_below : ℕ → ℕ → Option ℕ
 cost_below far number = cond (nat_lt number far) (Some number) None
 
-abbrev pub distance_at : Costs → ℕ → Option ℕ
+abbrev pub distance_at : Findings → ℕ → Option ℕ
 distance_at room v = slice_index_or room.costs v None
 
 -- a room made for a graph of as many vertices and edges
-pub record IsRoomFor (g : Area) (room : Costs) : Type 0 where
+pub record IsRoomFor (g : Area) (room : Findings) : Type 0 where
   pub vertices : length room.costs ≡ length g.vertices
-  pub edges : room.edges ≡ length g.edges
+  pub edges : length room.marks ≡ length g.edges
 
 abbrev pub adds_up : Option ℕ → ℕ → Option ℕ → Bool
 adds_up None price to = false
@@ -40,14 +42,14 @@ adds_up (Some from) price None = false
 adds_up (Some from) price (Some to) = from == price + to
 
 -- both ends have distances, and the first is the edge's price and the second
-abbrev pub is_tight : Area → Point → Costs → ℕ → Bool
+abbrev pub is_tight : Area → Point → Findings → ℕ → Bool
 is_tight g p room e = adds_up (distance_at room (edge_at g e).from) (price_at p (edge_at g e).price) (distance_at room (edge_at g e).to)
 
 -- the tight edges out of a vertex, in rising order
-abbrev pub tight_out : Area → Point → Costs → ℕ → List ℕ
+abbrev pub tight_out : Area → Point → Findings → ℕ → List ℕ
 tight_out g p room v = filter (is_tight g p room) (edges_out g v)
 
 -- each edge of a path is tight
-abbrev pub AreTight : Area → Point → Costs → List ℕ → Type 0
+abbrev pub AreTight : Area → Point → Findings → List ℕ → Type 0
 AreTight g p room [] = Unit {0}
 AreTight g p room (e ∷ es) = (is_tight g p room e ≡ true) × AreTight g p room es

@@ -1,6 +1,7 @@
 //! The room in which distances are found and kept.
 
-ghost use Rattle.std.specs.Prelude.{◌≡◌, ◌↔◌, List, Some, ℕ, ◌<◌, [], replicate, length, IfOk, None};
+ghost use Rattle.std.specs.Prelude.{◌≡◌, ◌↔◌, ◌++◌, ◌∷◌, List, Some, ℕ, ◌<◌, [], replicate, length, IfOk, IsTrue, None, false, slice_index_or, true};
+ghost use Rattle.area_graph.specs.Distances.{AreMarks};
 ghost use Rattle.area_graph.specs.Costs.{FitsPoint, cost};
 ghost use Rattle.area_graph.specs.Paths.{IsPathOf};
 ghost use Rattle.spf_ties.specs.Distances.{AreTight, IsLeastCost, IsRoomFor, distance_at, is_tight, tight_out};
@@ -13,26 +14,28 @@ use cost_base::OutOfMemory;
 use std::alloc::Global;
 use std::marker::Model;
 
-/// Room for the distances of a graph's vertices to a target. Contracts see the distances of the last call, none of them
-/// known before it, and how many edges the graph has.
+/// Room for the distances of a graph's vertices to a target, and for the edges of one path. Contracts see the distances
+/// of the last call, none of them known before it, a mark for each edge that it took away, and the edges of the path.
 #[derive(Drop)]
 pub struct Room {
     far: u128,
     front: Front,
     marks: Vec<bool>,
+    path: Vec<u32>,
 }
 
 impl Model for Room {
-    ghost use Rattle.std.specs.Prelude.{◌≡◌, ◌<◌, length, map};
-    ghost use Rattle.spf_ties.specs.Distances.{Costs, cost_below};
+    ghost use Rattle.std.specs.Prelude.{◌≡◌, ◌<◌, ◌≤◌, length, map, vec_capacity};
+    ghost use Rattle.spf_ties.specs.Distances.{Findings, cost_below};
 
-    ghost Value = { Costs };
+    ghost Value = { Findings };
 
-    ghost view = { λ r. record { edges = length r.marks.items; costs = map (cost_below r.far) r.front.numbers.items } };
+    ghost view = { λ r. record { costs = map (cost_below r.far) r.front.numbers.items; marks = r.marks.items; path = r.path.items } };
 
     ghost invariant = { λ r. record {
       settled : length r.front.settled.items ≡ length r.front.numbers.items;
       places : length r.marks.items < r.front.waiting.places;
+      path : length r.front.numbers.items ≤ vec_capacity r.path;
     } };
 }
 
@@ -43,7 +46,7 @@ impl Room {
     ///
     /// `OutOfMemory` where the room got no memory.
     pub fn new(alloc: Global, graph: &Graph) -> Result<Room, OutOfMemory>
-        ensures { IfOk result (λ room. room ≡ record { edges = length graph.now.edges; costs = replicate (length graph.now.vertices) None }) }
+        ensures { IfOk result (λ room. room ≡ record { costs = replicate (length graph.now.vertices) None; marks = replicate (length graph.now.edges) false; path = [] }) }
     {
         graph.keeps_conditions();
         let waiting = Heap::with_places(alloc, graph.edges().len() + 1)?;
@@ -59,6 +62,10 @@ impl Room {
             Ok(marks) => marks,
             Err(_) => return Err(OutOfMemory),
         };
+        let path = match Vec::with_capacity(alloc, graph.vertices().len()) {
+            Ok(path) => path,
+            Err(_) => return Err(OutOfMemory),
+        };
         Ok(Room {
             far: 0,
             front: Front {
@@ -67,6 +74,7 @@ impl Room {
                 waiting,
             },
             marks,
+            path,
         })
     }
 
@@ -77,6 +85,7 @@ impl Room {
         requires fits { FitsPoint graph.now point.now }
         requires target { target < length graph.now.vertices }
         ensures room { IsRoomFor graph.now self.new }
+        ensures marks { AreMarks [] self.new.marks }
         ensures least { (v : ℕ) → v < length graph.now.vertices →
             IsLeastCost graph.now point.now (record { start = v; end = target; gone = [] }) (distance_at self.new v) }
         ensures tight { (v : ℕ) (path : List ℕ) → IsPathOf graph.now (record { start = v; end = target; gone = [] }) path →
@@ -92,6 +101,7 @@ impl Room {
         requires fits { FitsPoint graph.now point.now }
         requires target { target < length graph.now.vertices }
         ensures room { IsRoomFor graph.now self.new }
+        ensures marks { AreMarks gone.now self.new.marks }
         ensures least { (v : ℕ) → v < length graph.now.vertices →
             IsLeastCost graph.now point.now (record { start = v; end = target; gone = gone.now }) (distance_at self.new v) }
         ensures tight { (v : ℕ) (path : List ℕ) → IsPathOf graph.now (record { start = v; end = target; gone = gone.now }) path →
@@ -138,6 +148,36 @@ impl Room {
             }
             _ => false,
         }
+    }
+
+    /// Whether the last call of `distances_without` left an edge, and `distances_to` leaves each.
+    pub fn leaves(&self, edge: u32) -> bool
+        requires { edge < length self.now.marks }
+        ensures { IsTrue result ↔ (slice_index_or self.now.marks edge true ≡ false) }
+    {
+        !self.marks[edge as usize]
+    }
+
+    /// Takes every edge out of the path that the room keeps.
+    pub fn clear_path(&mut self)
+        ensures { self.new ≡ record self.old { path = [] } }
+    {
+        self.path.clear();
+    }
+
+    /// Puts an edge behind those of the path that the room keeps, of which there are as many places as vertices.
+    pub fn add_to_path(&mut self, edge: u32)
+        requires { length self.old.path < length self.old.costs }
+        ensures { self.new ≡ record self.old { path = self.old.path ++ edge ∷ [] } }
+    {
+        self.path.push_reserved(edge);
+    }
+
+    /// The edges of the path that the room keeps.
+    pub fn path(&self) -> &[u32]
+        ensures { result.now ≡ self.now.path }
+    {
+        self.path.as_slice()
     }
 
     /// The tight edges out of a vertex, in rising order: where the last call took no edge away, the next hops of its

@@ -11,4 +11,4 @@ returns-clause-least c = λ v start.
 
 pub returns-clause-tight : goal.returns-clause-tight
 returns-clause-tight c = λ v path is.
-    tight_paths c.args.graph.now c.args.point.now c.args.gone.now (length c.mark_gone.new.marks.items) c.args.target c.find.new.front.numbers.items c.keeps_conditions.ensures.fits c.keeps_conditions.ensures.metrics c.requires.fits c.find.ensures.count c.find.ensures.reached c.find.ensures.settled v path is
+    tight_paths c.args.graph.now c.args.point.now c.args.gone.now c.args.target c.mark_gone.new.marks.items c.self.inside.path.items c.find.new.front.numbers.items c.keeps_conditions.ensures.fits c.keeps_conditions.ensures.metrics c.requires.fits c.find.ensures.count c.find.ensures.reached c.find.ensures.settled v path is
