@@ -92,13 +92,7 @@ fn take_in(graph: &Graph, point: &Point, removal: &Removal, entry: Entry, front:
 
 /// Finds for each vertex the least cost of a path to the target without the edges that are gone; 2^26 times the scale
 /// stays where no path leads there. It takes time in proportion to the edges, times the logarithm of their number.
-pub(crate) fn find(
-    graph: &Graph,
-    point: &Point,
-    removal: &Removal,
-    target: u32,
-    front: &mut Front,
-)
+pub(crate) fn find(graph: &Graph, point: &Point, removal: &Removal, target: u32, front: &mut Front)
     requires fits { FitsPoint graph.now point.now }
     requires target { target < length graph.now.vertices }
     requires count { length front.old.numbers.items ≡ length graph.now.vertices }

@@ -25,16 +25,19 @@ loop-entry-init c =
           (subst (λ (settled : List Bool). IsFront g p (set (replicate n (far p)) t 0) settled) (sym marks) (front_begun g p t n m c.requires.count c.requires.marks));
       places = let places = ap (λ w. w.places) c.clear.ensures in let before = c.requires.places in let more = c.push.ensures.places in omega arith;
       room = let count = length_permutation (entry_of 0 t ∷ []) c.push.new.self.entries alone in let most = open-le c.args.graph.now c.fill-2.new.self.items in omega arith;
-      underway = (0, subst (λ (d : List ℕ). Underway g p c.args.removal.now t 0 [] (set d t 0) c.fill-2.new.self.items c.push.new.self.entries) (sym numbers)
-          (subst (λ (settled : List Bool). Underway g p c.args.removal.now t 0 [] (set (replicate n (far p)) t 0) settled c.push.new.self.entries) (sym marks)
-          (begun g p c.args.removal.now t n m c.push.new.self.entries c.requires.fits within alone)));
+      underway = (
+        0,
+        subst (λ (d : List ℕ). Underway g p c.args.removal.now t 0 [] (set d t 0) c.fill-2.new.self.items c.push.new.self.entries) (sym numbers)
+            (subst (λ (settled : List Bool). Underway g p c.args.removal.now t 0 [] (set (replicate n (far p)) t 0) settled c.push.new.self.entries) (sym marks)
+            (begun g p c.args.removal.now t n m c.push.new.self.entries c.requires.fits within alone)),
+      );
     }
 
 pub take_in-requires-clause-vertex : goal.take_in-requires-clause-vertex
 take_in-requires-clause-vertex c =
     let under = c.loop-entry.invariant.underway.1 in
     let may = All-head (MayWait c.args.point.now c.loop-entry.invariant.underway.0 c.loop-entry.front.numbers.items) c.in-Some.entry c.pop.new.self.entries
-        (All-permutation (MayWait c.args.point.now c.loop-entry.invariant.underway.0 c.loop-entry.front.numbers.items) c.loop-entry.front.waiting.entries (c.in-Some.entry ∷ c.pop.new.self.entries) c.in-Some.ensures.entry under.entries) in
+    (All-permutation (MayWait c.args.point.now c.loop-entry.invariant.underway.0 c.loop-entry.front.numbers.items) c.loop-entry.front.waiting.entries (c.in-Some.entry ∷ c.pop.new.self.entries) c.in-Some.ensures.entry under.entries) in
     let known = may.known in
     let count = c.loop-entry.invariant.front.count in
     omega arith
