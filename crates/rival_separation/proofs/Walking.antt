@@ -1,0 +1,285 @@
+-- Offers, deviations and the way along tight edges.
+use Rattle.std.proofs.Common.{◌≡◌, ◌≢◌, ℕ, zero, suc, ◌+◌, ◌*◌, ◌^◌, ◌<◌, ◌≤◌, refl, sym, ◌∙◌, ap, subst, List, [], ◌∷◌, ◌++◌, All, length, get_or, take, Option, Some, None, Bool, true, false, eqb, inl, inr, ◌⊎◌, arith, append_assoc, length-append}
+use Rattle.std.proofs.Math.Seq.{take-append_seam}
+use Rattle.std.proofs.lemmas.Bool.{eqb-true}
+use Rattle.std.proofs.lemmas.List.Sums.{sum_by-cons, sum_by-append}
+use native.Mathlib.Decide.{ℕ_discrete}
+use Rattle.cost_base.specs.Lists.{Lacks, NoneTwice}
+use Rattle.area_graph.specs.declared.Point.{Point}
+use Rattle.area_graph.specs.Area.{Area, edge_at, edges_out, no_edge, FitsGraph, FitsEdge, HasMetrics}
+use Rattle.area_graph.specs.Paths.{Ends, IsPathOf, Joins, Avoids, visited}
+use Rattle.area_graph.specs.Costs.{cost, price_at, FitsPoint, LeadsBy}
+use Rattle.area_graph.proofs.Walks.{simple_in_walk}
+use Rattle.area_graph.proofs.Deviations.{Deviates, Leaves, deviation_joins, deviation_differs, least_deviation_simple, rival_deviates}
+use Rattle.area_graph.proofs.Numbers.{out_all}
+use Rattle.area_graph.proofs.Bounds.{cost_below}
+use Rattle.spf_ties.specs.Distances.{AreTight, Findings, IsLeast, IsLeastCost, adds_up, distance_at, is_tight}
+use Rattle.path_rows.proofs.PathBounds.{simple-short}
+use Rattle.rival_separation.specs.declared.deviation.Deviation.{Deviation}
+use Rattle.rival_separation.specs.Rivals.{Completes, IsCheapest, IsFound, IsRival}
+use Rattle.rival_separation.specs.Offers.{IsBest, Offers}
+
+-- the element at which two lists are joined
+get_seam : (xs : List ℕ) (y : ℕ) (ys : List ℕ) → get_or (xs ++ y ∷ ys) (length xs) 0 ≡ y
+get_seam [] y ys = refl
+get_seam (x ∷ xs) y ys = get_seam xs y ys
+
+length_seam : (xs : List ℕ) (y : ℕ) (ys : List ℕ) → length xs < length (xs ++ y ∷ ys)
+length_seam [] y ys = omega arith
+length_seam (x ∷ xs) y ys = let more = length_seam xs y ys in omega arith
+
+-- what is least where some path costs so much
+record SomeLeast (g : Area) (p : Point) (ends : Ends) (d : Option ℕ) (most : ℕ) : Type 0 where
+  least : ℕ
+  is : d ≡ Some least
+  within : least ≤ most
+
+some_least : (g : Area) (p : Point) (ends : Ends) (d : Option ℕ) → IsLeastCost g p ends d → (es : List ℕ) → IsPathOf g ends es → SomeLeast g p ends d (cost g p es)
+some_least g p ends (Some x) least es path = record { least = x; is = refl; within = least.none_less es path }
+some_least g p ends None least es path = absurd (least es path)
+
+is_least : (g : Area) (p : Point) (ends : Ends) (d : Option ℕ) (x : ℕ) → IsLeastCost g p ends d → d ≡ Some x → IsLeast g p ends x
+is_least g p ends d x least is = let at_some : IsLeastCost g p ends (Some x) = subst (λ (o : Option ℕ). IsLeastCost g p ends o) is least in at_some
+
+-- a least cost is below 2^26 times the scale
+pub least_below : (g : Area) (p : Point) (ends : Ends) (d : Option ℕ) (x : ℕ) → FitsGraph g → HasMetrics g → FitsPoint g p → IsLeastCost g p ends d → d ≡ Some x → x < 2 ^ 26 * p.scale
+least_below g p ends d x graph metrics fits least is =
+    let some = is_least g p ends d x least is in
+    let below = cost_below g p ends.start some.path ends.end graph metrics fits some.is_path.simple.joins some.is_path.simple.none_twice in
+    let costs = some.costs in
+    omega arith
+
+-- the offer that a deviation takes
+record Offered (g : Area) (p : Point) (gone : List ℕ) (room : Findings) (path : List ℕ) (most : ℕ) : Type 0 where
+  place : ℕ
+  edge : ℕ
+  total : ℕ
+  offer : Offers g p gone room path place edge total
+  within : total ≤ most
+
+offered : (g : Area) (p : Point) (ends : Ends) (room : Findings) → FitsGraph g → IsFound g p ends room → ends.end < length g.vertices → (u : ℕ) (before path walk : List ℕ) → Joins g u path ends.end → Deviates g ends.gone ends.end u path walk → Offered g p ends.gone room (before ++ path) (cost g p before + cost g p walk)
+offered g p ends room graph found end u before [] walk joins deviates = absurd deviates
+offered g p ends room graph found end u before (n ∷ path) [] joins deviates = absurd deviates
+offered g p ends room graph found end u before (n ∷ path) (e ∷ rest) joins deviates =
+    elim deviates [
+      | inl leaves ↦
+          let edge : FitsEdge g (edge_at g e) = graph.edges e no_edge leaves.1.known in
+          let some = some_least g p (record { start = (edge_at g e).to; end = ends.end; gone = ends.gone }) (distance_at room (edge_at g e).to) (found.least (edge_at g e).to edge.to) rest
+          (record { simple = record { start = edge.to; end = end; joins = leaves.1.joins; none_twice = leaves.1.none_twice }; kept = leaves.1.kept }) in
+          let longer = sum_by-cons (λ i. price_at p (edge_at g i).price) e rest in
+          record {
+            place = length before;
+            edge = e;
+            total = cost g p before + (price_at p (edge_at g e).price + some.least);
+            offer = record {
+              rest = some.least;
+              within = length_seam before n path;
+              known = leaves.1.known;
+              from = leaves.1.from_u ∙ sym joins.1 ∙ ap (λ (i : ℕ). (edge_at g i).from) (sym (get_seam before n path));
+              other = λ same. leaves.0 (same ∙ get_seam before n path);
+              left = leaves.1.there;
+              distance = some.is;
+              sums = ap (λ (es : List ℕ). cost g p es + (price_at p (edge_at g e).price + some.least)) (sym (take-append_seam before (n ∷ path)));
+            };
+            within = let most = some.within in omega arith;
+          }
+      | inr along ↦
+          let later = offered g p ends room graph found end (edge_at g n).to (before ++ n ∷ []) path rest joins.2 along.1 in
+          let split = sum_by-append (λ i. price_at p (edge_at g i).price) before (n ∷ []) in
+          let one = sum_by-cons (λ i. price_at p (edge_at g i).price) n [] in
+          let longer = sum_by-cons (λ i. price_at p (edge_at g i).price) e rest in
+          let same = ap (λ (i : ℕ). price_at p (edge_at g i).price) along.0 in
+          record {
+            place = later.place;
+            edge = later.edge;
+            total = later.total;
+            offer = subst (λ (es : List ℕ). Offers g p ends.gone room es later.place later.edge later.total) (append_assoc before (n ∷ []) path) later.offer;
+            within = let most = later.within in omega arith;
+          }
+    ]
+
+-- a walk that takes an offer deviates
+deviates_at : (g : Area) (gone : List ℕ) (t u : ℕ) (path : List ℕ) (place e : ℕ) (rest : List ℕ) → Joins g u path t → place < length path → e < length g.edges → (edge_at g e).from ≡ (edge_at g (get_or path place 0)).from → e ≢ get_or path place 0 → Lacks gone e → Joins g (edge_at g e).to rest t → NoneTwice (visited g (edge_at g e).to rest) → Avoids gone rest → Deviates g gone t u path (take place path ++ e ∷ rest)
+deviates_at g gone t u [] place e rest joins within known from other left rest_joins once kept = absurd (omega arith)
+deviates_at g gone t u (n ∷ path) zero e rest joins within known from other left rest_joins once kept =
+    inl (other, record { known = known; from_u = from ∙ joins.1; there = left; joins = rest_joins; none_twice = once; kept = kept })
+deviates_at g gone t u (n ∷ path) (suc place) e rest joins within known from other left rest_joins once kept =
+    inr (refl, deviates_at g gone t (edge_at g n).to path place e rest joins.2 (omega arith) known from other left rest_joins once kept)
+
+-- no rival costs less than every offer
+rival_above : (g : Area) (p : Point) (ends : Ends) (room : Findings) (wanted : List ℕ) (most : ℕ) → FitsGraph g → IsFound g p ends room → IsPathOf g ends wanted → ((place e total : ℕ) → Offers g p ends.gone room wanted place e total → most ≤ total) → (other : List ℕ) → IsPathOf g ends other → other ≢ wanted → most ≤ cost g p other
+rival_above g p ends room wanted most graph found path above other is_path differs =
+    let deviates = rival_deviates g ends.gone ends.end ends.start wanted other path.simple.joins path.simple.none_twice is_path.simple.joins is_path.simple.none_twice is_path.kept differs in
+    let taken = offered g p ends room graph found path.simple.end ends.start [] wanted other path.simple.joins deviates in
+    let least = above taken.place taken.edge taken.total taken.offer in
+    let within = taken.within in
+    omega arith
+
+-- where every offer costs at least the path and the scale, the path leads by the scale
+pub leads_by : (g : Area) (p : Point) (ends : Ends) (room : Findings) (wanted : List ℕ) → FitsGraph g → IsFound g p ends room → IsPathOf g ends wanted → ((place e total : ℕ) → Offers g p ends.gone room wanted place e total → cost g p wanted + p.scale ≤ total) → LeadsBy p.scale g p ends wanted
+leads_by g p ends room wanted graph found path above = λ other is_path differs. rival_above g p ends room wanted (cost g p wanted + p.scale) graph found path above other is_path differs
+
+-- the best offer, where it is cheap, is completed to a cheapest rival by any path of least cost
+pub completes : (g : Area) (p : Point) (ends : Ends) (room : Findings) (wanted : List ℕ) (place e total : ℕ) → FitsGraph g → FitsPoint g p → IsFound g p ends room → IsPathOf g ends wanted → Offers g p ends.gone room wanted place e total → ((k i other : ℕ) → Offers g p ends.gone room wanted k i other → total ≤ other) → total < cost g p wanted + p.scale → Completes g p ends room wanted (take place wanted ++ e ∷ []) (edge_at g e).to
+completes g p ends room wanted place e total graph fits found path offer best cheap = record {
+  known = edge.to;
+  least = offer.rest;
+  distance = offer.distance;
+  cheapest = λ rest is_path costs. subst (λ (es : List ℕ). IsCheapest g p ends wanted es) (sym (append_assoc (take place wanted) (e ∷ []) rest)) (cheapest rest is_path costs);
+}
+  where
+    edge : FitsEdge g (edge_at g e)
+    edge = graph.edges e no_edge offer.known
+
+    cheapest : (rest : List ℕ) → IsPathOf g (record { start = (edge_at g e).to; end = ends.end; gone = ends.gone }) rest → cost g p rest ≡ offer.rest → IsCheapest g p ends wanted (take place wanted ++ e ∷ rest)
+    cheapest rest is_path costs =
+        let walk : List ℕ = take place wanted ++ e ∷ rest in
+        let deviates = deviates_at g ends.gone ends.end ends.start wanted place e rest path.simple.joins offer.within offer.known offer.from offer.other offer.left is_path.simple.joins is_path.simple.none_twice is_path.kept in
+        let split = sum_by-append (λ i. price_at p (edge_at g i).price) (take place wanted) (e ∷ rest) in
+        let longer = sum_by-cons (λ i. price_at p (edge_at g i).price) e rest in
+        let sums = offer.sums in
+        let whole : cost g p (take place wanted ++ e ∷ rest) ≡ total = omega arith in
+        let least : (other : List ℕ) → Deviates g ends.gone ends.end ends.start wanted other → cost g p (take place wanted ++ e ∷ rest) ≤ cost g p other =
+        λ other off. (let taken = offered g p ends room graph found path.simple.end ends.start [] wanted other path.simple.joins off in
+        let above = best taken.place taken.edge taken.total taken.offer in let within = taken.within in omega arith) in
+        let once = least_deviation_simple g p ends.gone ends.end ends.start wanted (take place wanted ++ e ∷ rest) graph fits path.simple.joins path.simple.none_twice path.kept deviates (omega (arith, whole, cheap)) least in
+        let joins = deviation_joins g ends.gone ends.end ends.start wanted (take place wanted ++ e ∷ rest) path.simple.joins path.kept deviates in
+        record {
+          rival = record {
+            path = record { simple = record { start = path.simple.start; end = path.simple.end; joins = joins.0; none_twice = once }; kept = joins.1 };
+            other = deviation_differs g ends.gone ends.end ends.start wanted (take place wanted ++ e ∷ rest) deviates;
+          };
+          cheap = omega (arith, whole, cheap);
+          none_less = λ other rival. (let above = rival_above g p ends room wanted total graph found path best other rival.path rival.other in omega (arith, whole));
+        }
+
+-- numbers that add up
+record Sums (from to : Option ℕ) (price : ℕ) : Type 0 where
+  x : ℕ
+  y : ℕ
+  from_is : from ≡ Some x
+  to_is : to ≡ Some y
+  adds : x ≡ price + y
+
+sums_of : (from to : Option ℕ) (price : ℕ) → adds_up from price to ≡ true → Sums from to price
+sums_of None to price h = absurd (clash h)
+  where
+    clash : false ≡ true → ⊥
+    clash h = cc
+sums_of (Some x) None price h = absurd (clash h)
+  where
+    clash : false ≡ true → ⊥
+    clash h = cc
+sums_of (Some x) (Some y) price h = record { x = x; y = y; from_is = refl; to_is = refl; adds = eqb-true x (price + y) h }
+
+some_same : (x y : ℕ) → Some x ≡ Some y → x ≡ y
+some_same x y h = cc
+
+-- a tight edge and a path of least cost from its end are a path
+along_tight : (g : Area) (p : Point) (ends : Ends) (room : Findings) (v f x y : ℕ) (rest : List ℕ) → FitsGraph g → FitsPoint g p → IsFound g p ends room → v < length g.vertices → f < length g.edges → (edge_at g f).from ≡ v → Lacks ends.gone f → distance_at room v ≡ Some x → x ≡ price_at p (edge_at g f).price + y → IsPathOf g (record { start = (edge_at g f).to; end = ends.end; gone = ends.gone }) rest → cost g p rest ≡ y → IsPathOf g (record { start = v; end = ends.end; gone = ends.gone }) (f ∷ rest)
+along_tight g p ends room v f x y rest graph fits found inside known from left distance adds path costs =
+    let joins : Joins g v (f ∷ rest) ends.end = (known, from, path.simple.joins) in
+    let kept : Avoids ends.gone (f ∷ rest) = (left, path.kept) in
+    let simple = simple_in_walk g p ends.gone v (f ∷ rest) ends.end graph fits joins kept in
+    let least = is_least g p (record { start = v; end = ends.end; gone = ends.gone }) (distance_at room v) x (found.least v inside) distance in
+    let longer = sum_by-cons (λ i. price_at p (edge_at g i).price) f rest in
+    record {
+      simple = record {
+        start = inside;
+        end = path.simple.end;
+        joins = joins;
+        none_twice = elim simple.same_or_less [
+          | inl same ↦ subst (λ (es : List ℕ). NoneTwice (visited g v es)) same simple.none_twice
+          | inr less ↦
+              let none_less = least.none_less simple.edges (record { simple = record { start = inside; end = path.simple.end; joins = simple.joins; none_twice = simple.none_twice }; kept = simple.kept }) in
+              let scale = fits.scale in
+              absurd (omega arith)
+        ];
+      };
+      kept = kept;
+    }
+
+-- one more tight edge
+pub completes_more : (g : Area) (p : Point) (ends : Ends) (room : Findings) (wanted walk : List ℕ) (v f : ℕ) → FitsGraph g → FitsPoint g p → IsFound g p ends room → Completes g p ends room wanted walk v → f < length g.edges → (edge_at g f).from ≡ v → is_tight g p room f ≡ true → Lacks ends.gone f → Completes g p ends room wanted (walk ++ f ∷ []) (edge_at g f).to
+completes_more g p ends room wanted walk v f graph fits found so_far known from tight left =
+    let edge : FitsEdge g (edge_at g f) = graph.edges f no_edge known in
+    let sums = sums_of (distance_at room (edge_at g f).from) (distance_at room (edge_at g f).to) (price_at p (edge_at g f).price) tight in
+    let here : so_far.least ≡ sums.x = some_same so_far.least sums.x (sym so_far.distance ∙ ap (distance_at room) (sym from) ∙ sums.from_is) in
+    let adds = sums.adds in
+    record {
+      known = edge.to;
+      least = sums.y;
+      distance = sums.to_is;
+      cheapest = λ rest path costs. (
+          let whole = along_tight g p ends room v f so_far.least sums.y rest graph fits found so_far.known known from left so_far.distance (here ∙ adds) path costs in
+          let longer = sum_by-cons (λ i. price_at p (edge_at g i).price) f rest in
+          subst (λ (es : List ℕ). IsCheapest g p ends wanted es) (sym (append_assoc walk (f ∷ []) rest))
+          (so_far.cheapest (f ∷ rest) whole (omega (arith, here, adds, costs, longer))));
+    }
+
+-- at the end the walk is a cheapest rival
+pub completed : (g : Area) (p : Point) (ends : Ends) (room : Findings) (wanted walk : List ℕ) (v : ℕ) → IsFound g p ends room → Completes g p ends room wanted walk v → v ≡ ends.end → IsCheapest g p ends wanted walk
+completed g p ends room wanted walk v found so_far arrived =
+    let path : IsPathOf g (record { start = v; end = ends.end; gone = ends.gone }) [] = record {
+      simple = record { start = so_far.known; end = subst (λ (i : ℕ). i < length g.vertices) arrived so_far.known; joins = arrived; none_twice = (tt, tt) };
+      kept = tt;
+    } in
+    let least = is_least g p (record { start = v; end = ends.end; gone = ends.gone }) (distance_at room v) so_far.least (found.least v so_far.known) so_far.distance in
+    let none_less = least.none_less [] path in
+    subst (λ (es : List ℕ). IsCheapest g p ends wanted es) (simp append_nil) (so_far.cheapest [] path (omega arith))
+  where
+    append_nil : (xs : List ℕ) → xs ++ [] ≡ xs
+    append_nil [] = refl
+    append_nil (x ∷ xs) = ap (λ ys. x ∷ ys) (append_nil xs)
+
+-- short of the end some tight edge is left
+pub some_next : (g : Area) (p : Point) (ends : Ends) (room : Findings) (wanted walk : List ℕ) (v : ℕ) → IsFound g p ends room → Completes g p ends room wanted walk v → v ≢ ends.end → All (λ e. is_tight g p room e ≡ true → get_or room.marks e true ≡ false → ⊥) (edges_out g v) → ⊥
+some_next g p ends room wanted walk v found so_far short none = by_path least.path refl
+  where
+    least : IsLeast g p (record { start = v; end = ends.end; gone = ends.gone }) so_far.least
+    least = is_least g p (record { start = v; end = ends.end; gone = ends.gone }) (distance_at room v) so_far.least (found.least v so_far.known) so_far.distance
+
+    by_path : (es : List ℕ) → es ≡ least.path → ⊥
+    by_path [] same = short (subst (λ (es : List ℕ). Joins g v es ends.end) (sym same) least.is_path.simple.joins)
+    by_path (e ∷ es) same =
+        let path : IsPathOf g (record { start = v; end = ends.end; gone = ends.gone }) (e ∷ es) = subst (λ (xs : List ℕ). IsPathOf g (record { start = v; end = ends.end; gone = ends.gone }) xs) (sym same) least.is_path in
+        let costs : so_far.least ≡ cost g p (e ∷ es) = sym least.costs ∙ ap (cost g p) (sym same) in
+        let tight = (found.tight v (e ∷ es) path).0 (so_far.distance ∙ ap (λ n. Some n) costs) in
+        let inside : e < length room.marks = (let known = path.simple.joins.0 in let count = found.room_for.edges in omega arith) in
+        out_all (λ e. is_tight g p room e ≡ true → get_or room.marks e true ≡ false → ⊥) g v none e path.simple.joins.0 path.simple.joins.1 tight.0 ((found.marks e inside).1 path.kept.0)
+
+-- short of the end the walk has fewer edges than the graph has vertices
+pub short_walk : (g : Area) (p : Point) (ends : Ends) (room : Findings) (wanted walk : List ℕ) (v : ℕ) → FitsGraph g → IsFound g p ends room → Completes g p ends room wanted walk v → length walk < length g.vertices
+short_walk g p ends room wanted walk v graph found so_far =
+    let least = is_least g p (record { start = v; end = ends.end; gone = ends.gone }) (distance_at room v) so_far.least (found.least v so_far.known) so_far.distance in
+    let whole = so_far.cheapest least.path least.is_path least.costs in
+    let short = simple-short g ends.start (walk ++ least.path) ends.end graph whole.rival.path.simple in
+    let count = length-append walk least.path in
+    omega arith
+
+-- tightness doesn't hang on the path that a room keeps
+tight_kept : (g : Area) (p : Point) (room : Findings) (kept es : List ℕ) → AreTight g p room es → AreTight g p (record room { path = kept }) es
+tight_kept g p room kept [] tight = tt
+tight_kept g p room kept (e ∷ es) tight = (tight.0, tight_kept g p room kept es tight.1)
+
+kept_tight : (g : Area) (p : Point) (room : Findings) (kept es : List ℕ) → AreTight g p (record room { path = kept }) es → AreTight g p room es
+kept_tight g p room kept [] tight = tt
+kept_tight g p room kept (e ∷ es) tight = (tight.0, kept_tight g p room kept es tight.1)
+
+pub found_kept : (g : Area) (p : Point) (ends : Ends) (room : Findings) (kept : List ℕ) → IsFound g p ends room → IsFound g p ends (record room { path = kept })
+found_kept g p ends room kept found = record {
+  room_for = record { vertices = found.room_for.vertices; edges = found.room_for.edges };
+  marks = found.marks;
+  least = found.least;
+  tight = λ v es path. (λ least. tight_kept g p room kept es ((found.tight v es path).0 least), λ tight. (found.tight v es path).1 (kept_tight g p room kept es tight));
+}
+
+pub completes_kept : (g : Area) (p : Point) (ends : Ends) (room : Findings) (wanted walk kept : List ℕ) (v : ℕ) → Completes g p ends room wanted walk v → Completes g p ends (record room { path = kept }) wanted walk v
+completes_kept g p ends room wanted walk kept v so_far = record { known = so_far.known; least = so_far.least; distance = so_far.distance; cheapest = so_far.cheapest }
+
+-- the first n elements are at most n
+pub take_short : (n : ℕ) (xs : List ℕ) → length (take n xs) ≤ n
+take_short zero [] = omega arith
+take_short zero (x ∷ xs) = omega arith
+take_short (suc n) [] = omega arith
+take_short (suc n) (x ∷ xs) = let rest = take_short n xs in omega arith

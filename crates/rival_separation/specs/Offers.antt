@@ -1,0 +1,25 @@
+-- Where a walk may leave a path, and what it then costs at least.
+use Rattle.std.specs.Prelude.{◌≡◌, ◌≢◌, ℕ, ◌+◌, ◌<◌, ◌≤◌, List, Option, Some, None, length, take, slice_index, MatchOption}
+use Rattle.cost_base.specs.Lists.{Lacks}
+use Rattle.area_graph.specs.declared.Point.{Point}
+use Rattle.area_graph.specs.Area.{Area, edge_at}
+use Rattle.area_graph.specs.Costs.{cost, price_at}
+use Rattle.spf_ties.specs.Distances.{Findings, distance_at}
+use Rattle.rival_separation.specs.declared.deviation.Deviation.{Deviation}
+
+-- at the vertex of its place the path may be left by an edge that isn't gone, and from its end on some path costs least
+pub record Offers (g : Area) (p : Point) (gone : List ℕ) (room : Findings) (path : List ℕ) (place e total : ℕ) : Type 0 where
+  pub rest : ℕ
+  pub within : place < length path
+  pub known : e < length g.edges
+  pub from : (edge_at g e).from ≡ (edge_at g (slice_index path place)).from
+  pub other : e ≢ slice_index path place
+  pub left : Lacks gone e
+  pub distance : distance_at room (edge_at g e).to ≡ Some rest
+  pub sums : total ≡ cost g p (take place path) + (price_at p (edge_at g e).price + rest)
+
+-- of the offers that were seen the best is one that none undercuts, or none was made
+abbrev pub IsBest : Area → Point → List ℕ → Findings → List ℕ → (ℕ → ℕ → Type 0) → Option Deviation → Type 0
+IsBest g p gone room path Seen None = (place e total : ℕ) → Seen place e → Offers g p gone room path place e total → ⊥
+IsBest g p gone room path Seen (Some best) =
+    Offers g p gone room path best.place best.edge best.cost × ((place e total : ℕ) → Seen place e → Offers g p gone room path place e total → best.cost ≤ total)

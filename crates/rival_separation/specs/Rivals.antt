@@ -1,0 +1,40 @@
+-- Rivals of a requested path: the other simple paths of its request.
+use Rattle.std.specs.Prelude.{◌≡◌, ◌≢◌, ◌↔◌, ℕ, ◌+◌, ◌<◌, ◌≤◌, List, ◌++◌, length, slice_index_or, Some, true, false}
+use Rattle.area_graph.specs.declared.Point.{Point}
+use Rattle.area_graph.specs.Area.{Area, edge_at}
+use Rattle.area_graph.specs.Paths.{Ends, IsPathOf}
+use Rattle.area_graph.specs.Costs.{cost}
+use Rattle.area_graph.specs.Distances.{AreMarks}
+use Rattle.spf_ties.specs.Distances.{AreTight, Findings, IsLeastCost, IsRoomFor, distance_at, is_tight}
+
+-- another simple path of the request
+pub record IsRival (g : Area) (ends : Ends) (wanted es : List ℕ) : Type 0 where
+  pub path : IsPathOf g ends es
+  pub other : es ≢ wanted
+
+-- a rival that costs less than the wanted path and the scale, and no rival costs less
+pub record IsCheapest (g : Area) (p : Point) (ends : Ends) (wanted es : List ℕ) : Type 0 where
+  pub rival : IsRival g ends wanted es
+  pub cheap : cost g p es < cost g p wanted + p.scale
+  pub none_less : (others : List ℕ) → IsRival g ends wanted others → cost g p es ≤ cost g p others
+
+-- what a room tells after the distances to the end of a request without the edges that it takes away
+pub record IsFound (g : Area) (p : Point) (ends : Ends) (room : Findings) : Type 0 where
+  pub room_for : IsRoomFor g room
+  pub marks : AreMarks ends.gone room.marks
+  pub least : (v : ℕ) → v < length g.vertices → IsLeastCost g p (record { start = v; end = ends.end; gone = ends.gone }) (distance_at room v)
+  pub tight : (v : ℕ) (path : List ℕ) → IsPathOf g (record { start = v; end = ends.end; gone = ends.gone }) path → (distance_at room v ≡ Some (cost g p path)) ↔ AreTight g p room path
+
+-- a tight edge out of a vertex that isn't taken away
+pub record IsNext (g : Area) (p : Point) (room : Findings) (v e : ℕ) : Type 0 where
+  pub known : e < length g.edges
+  pub from : (edge_at g e).from ≡ v
+  pub tight : is_tight g p room e ≡ true
+  pub left : slice_index_or room.marks e true ≡ false
+
+-- a walk so far, and the vertex that it has come to: with any path of least cost from there on it is a cheapest rival
+pub record Completes (g : Area) (p : Point) (ends : Ends) (room : Findings) (wanted walk : List ℕ) (at_vertex : ℕ) : Type 0 where
+  pub known : at_vertex < length g.vertices
+  pub least : ℕ
+  pub distance : distance_at room at_vertex ≡ Some least
+  pub cheapest : (rest : List ℕ) → IsPathOf g (record { start = at_vertex; end = ends.end; gone = ends.gone }) rest → cost g p rest ≡ least → IsCheapest g p ends wanted (walk ++ rest)

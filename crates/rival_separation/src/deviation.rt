@@ -1,0 +1,131 @@
+//! The deviation of least cost from a path.
+
+ghost use Rattle.std.specs.Prelude.{◌≡◌, ◌+◌, ◌<◌, ◌≤◌, ◌*◌, ◌^◌, ◌⊎◌, ℕ, MatchOption, Some, length, slice_index, take};
+ghost use Rattle.area_graph.specs.Area.{edge_at};
+ghost use Rattle.area_graph.specs.Costs.{FitsPoint, cost};
+ghost use Rattle.area_graph.specs.Paths.{IsPathOf};
+ghost use Rattle.path_rows.specs.Problems.{ends_of};
+ghost use Rattle.rival_separation.specs.Offers.{IsBest, Offers};
+ghost use Rattle.rival_separation.specs.Rivals.{IsFound};
+
+use area_graph::{Graph, Point, edge_of, price_of};
+use path_rows::Request;
+use spf_ties::Room;
+
+/// A walk that goes along a path to a place, leaves it there by an edge, and costs so much.
+#[derive(Clone, Copy)]
+pub(crate) struct Deviation {
+    pub(crate) place: usize,
+    pub(crate) edge: u32,
+    pub(crate) cost: u128,
+}
+
+/// What the cheapest walk costs that leaves the path at a place by an edge; None where the edge is the path's own or is
+/// taken away, or where no path leads on from it. `before` is what the path costs up to the place.
+fn offer(
+    graph: &Graph,
+    request: &Request,
+    point: &Point,
+    room: &Room,
+    place: usize,
+    before: u128,
+    number: u32,
+) -> Option<u128>
+    requires fits { FitsPoint graph.now point.now }
+    requires found { IsFound graph.now point.now (ends_of request.now) room.now }
+    requires place { place < length request.now.path.edges }
+    requires before { before ≡ cost graph.now point.now (take place request.now.path.edges) }
+    requires near { before < 2 ^ 26 * point.now.scale }
+    requires known { number < length graph.now.edges }
+    requires from { (edge_at graph.now number).from ≡ (edge_at graph.now (slice_index request.now.path.edges place)).from }
+    ensures { MatchOption result
+        ((total : ℕ) → Offers graph.now point.now request.now.gone room.now request.now.path.edges place number total → ⊥)
+        (λ total. Offers graph.now point.now request.now.gone room.now request.now.path.edges place number total) }
+{
+    graph.keeps_conditions();
+    if number == request.path.edges.as_slice()[place] || !room.leaves(number) {
+        return None;
+    }
+    let edge = edge_of(graph, number);
+    match room.distance(edge.to) {
+        Some(rest) => Some(before + (price_of(edge.price, point) + rest)),
+        None => None,
+    }
+}
+
+/// The better of the best deviation so far and a later one: the first, unless the later one costs less.
+fn better(best: Option<Deviation>, later: Deviation) -> Deviation
+    ensures { MatchOption best (result ≡ later) (λ first. ((result ≡ later) × (later.cost < first.cost)) ⊎ ((result ≡ first) × (first.cost ≤ later.cost))) }
+{
+    match best {
+        Some(first) => {
+            if later.cost < first.cost {
+                later
+            } else {
+                first
+            }
+        }
+        None => later,
+    }
+}
+
+/// The best of the deviations before a place and at it; `best` is the best of those before it.
+fn better_at(
+    graph: &Graph,
+    request: &Request,
+    point: &Point,
+    room: &Room,
+    place: usize,
+    before: u128,
+    best: Option<Deviation>,
+) -> Option<Deviation>
+    requires fits { FitsPoint graph.now point.now }
+    requires found { IsFound graph.now point.now (ends_of request.now) room.now }
+    requires path { IsPathOf graph.now (ends_of request.now) request.now.path.edges }
+    requires place { place < length request.now.path.edges }
+    requires before { before ≡ cost graph.now point.now (take place request.now.path.edges) }
+    requires near { before < 2 ^ 26 * point.now.scale }
+    requires best { IsBest graph.now point.now request.now.gone room.now request.now.path.edges (λ earlier e. earlier < place) best }
+    ensures { IsBest graph.now point.now request.now.gone room.now request.now.path.edges (λ earlier e. earlier < place + 1) result }
+{
+    graph.keeps_conditions();
+    let named = request.path.edges.as_slice()[place];
+    let mut found = best;
+    for number in graph.edges_out(edge_of(graph, named).from) {
+        found = match offer(graph, request, point, room, place, before, *number) {
+            Some(cost) => Some(better(
+                found,
+                Deviation {
+                    place,
+                    edge: *number,
+                    cost,
+                },
+            )),
+            None => found,
+        };
+    }
+    found
+}
+
+/// The deviation of least cost from the path of a request: places are tried from the path's start, edges out of a vertex
+/// in rising order, and the first of least cost is kept. None where no walk leaves the path and comes to its end.
+pub(crate) fn least_deviation(
+    graph: &Graph,
+    request: &Request,
+    point: &Point,
+    room: &Room,
+) -> Option<Deviation>
+    requires fits { FitsPoint graph.now point.now }
+    requires found { IsFound graph.now point.now (ends_of request.now) room.now }
+    requires path { IsPathOf graph.now (ends_of request.now) request.now.path.edges }
+    ensures { IsBest graph.now point.now request.now.gone room.now request.now.path.edges (λ place e. place < length request.now.path.edges) result }
+{
+    graph.keeps_conditions();
+    let mut best = None;
+    let mut before = 0;
+    for (place, number) in request.path.edges.as_slice().iter().enumerate() {
+        best = better_at(graph, request, point, room, place, before, best);
+        before += price_of(edge_of(graph, *number).price, point);
+    }
+    best
+}

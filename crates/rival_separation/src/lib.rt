@@ -1,0 +1,7 @@
+//! The cheapest rival of a requested path at a point: the test that separates a relaxed point from what it lacks.
+#![tactic(auto)]
+
+mod deviation;
+mod rival;
+
+pub use rival::{Rival, cheapest_rival, find_rival};
