@@ -1,8 +1,8 @@
 -- Lists read by places, and lists with one more element.
-use Rattle.std.proofs.Common.{◌≡◌, ℕ, zero, suc, ◌+◌, ◌<◌, ◌≤◌, List, [], ◌∷◌, ◌++◌, Bool, cond, true, false, refl, ap, ◌∙◌, arith, map, Option, Some}
+use Rattle.std.proofs.Common.{◌≡◌, ℕ, zero, suc, ◌+◌, ◌<◌, ◌≤◌, List, [], ◌∷◌, ◌++◌, Bool, cond, true, false, refl, ap, ◌∙◌, arith, map, Option, Some, None, get_or, length}
 use Rattle.std.specs.List.{filter, filter_map, cons_option}
 use Rattle.std.specs.Option.{option_or}
-use Rattle.std.specs.Prelude.{◌==◌}
+use Rattle.std.specs.Prelude.{◌==◌, slice_get}
 use Rattle.std.proofs.lemmas.Bool.{eq-eqb, eqb-true, and_parts}
 use Rattle.std.proofs.lemmas.List.{map-append}
 use Rattle.std.proofs.lemmas.List.Elements.{filter-append, filter_map-append}
@@ -99,3 +99,15 @@ same_bytes-true (x ∷ xs) [] same = absurd (cc)
 same_bytes-true (x ∷ xs) (y ∷ ys) same =
     let parts = and_parts (x == y) (same_bytes xs ys) same in
     cc (eqb-true x y parts.0, same_bytes-true xs ys parts.1)
+
+-- a place past the end holds nothing
+pub absent : {X : Type 0} (xs : List X) (k : ℕ) (d : X) → slice_get xs k ≡ None → get_or xs k d ≡ d
+absent [] k d none = refl
+absent (x ∷ xs) zero d none = absurd (cc)
+absent (x ∷ xs) (suc k) d none = absent xs k d none
+
+-- an element within a list
+pub slice_get-within : {X : Type 0} (xs : List X) (k : ℕ) (d : X) → k < length xs → slice_get xs k ≡ Some (get_or xs k d)
+slice_get-within [] k d within = absurd (omega arith)
+slice_get-within (x ∷ xs) zero d within = refl
+slice_get-within (x ∷ xs) (suc k) d within = slice_get-within xs k d (omega arith)
