@@ -50,6 +50,16 @@ filter_map-numbers_more f g n agree =
     zero_more : (n : ℕ) → 0 + n ≡ n
     zero_more n = omega arith
 
+-- a filter over one number more
+pub filter-numbers_more : (f g : ℕ → Bool) (n : ℕ) → ((i : ℕ) → i < n → f i ≡ g i) → filter f (numbers_from 0 (suc n)) ≡ filter g (numbers_from 0 n) ++ cond (f n) (n ∷ []) []
+filter-numbers_more f g n agree =
+    ap (filter f) (numbers_from-more 0 n)
+    ∙ filter-append f (numbers_from 0 n) ((0 + n) ∷ [])
+    ∙ cc (filter-numbers_agree f g 0 n (λ i above below. agree i (omega arith)), one (0 + n) n (omega arith))
+  where
+    one : (a b : ℕ) → a ≡ b → filter f (a ∷ []) ≡ cond (f b) (b ∷ []) []
+    one a b e = ap (λ x. filter f (x ∷ [])) e
+
 -- a filter over one number more, which doesn't pass
 pub filter-numbers_same : (f g : ℕ → Bool) (n : ℕ) → ((i : ℕ) → i < n → f i ≡ g i) → f n ≡ false → filter f (numbers_from 0 (suc n)) ≡ filter g (numbers_from 0 n)
 filter-numbers_same f g n agree fails =
