@@ -3,6 +3,7 @@ ghost use Rattle.std.specs.Prelude.{◌≡◌, ◌-◌, ◌^◌, ◌<◌, None, 
 ghost use Rattle.text_lines.specs.Lines.{lines, words};
 ghost use Rattle.config_reader.specs.Statements.{OfOther};
 ghost use Rattle.config_reader.specs.Hearing as hearing;
+ghost use Rattle.config_reader.specs.Parts.{IsParts};
 ghost use Rattle.config_reader.specs.Spoken.{statement_of, block_spoken};
 
 use crate::ConfigFault;
@@ -137,8 +138,38 @@ impl<'a> Reader<'a> {
     }
 }
 
+/// What is kept of a whole configuration.
+#[derive(Drop)]
+pub(crate) struct Parts<'a> {
+    pub said: Vec<SaidLine<'a>>,
+    pub heads: Vec<NamedHead<'a>>,
+    pub hostname: Option<NamedHead<'a>>,
+    pub fault: Option<LineFault>,
+}
+
+/// What is kept of the lines.
+fn parts_of<'a>(reader: Reader<'a>) -> Parts<'a>
+    ensures { IsParts reader result }
+{
+    Parts {
+        said: reader.said,
+        heads: reader.heads,
+        hostname: reader.hostname,
+        fault: reader.fault,
+    }
+}
+
 /// Goes over the lines of a configuration.
-pub(crate) fn read_lines(alloc: Global, bytes: &[u8]) -> Result<Reader<'_>, OutOfMemory>
+pub(crate) fn read_parts(alloc: Global, bytes: &[u8]) -> Result<Parts<'_>, OutOfMemory>
+    requires { length bytes.now < 2 ^ 32 - 1 }
+    ensures { IfOk result (IsParts (hearing.heard (lines bytes.now))) }
+{
+    let reader = read_lines(alloc, bytes)?;
+    Ok(parts_of(reader))
+}
+
+/// Goes over the lines of a configuration.
+fn read_lines(alloc: Global, bytes: &[u8]) -> Result<Reader<'_>, OutOfMemory>
     requires { length bytes.now < 2 ^ 32 - 1 }
     ensures { IfOk result (λ r. r ≡ hearing.heard (lines bytes.now)) }
 {
