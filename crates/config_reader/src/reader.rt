@@ -147,25 +147,18 @@ pub(crate) struct Parts<'a> {
     pub fault: Option<LineFault>,
 }
 
-/// What is kept of the lines.
-fn parts_of<'a>(reader: Reader<'a>) -> Parts<'a>
-    ensures { IsParts reader result }
-{
-    Parts {
-        said: reader.said,
-        heads: reader.heads,
-        hostname: reader.hostname,
-        fault: reader.fault,
-    }
-}
-
 /// Goes over the lines of a configuration.
 pub(crate) fn read_parts(alloc: Global, bytes: &[u8]) -> Result<Parts<'_>, OutOfMemory>
     requires { length bytes.now < 2 ^ 32 - 1 }
     ensures { IfOk result (IsParts (hearing.heard (lines bytes.now))) }
 {
     let reader = read_lines(alloc, bytes)?;
-    Ok(parts_of(reader))
+    Ok(Parts {
+        said: reader.said,
+        heads: reader.heads,
+        hostname: reader.hostname,
+        fault: reader.fault,
+    })
 }
 
 /// Goes over the lines of a configuration.
