@@ -97,7 +97,7 @@ named-push file line = ap (named_by (file ++ line ∷ [])) last ∙ cases (names
         ∙ at (last_hostname file) (λ i e. last_passing-lt (is_hostname_head file) 0 (length file) i e)
 
 -- the first faulty line with one more
-fault-push : (file : List (List ℕ)) (line : List ℕ) →
+pub fault-push : (file : List (List ℕ)) (line : List ℕ) →
     (heard (file ++ line ∷ [])).fault ≡ option_or (heard file).fault (at_line (length file + 1) (option_or (long_line line) (refused (said_after (read_lines file) (read_line line)).statement)))
 fault-push file line =
     ap (λ n. first_of (filter_map (own_fault (file ++ line ∷ [])) (numbers_from 0 n))) (length_more file line)

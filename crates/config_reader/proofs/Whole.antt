@@ -121,20 +121,20 @@ module _ (p : Prefix) where
   passed : (earlier : List Network) (w : Network) (first : Option ℕ) → matches p w ≡ false → OneArea earlier first → OneArea (earlier ++ w ∷ []) first
   passed earlier w None no_match known = any-last (matches p) earlier w ∙ rw (known, no_match)
   passed earlier w (Some a) no_match known = (
-      any-last (λ m. matches p m && not (m.area == a)) earlier w ∙ rw (known.0, no_match),
-      any-last (λ m. matches p m && (m.area == a)) earlier w ∙ or_left (list_any (λ m. matches p m && (m.area == a)) earlier) ((matches p w && (w.area == a)) || false) known.1,
+    any-last (λ m. matches p m && not (m.area == a)) earlier w ∙ rw (known.0, no_match),
+    any-last (λ m. matches p m && (m.area == a)) earlier w ∙ or_left (list_any (λ m. matches p m && (m.area == a)) earlier) ((matches p w && (w.area == a)) || false) known.1,
   )
 
   first_match : (earlier : List Network) (w : Network) → matches p w ≡ true → OneArea earlier None → OneArea (earlier ++ w ∷ []) (Some w.area)
   first_match earlier w match known = (
-      any-last (λ m. matches p m && not (m.area == w.area)) earlier w ∙ (let none = none_and (λ m. not (m.area == w.area)) earlier known in let same = eq-eqb w.area w.area refl in rw (none, match, same)),
-      any-last (λ m. matches p m && (m.area == w.area)) earlier w ∙ or_right (list_any (λ m. matches p m && (m.area == w.area)) earlier) ((matches p w && (w.area == w.area)) || false) (let same = eq-eqb w.area w.area refl in rw (match, same)),
+    any-last (λ m. matches p m && not (m.area == w.area)) earlier w ∙ (let none = none_and (λ m. not (m.area == w.area)) earlier known in let same = eq-eqb w.area w.area refl in rw (none, match, same)),
+    any-last (λ m. matches p m && (m.area == w.area)) earlier w ∙ or_right (list_any (λ m. matches p m && (m.area == w.area)) earlier) ((matches p w && (w.area == w.area)) || false) (let same = eq-eqb w.area w.area refl in rw (match, same)),
   )
 
   again : (earlier : List Network) (w : Network) (a : ℕ) → eqb w.area a ≡ true → OneArea earlier (Some a) → OneArea (earlier ++ w ∷ []) (Some a)
   again earlier w a same known = (
-      any-last (λ m. matches p m && not (m.area == a)) earlier w ∙ rw (known.0, same) (none (matches p w)),
-      any-last (λ m. matches p m && (m.area == a)) earlier w ∙ or_left (list_any (λ m. matches p m && (m.area == a)) earlier) ((matches p w && (w.area == a)) || false) known.1,
+    any-last (λ m. matches p m && not (m.area == a)) earlier w ∙ rw (known.0, same) (none (matches p w)),
+    any-last (λ m. matches p m && (m.area == a)) earlier w ∙ or_left (list_any (λ m. matches p m && (m.area == a)) earlier) ((matches p w && (w.area == a)) || false) known.1,
   )
     where
       none : (b : Bool) → ((b && false) || false) ≡ false
@@ -233,7 +233,7 @@ one_none earlier _ _ = refl
 abbrev pub areas_rule : List Said → List (List ℕ × ℕ) → ℕ → Option ConfigFault
 areas_rule all heads i = area_twice all heads (networks (take i all)) (get_or all i no_said).block (get_or all i no_said).statement
 
-whole_parts : (o : Option Prefix) → whole_address (address_part o) (length_part o) ≡ o
+pub whole_parts : (o : Option Prefix) → whole_address (address_part o) (length_part o) ≡ o
 whole_parts None = refl
 whole_parts (Some p) = refl
 
@@ -249,7 +249,7 @@ clash_law all head numbered =
     cases None None = sym (never (twice_rule all None) 0 (length all) (λ i. one_none (networks (take i all)) (get_or all i no_said).block (get_or all i no_said).statement))
     cases None (Some p) = sym (scan p [] all None refl numbered)
 
-clashes_law : (all : List Said) (found : Option Fault) (heads : List (List ℕ × ℕ)) → Numbered 0 all → first_clash (network_lines all) found (map (draft_of (network_lines all) all) heads) ≡ earliest found (firsts_at (areas_rule all heads) 0 (length all))
+pub clashes_law : (all : List Said) (found : Option Fault) (heads : List (List ℕ × ℕ)) → Numbered 0 all → first_clash (network_lines all) found (map (draft_of (network_lines all) all) heads) ≡ earliest found (firsts_at (areas_rule all heads) 0 (length all))
 clashes_law all found [] numbered =
     sym (ap (earliest found) (never (areas_rule all []) 0 (length all) (λ i. twice_none all (networks (take i all)) (get_or all i no_said).block (get_or all i no_said).statement)) ∙ earliest_none found)
 clashes_law all found (h ∷ hs) numbered =
@@ -269,7 +269,7 @@ any_place q (x ∷ xs) some = cases (q x) some (λ h. any_place q xs h)
     cases true h more = omega arith
     cases false h more = let k = more h in omega arith
 
-no_place : (q : List ℕ → Bool) (xs : List (List ℕ)) → position q xs ≡ None → list_any q xs ≡ false
+pub no_place : (q : List ℕ → Bool) (xs : List (List ℕ)) → position q xs ≡ None → list_any q xs ≡ false
 no_place q xs none = false_from_ne_true (list_any q xs) (λ some. apart (ap (λ b. cond b (Some (position_or_len q xs)) None) (lt-ltb (position_or_len q xs) (length xs) (any_place q xs some))))
   where
     apart : position q xs ≡ Some (position_or_len q xs) → ⊥
