@@ -204,8 +204,8 @@ gathered_more said i d nets old new within made =
     ∙ after_more nets (said_of (get_or said i d)) (map said_of (drop (suc i) said)) old
     ∙ ap (λ ls. map (draft_after nets (map said_of ls)) old) (sym (drop-cons said i d within))
 
-pub gathered_names : (nets : List NetworkLine) (s : Said) (names : List (List ℕ)) (old new : List Draft) → names ≡ names_of old → new ≡ map (draft_with nets s) old → names ≡ names_of new
-gathered_names nets s names old new named made = named ∙ sym (ap names_of made ∙ names_kept nets s old)
+pub gathered_names : (said : List SaidLine) (i : ℕ) (d : SaidLine) (nets : List NetworkLine) (names : List (List ℕ)) (old new : List Draft) → names ≡ names_of old → new ≡ map (draft_with nets (said_of (get_or said i d))) old → names ≡ names_of new
+gathered_names said i d nets names old new named made = named ∙ sym (ap names_of made ∙ names_kept nets (said_of (get_or said i d)) old)
 
 -- all lines are gone over
 pub gathered_all : (said : List SaidLine) (i : ℕ) (nets : List NetworkLine) (heads : List (List ℕ × ℕ)) (opened d : Drafts) → length said ≤ i → IsOpened heads opened →

@@ -200,8 +200,10 @@ made_law file_name bytes nets drafts found made none = record { same = made_same
   where
     file : List (List ℕ)
     file = lines bytes
+
     outer : (earliest (earliest (heard file).fault (first_second drafts (heard file).said)) (first_clash nets None drafts) ≡ None) × (name_fault (name_from file_name (heard file).hostname) ≡ None)
     outer = earliest_parts (earliest (earliest (heard file).fault (first_second drafts (heard file).said)) (first_clash nets None drafts)) (name_fault (name_from file_name (heard file).hostname)) none
+
     inner : (earliest (heard file).fault (first_second drafts (heard file).said) ≡ None) × (first_clash nets None drafts ≡ None)
     inner = earliest_parts (earliest (heard file).fault (first_second drafts (heard file).said)) (first_clash nets None drafts) outer.0
 
@@ -213,6 +215,7 @@ made_law file_name bytes nets drafts found made none = record { same = made_same
 
     named : is_router_name (router_name file_name file).0 ≡ true
     named = ap (λ (ls : List (List ℕ)). is_router_name (router_name file_name ls).0) (sym whole) ∙ ap (λ (n : List ℕ × ℕ). is_router_name n.0) (sym (named_law file_name file)) ∙ named_good (name_from file_name (heard file).hostname) outer.1
+
     same : (nets ≡ network_lines (said (read_lines file))) × (drafts ≡ file_drafts file)
     same = drafts_same file nets drafts found made
 

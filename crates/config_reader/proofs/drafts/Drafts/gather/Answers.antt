@@ -11,7 +11,7 @@ loop-line-init c =
 pub loop-line-preserved : goal.loop-line-preserved
 loop-line-preserved c = record {
   drafts = gathered_more c.args.said.now c.loop-line.line-index _ c.args.networks.now c.loop-line.drafts.items c.settle.new.drafts.items c.loop-line-test.true c.settle.ensures ∙ c.loop-line.invariant.drafts;
-  names = gathered_names c.args.networks.now _ c.in_ok-names.field-0.names c.loop-line.drafts.items c.settle.new.drafts.items c.loop-line.invariant.names c.settle.ensures;
+  names = gathered_names c.args.said.now c.loop-line.line-index _ c.args.networks.now c.in_ok-names.field-0.names c.loop-line.drafts.items c.settle.new.drafts.items c.loop-line.invariant.names c.settle.ensures;
   apart = c.loop-line.invariant.apart;
 }
 
