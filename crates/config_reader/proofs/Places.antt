@@ -1,10 +1,12 @@
 -- Lists read by places, and lists with one more element.
-use Rattle.std.proofs.Common.{◌≡◌, ℕ, zero, suc, ◌+◌, ◌<◌, ◌≤◌, List, [], ◌∷◌, ◌++◌, Bool, cond, true, false, refl, ap, ◌∙◌, arith, map, Option, Some}
-use Rattle.std.specs.List.{filter, filter_map, cons_option}
+use Rattle.std.proofs.Common.{◌≡◌, ℕ, zero, suc, ◌+◌, ◌<◌, ◌≤◌, List, [], ◌∷◌, ◌++◌, Bool, cond, true, false, refl, sym, ap, ◌∙◌, arith, map, Option, Some, None, get_or, length, not, ltb}
+use Rattle.std.specs.List.{filter, filter_map, cons_option, list_any, position_or_len}
 use Rattle.std.specs.Option.{option_or}
-use Rattle.std.specs.Prelude.{◌==◌}
+use Rattle.std.specs.Prelude.{◌==◌, slice_get, position, ◌||◌}
+use Rattle.std.specs.Option.{option_map}
 use Rattle.std.proofs.lemmas.Bool.{eq-eqb, eqb-true, and_parts}
-use Rattle.std.proofs.lemmas.List.{map-append}
+use Rattle.std.proofs.lemmas.List.{map-append, length-map}
+use Rattle.std.proofs.lemmas.List.Recursion.{is_position_or_len}
 use Rattle.std.proofs.lemmas.List.Elements.{filter-append, filter_map-append}
 use Rattle.cost_base.specs.Lists.{numbers_from, last_of, first_of, same_bytes}
 
@@ -49,6 +51,16 @@ filter_map-numbers_more f g n agree =
   where
     zero_more : (n : ℕ) → 0 + n ≡ n
     zero_more n = omega arith
+
+-- a filter over one number more
+pub filter-numbers_more : (f g : ℕ → Bool) (n : ℕ) → ((i : ℕ) → i < n → f i ≡ g i) → filter f (numbers_from 0 (suc n)) ≡ filter g (numbers_from 0 n) ++ cond (f n) (n ∷ []) []
+filter-numbers_more f g n agree =
+    ap (filter f) (numbers_from-more 0 n)
+    ∙ filter-append f (numbers_from 0 n) ((0 + n) ∷ [])
+    ∙ cc (filter-numbers_agree f g 0 n (λ i above below. agree i (omega arith)), one (0 + n) n (omega arith))
+  where
+    one : (a b : ℕ) → a ≡ b → filter f (a ∷ []) ≡ cond (f b) (b ∷ []) []
+    one a b e = ap (λ x. filter f (x ∷ [])) e
 
 -- a filter over one number more, which doesn't pass
 pub filter-numbers_same : (f g : ℕ → Bool) (n : ℕ) → ((i : ℕ) → i < n → f i ≡ g i) → f n ≡ false → filter f (numbers_from 0 (suc n)) ≡ filter g (numbers_from 0 n)
@@ -99,3 +111,51 @@ same_bytes-true (x ∷ xs) [] same = absurd (cc)
 same_bytes-true (x ∷ xs) (y ∷ ys) same =
     let parts = and_parts (x == y) (same_bytes xs ys) same in
     cc (eqb-true x y parts.0, same_bytes-true xs ys parts.1)
+
+-- a place past the end holds nothing
+pub absent : {X : Type 0} (xs : List X) (k : ℕ) (d : X) → slice_get xs k ≡ None → get_or xs k d ≡ d
+absent [] k d none = refl
+absent (x ∷ xs) zero d none = absurd (cc)
+absent (x ∷ xs) (suc k) d none = absent xs k d none
+
+-- an element within a list
+pub slice_get-within : {X : Type 0} (xs : List X) (k : ℕ) (d : X) → k < length xs → slice_get xs k ≡ Some (get_or xs k d)
+slice_get-within [] k d within = absurd (omega arith)
+slice_get-within (x ∷ xs) zero d within = refl
+slice_get-within (x ∷ xs) (suc k) d within = slice_get-within xs k d (omega arith)
+
+-- a place among images
+place-map : {X Y : Type 0} (p : Y → Bool) (g : X → Y) (xs : List X) → position_or_len p (map g xs) ≡ position_or_len (λ x. p (g x)) xs
+place-map {X} {Y} p g xs = is_position_or_len (λ (ys : List X). position_or_len p (map g ys)) (λ x. p (g x)) refl (λ x ys. cases (p (g x)) (position_or_len p (map g ys))) xs
+  where
+    cases : (b : Bool) (n : ℕ) → cond (not b) (1 + n) 0 ≡ cond b 0 (1 + n)
+    cases true n = refl
+    cases false n = refl
+
+pub position-map : {X Y : Type 0} (p : Y → Bool) (g : X → Y) (xs : List X) → position (λ x. p (g x)) xs ≡ position p (map g xs)
+position-map p g xs =
+    ap (λ k. cond (ltb k (length xs)) (Some k) None) (sym (place-map p g xs))
+    ∙ ap (λ n. cond (ltb (position_or_len p (map g xs)) n) (Some (position_or_len p (map g xs))) None) (sym (length-map xs g))
+
+pub any-map : {X Y : Type 0} (p : Y → Bool) (g : X → Y) (xs : List X) → list_any (λ x. p (g x)) xs ≡ list_any p (map g xs)
+any-map p g [] = refl
+any-map p g (x ∷ xs) = ap (λ b. p (g x) || b) (any-map p g xs)
+
+-- images of elements, with one more where none passes
+pub map-unless : {X Y : Type 0} (p : Y → Bool) (g : X → Y) (xs : List X) (x : X) → map g (cond (list_any (λ x. p (g x)) xs) xs (xs ++ x ∷ [])) ≡ cond (list_any p (map g xs)) (map g xs) (map g xs ++ g x ∷ [])
+map-unless p g xs x = cases (list_any (λ x. p (g x)) xs) (list_any p (map g xs)) (any-map p g xs)
+  where
+    cases : (a b : Bool) → a ≡ b → map g (cond a xs (xs ++ x ∷ [])) ≡ cond b (map g xs) (map g xs ++ g x ∷ [])
+    cases true true e = refl
+    cases false false e = map-append g xs (x ∷ [])
+    cases true false e = absurd (cc)
+    cases false true e = absurd (cc)
+
+-- bytes compare the same either way round
+pub same_bytes-swap : (xs ys : List ℕ) → same_bytes xs ys ≡ same_bytes ys xs
+same_bytes-swap xs ys = cases (same_bytes xs ys) (same_bytes ys xs) refl refl
+  where
+    cases : (a b : Bool) → same_bytes xs ys ≡ a → same_bytes ys xs ≡ b → a ≡ b
+    cases true b e f = sym (same_bytes-refl xs) ∙ ap (λ zs. same_bytes zs xs) (same_bytes-true xs ys e) ∙ f
+    cases false true e f = sym e ∙ ap (λ zs. same_bytes xs zs) (same_bytes-true ys xs f) ∙ same_bytes-refl xs
+    cases false false e f = refl

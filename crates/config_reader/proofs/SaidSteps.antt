@@ -30,17 +30,18 @@ said_at-append file more i within =
     ap (λ (l : List ℕ). said_behind i (last_of (filter is_head (take i (file ++ more)))) l) line
     ∙ ap (λ (front : List (List ℕ)). said_behind i (last_of (filter is_head front)) (get_or file i [])) before
 
+-- what the last line of a file says
+pub last_said : (file : List (List ℕ)) (line : List ℕ) → said_at (file ++ line ∷ []) (length file) ≡ said_after file line
+last_said file line =
+    ap (λ (l : List ℕ). said_behind (length file) (last_of (filter is_head (take (length file) (file ++ line ∷ [])))) l) (get_or_at file line [] [] (length file) refl)
+    ∙ ap (λ (front : List (List ℕ)). said_behind (length file) (last_of (filter is_head front)) line) (take_at file (line ∷ []) (length file) refl)
+
 -- one more line says one thing more
 pub said-push : (file : List (List ℕ)) (line : List ℕ) → said (file ++ line ∷ []) ≡ said file ++ said_after file line ∷ []
 said-push file line =
     ap (λ n. map (said_at (file ++ line ∷ [])) (numbers_from 0 n)) (length_more file line)
     ∙ map-numbers_more (said_at (file ++ line ∷ [])) (said_at file) (length file) (λ i within. said_at-append file (line ∷ []) i within)
-    ∙ ap (λ (s : Said). said file ++ s ∷ []) here
-  where
-    here : said_at (file ++ line ∷ []) (length file) ≡ said_after file line
-    here =
-        ap (λ (l : List ℕ). said_behind (length file) (last_of (filter is_head (take (length file) (file ++ line ∷ [])))) l) (get_or_at file line [] [] (length file) refl)
-        ∙ ap (λ (front : List (List ℕ)). said_behind (length file) (last_of (filter is_head front)) line) (take_at file (line ∷ []) (length file) refl)
+    ∙ ap (λ (s : Said). said file ++ s ∷ []) (last_said file line)
 
 -- the interface that a line opens at a place
 abbrev pub opened_from : ℕ → List ℕ → Option (List ℕ × ℕ)

@@ -1,0 +1,18 @@
+-- What the code's reader keeps.
+use Rattle.std.specs.Prelude.{ℕ, List, map}
+use Rattle.std.specs.Option.{option_map}
+use Rattle.config_reader.specs.declared.reader.SaidLine.{SaidLine}
+use Rattle.config_reader.specs.declared.reader.NamedHead.{NamedHead}
+use Rattle.config_reader.specs.declared.reader.LineFault.{LineFault}
+use Rattle.config_reader.specs.Settings.{Said}
+use Rattle.config_reader.specs.FaultList.{Fault}
+use Rattle.config_reader.specs.Spoken.{statement_of, block_spoken}
+
+abbrev pub said_of : SaidLine → Said
+said_of s = record { number = s.number; block = block_spoken s.block; statement = statement_of s.statement }
+
+abbrev pub head_of : NamedHead → List ℕ × ℕ
+head_of h = (h.name.now, h.line)
+
+abbrev pub fault_of : LineFault → Fault
+fault_of f = record { line = f.line; fault = f.fault }

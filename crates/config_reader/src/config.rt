@@ -1,0 +1,76 @@
+//! Reading a whole configuration.
+ghost use Rattle.std.specs.Prelude.{◌≡◌, ◌-◌, ◌^◌, ◌<◌, None, Option, List, length, map, IfOk, IfErr};
+ghost use Rattle.std.specs.Option.{option_map};
+ghost use Rattle.interface_model.specs.Records.{IsRouter};
+ghost use Rattle.config_reader.specs.Configs.{config_of};
+ghost use Rattle.config_reader.specs.FaultList.{config_fault, Tells};
+ghost use Rattle.config_reader.specs.Heards.{said_of, head_of, fault_of};
+ghost use Rattle.config_reader.specs.Drafting as drafting;
+
+use crate::ConfigStop;
+use crate::drafts::{Drafts, finish};
+use crate::faults::{area_twice, earliest, name_fault, router_id, router_name, second_address};
+use crate::networks::Networks;
+use crate::reader::{LineFault, NamedHead, Parts, read_parts};
+use cost_base::{Listed, Name, OutOfMemory};
+use interface_model::{Interface, RouterConfig};
+use std::alloc::Global;
+
+/// The first fault of a configuration: of a line by itself, of a second address, of a second area or of the name.
+fn first_fault<'a>(
+    parts: &Parts<'a>,
+    networks: &Networks,
+    drafts: &Drafts<'a>,
+    name: NamedHead<'a>,
+) -> Option<LineFault>
+    requires { drafts.now.names ≡ map (λ d. d.interface.name) drafts.now.drafts.items }
+    ensures { option_map fault_of result ≡ drafting.earliest (drafting.earliest (drafting.earliest (option_map fault_of parts.now.fault) (drafting.first_second drafts.now.drafts.items (map said_of parts.now.said.items))) (drafting.first_clash networks.now None drafts.now.drafts.items)) (drafting.name_fault (head_of name.entry)) }
+{
+    let second = earliest(parts.fault, second_address(drafts, &parts.said));
+    let twice = earliest(second, area_twice(&drafts.drafts, networks));
+    earliest(twice, name_fault(name))
+}
+
+/// A router's records.
+fn assemble(
+    alloc: Global,
+    name: &[u8],
+    router_id: Option<u32>,
+    interfaces: Vec<Interface>,
+) -> Result<RouterConfig, OutOfMemory>
+    requires { IsRouter (record { name = name.now; router_id = router_id; interfaces = interfaces.items }) }
+    ensures { IfOk result (λ r. r ≡ record { name = name.now; router_id = router_id; interfaces = interfaces.items }) }
+{
+    let name = Name::from_bytes(alloc, name)?;
+    Ok(RouterConfig {
+        name,
+        router_id,
+        interfaces: Listed::from_items(interfaces),
+    })
+}
+
+/// Reads the configuration of a router: `file_name` names the router where no `hostname` line does.
+///
+/// # Errors
+///
+/// `Refused` with the first fault of the lines, in the order of lines and, on one line, of numbers; a name that is taken
+/// from the file's name has line 0. `OutOfMemory` where a list got no memory.
+pub fn read_config(alloc: Global, file_name: &str, bytes: &[u8]) -> Result<RouterConfig, ConfigStop>
+    requires few { length bytes.now < 2 ^ 32 - 1 }
+    ensures made { IfOk result (λ r. (config_fault file_name.now bytes.now ≡ None) × (r ≡ config_of file_name.now bytes.now)) }
+    ensures refused { IfErr result (Tells (config_fault file_name.now bytes.now)) }
+{
+    let parts = read_parts(alloc, bytes)?;
+    let networks = Networks::among(alloc, &parts.said)?;
+    let drafts = Drafts::gather(alloc, &parts.heads, &parts.said, &networks)?;
+    let name = router_name(parts.hostname, file_name.as_bytes());
+    if let Some(fault) = first_fault(&parts, &networks, &drafts, name) {
+        return Err(ConfigStop::Refused {
+            fault: fault.fault,
+            line: fault.line,
+        });
+    }
+    let id = router_id(&parts.said);
+    let interfaces = finish(alloc, drafts.drafts, &networks)?;
+    Ok(assemble(alloc, name.name, id, interfaces)?)
+}
