@@ -1,4 +1,5 @@
 //! The jobs that words may ask for.
+use std::alloc::AllocError;
 use wide_fraction::Limits;
 
 /// What the words ask for: the values of the options, the CONFIG words in their order, and the stated defaults.
@@ -70,4 +71,15 @@ pub enum WordsStop {
     /// The words are off the command table.
     Refused,
     OutOfMemory,
+}
+
+impl From<AllocError> for WordsStop {
+    ghost use Rattle.std.specs.Prelude.{◌≡◌};
+    ghost use Rattle.command_words.specs.declared.job.WordsStop.TheVariants.{OutOfMemory};
+
+    ghost from_gives = { λ error stop. stop ≡ OutOfMemory };
+
+    fn from(_error: AllocError) -> WordsStop {
+        WordsStop::OutOfMemory
+    }
 }

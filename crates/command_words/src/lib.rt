@@ -1,16 +1,24 @@
 //! The words after the program's name, as the job that they ask for.
 #![tactic(auto)]
 
-ghost use Rattle.std.specs.Prelude.{◌≡◌, None, Some, IfOk, IsErrOf};
-ghost use Rattle.command_words.specs.Commands.{job_of};
+ghost use Rattle.std.specs.Prelude.{◌≡◌, None, Some, IfOk, IsErrOf, MatchOption};
+ghost use Rattle.command_words.specs.Commands.{job_of, job_of_row};
+ghost use Rattle.command_words.specs.Forms.{form_of};
 ghost use Rattle.command_words.specs.Jobs.{seen};
 ghost use Rattle.command_words.specs.Words.{texts};
 
 use std::alloc::Global;
 
 mod job;
+mod reading;
+mod table;
+#[cfg(test)]
+mod tests;
+mod values;
 
 pub use job::{Job, WordsStop};
+use reading::read_row;
+use table::{CommandName, command_named};
 
 /// The job that `words`, the words after the program's name, ask for.
 ///
@@ -25,7 +33,16 @@ pub fn read_words(alloc: Global, words: &[String]) -> Result<Job, WordsStop>
     ensures job { IfOk result (λ job. job_of (texts words.now) ≡ Some (seen job)) }
     ensures refused { IsErrOf result WordsStop.Refused → job_of (texts words.now) ≡ None }
 {
-    let _words = words;
-    let _alloc = alloc;
-    Err(WordsStop::OutOfMemory)
+    let Some(name) = named(words) else {
+        return Err(WordsStop::Refused);
+    };
+    read_row(alloc, name, words)
+}
+
+/// The command that the first word names; None exactly where there is none.
+fn named(words: &[String]) -> Option<CommandName>
+    ensures { MatchOption result (job_of (texts words.now) ≡ None) (λ name. job_of (texts words.now) ≡ job_of_row (form_of name) (texts words.now)) }
+{
+    let (first, _others) = words.split_first()?;
+    command_named(first.as_bytes())
 }
