@@ -24,7 +24,7 @@ pub taken_row : (form : Form) (words : List Text) (found : Found) (r : Result Jo
 unfolding job_of_row
 taken_row form words found r takes same h =
     let is : form.job found ≡ job_of_row form words =
-        ap form.job same ∙ sym (ap (λ b. cond b (form.job (found_in form words)) None) takes) in
+    ap form.job same ∙ sym (ap (λ b. cond b (form.job (found_in form words)) None) takes) in
     subst (λ part. Answers part seen r) is h
 
 -- the first word picks the row
@@ -39,19 +39,3 @@ pub no_words : (words : List (String Global)) → length words ≡ 0 → job_of 
 unfolding job_of
 no_words [] none = λ i. None
 no_words (w ∷ ws) none = absurd (omega arith)
-
-stop_in : Result Job WordsStop → WordsStop
-stop_in (Ok job) = OutOfMemory
-stop_in (Err stop) = stop
-
-pub job_answered : (part whole : Option JobRead) (r : Result Job WordsStop) → whole ≡ part → Answers part seen r → IfOk r (λ job. whole ≡ Some (seen job))
-job_answered part whole (Ok job) same h = same ∙ h
-job_answered part whole (Err stop) same h = tt
-
-pub refusal_answered : (part whole : Option JobRead) (r : Result Job WordsStop) → whole ≡ part → Answers part seen r → IsErrOf r Refused → whole ≡ None
-unfolding stop_in
-refusal_answered part whole (Ok job) same h is = absurd (not_ok is)
-  where
-    not_ok : Ok job ≡ Err Refused → ⊥
-    not_ok e = cc
-refusal_answered part whole (Err stop) same h is = same ∙ h (ap stop_in is)

@@ -135,18 +135,48 @@ pub record Form : Type 0 where
 abbrev pub row : Text → List Text → List Text → Files → (Found → Option JobRead) → Form
 row name must may files job = record { name = name; must = must; may = may; files = files; job = job }
 
+abbrev pub design_row : Form
+design_row = row (codes "design") (codes "request" ∷ []) (codes "nodes" ∷ codes "bits" ∷ []) several design_job
+
+abbrev pub check_row : Form
+check_row = row (codes "check") (codes "request" ∷ codes "answer" ∷ []) [] several check_job
+
+abbrev pub audit_row : Form
+audit_row = row (codes "audit") (codes "request" ∷ []) [] several audit_job
+
+abbrev pub rewrite_row : Form
+rewrite_row = row (codes "rewrite") (codes "answer" ∷ []) [] one rewrite_job
+
+abbrev pub trial_row : Form
+trial_row = row (codes "trial") (codes "blocks" ∷ []) (codes "start" ∷ []) none trial_job
+
+abbrev pub conflict_row : Form
+conflict_row = row (codes "conflict") (codes "request" ∷ []) (codes "nodes" ∷ codes "bits" ∷ []) several conflict_job
+
+abbrev pub spread_row : Form
+spread_row = row (codes "spread") (codes "request" ∷ codes "sets" ∷ []) (codes "nodes" ∷ codes "bits" ∷ []) several spread_job
+
+abbrev pub total_row : Form
+total_row = row (codes "total") (codes "request" ∷ []) (codes "nodes" ∷ codes "bits" ∷ []) several total_job
+
+abbrev pub lsas_row : Form
+lsas_row = row (codes "lsas") (codes "request" ∷ []) [] several lsas_job
+
+abbrev pub route_row : Form
+route_row = row (codes "route") (codes "lsas" ∷ codes "from" ∷ codes "to" ∷ []) [] none route_job
+
 unfoldable pub table : List Form
 table =
-    row (codes "design") (codes "request" ∷ []) (codes "nodes" ∷ codes "bits" ∷ []) several design_job
-    ∷ row (codes "check") (codes "request" ∷ codes "answer" ∷ []) [] several check_job
-    ∷ row (codes "audit") (codes "request" ∷ []) [] several audit_job
-    ∷ row (codes "rewrite") (codes "answer" ∷ []) [] one rewrite_job
-    ∷ row (codes "trial") (codes "blocks" ∷ []) (codes "start" ∷ []) none trial_job
-    ∷ row (codes "conflict") (codes "request" ∷ []) (codes "nodes" ∷ codes "bits" ∷ []) several conflict_job
-    ∷ row (codes "spread") (codes "request" ∷ codes "sets" ∷ []) (codes "nodes" ∷ codes "bits" ∷ []) several spread_job
-    ∷ row (codes "total") (codes "request" ∷ []) (codes "nodes" ∷ codes "bits" ∷ []) several total_job
-    ∷ row (codes "lsas") (codes "request" ∷ []) [] several lsas_job
-    ∷ row (codes "route") (codes "lsas" ∷ codes "from" ∷ codes "to" ∷ []) [] none route_job
+    design_row
+    ∷ check_row
+    ∷ audit_row
+    ∷ rewrite_row
+    ∷ trial_row
+    ∷ conflict_row
+    ∷ spread_row
+    ∷ total_row
+    ∷ lsas_row
+    ∷ route_row
     ∷ []
 
 -- ---- words

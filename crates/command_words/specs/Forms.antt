@@ -11,20 +11,20 @@ use Rattle.command_words.specs.declared.table.CommandName.TheVariants as name
 use Rattle.command_words.specs.declared.table.ConfigWords.{ConfigWords}
 use Rattle.command_words.specs.declared.table.ConfigWords.TheVariants as words
 use Rattle.command_words.specs.Jobs.{Text}
-use Rattle.command_words.specs.Commands.{Files, none, one, several, Form, row, Found, design_job, check_job, audit_job, rewrite_job, trial_job, conflict_job, spread_job, total_job, lsas_job, route_job}
+use Rattle.command_words.specs.Commands.{Files, none, one, several, Form, Found, design_row, check_row, audit_row, rewrite_row, trial_row, conflict_row, spread_row, total_row, lsas_row, route_row}
 
 -- the row of a command
 abbrev pub form_of : CommandName → Form
-form_of name.Design = row (codes "design") (codes "request" ∷ []) (codes "nodes" ∷ codes "bits" ∷ []) several design_job
-form_of name.Check = row (codes "check") (codes "request" ∷ codes "answer" ∷ []) [] several check_job
-form_of name.Audit = row (codes "audit") (codes "request" ∷ []) [] several audit_job
-form_of name.Rewrite = row (codes "rewrite") (codes "answer" ∷ []) [] one rewrite_job
-form_of name.Trial = row (codes "trial") (codes "blocks" ∷ []) (codes "start" ∷ []) none trial_job
-form_of name.Conflict = row (codes "conflict") (codes "request" ∷ []) (codes "nodes" ∷ codes "bits" ∷ []) several conflict_job
-form_of name.Spread = row (codes "spread") (codes "request" ∷ codes "sets" ∷ []) (codes "nodes" ∷ codes "bits" ∷ []) several spread_job
-form_of name.Total = row (codes "total") (codes "request" ∷ []) (codes "nodes" ∷ codes "bits" ∷ []) several total_job
-form_of name.Lsas = row (codes "lsas") (codes "request" ∷ []) [] several lsas_job
-form_of name.Route = row (codes "route") (codes "lsas" ∷ codes "from" ∷ codes "to" ∷ []) [] none route_job
+form_of name.Design = design_row
+form_of name.Check = check_row
+form_of name.Audit = audit_row
+form_of name.Rewrite = rewrite_row
+form_of name.Trial = trial_row
+form_of name.Conflict = conflict_row
+form_of name.Spread = spread_row
+form_of name.Total = total_row
+form_of name.Lsas = lsas_row
+form_of name.Route = route_row
 
 abbrev pub files_of : ConfigWords → Files
 files_of words.Nothing = none

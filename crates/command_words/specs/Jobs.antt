@@ -1,5 +1,5 @@
 -- Jobs as contracts see them.
-use Rattle.std.specs.Prelude.{ℕ, List, string_bytes}
+use Rattle.std.specs.Prelude.{ℕ, ◌<◌, ◌≤◌, ◌^◌, List, string_bytes}
 use Rattle.wide_fraction.specs.declared.bounds.Limits.{Limits}
 use Rattle.command_words.specs.declared.job.Job.{Job}
 use Rattle.command_words.specs.declared.job.Job.TheVariants as variant
@@ -42,3 +42,8 @@ seen (variant.Spread request sets limits configs) =
 seen (variant.Total request limits configs) = Total (string_bytes request) (bounds limits) (texts configs.items)
 seen (variant.Lsas request configs) = Lsas (string_bytes request) (texts configs.items)
 seen (variant.Route lsas from to) = Route (string_bytes lsas) from to
+
+-- the numbers of a trial are within their ranges
+abbrev pub IsInRange : JobRead → Type 0
+IsInRange (Trial blocks start) = (1 ≤ blocks) × (blocks ≤ 125) × (start < 2 ^ 31)
+IsInRange _ = Unit {0}

@@ -4,7 +4,7 @@
 ghost use Rattle.std.specs.Prelude.{◌≡◌, None, Some, IfOk, IsErrOf, MatchOption};
 ghost use Rattle.command_words.specs.Commands.{job_of, job_of_row};
 ghost use Rattle.command_words.specs.Forms.{form_of};
-ghost use Rattle.command_words.specs.Jobs.{seen};
+ghost use Rattle.command_words.specs.Jobs.{seen, IsInRange};
 ghost use Rattle.command_words.specs.Words.{texts};
 
 use std::alloc::Global;
@@ -31,6 +31,7 @@ use table::{CommandName, command_named};
 /// or where a router isn't a dotted quad.
 pub fn read_words(alloc: Global, words: &[String]) -> Result<Job, WordsStop>
     ensures job { IfOk result (λ job. job_of (texts words.now) ≡ Some (seen job)) }
+    ensures ranges { IfOk result (λ job. IsInRange (seen job)) }
     ensures refused { IsErrOf result WordsStop.Refused → job_of (texts words.now) ≡ None }
 {
     let Some(name) = named(words) else {
