@@ -1,8 +1,8 @@
 -- Words, and the jobs that they ask for.
-use Rattle.std.proofs.Common.{◌≡◌, ℕ, refl, List, [], ◌∷◌, Option, Some, None}
+use Rattle.std.proofs.Common.{◌≡◌, refl, [], ◌∷◌, Some, None}
 use Rattle.std.specs.Prelude.{codes, ◌-◌, ◌^◌}
 use Rattle.clap.proofs.OnLiterals.{clap_on_literals}
-use Rattle.command_words.specs.Jobs.{Bounds, JobRead, Design, Check, Rewrite, Trial, Route}
+use Rattle.command_words.specs.Jobs.{Bounds, Design, Check, Route}
 use Rattle.command_words.specs.Commands.{job_of, job_of_row, row_of_word, table}
 
 abbrev usual : Bounds

@@ -1,5 +1,5 @@
 -- The ranges of numbers in jobs.
-use Rattle.std.proofs.Common.{◌≡◌, ◌∙◌, Result, Ok, Err, IfOk, ◌≤◌, ◌<◌, ◌^◌, ℕ, Bool, cond, true, false, List, [], ◌∷◌, Option, Some, None, IfSome, option_and_then, codes, refl, sym, ap, subst, arith, lit≤}
+use Rattle.std.proofs.Common.{◌≡◌, ◌∙◌, Result, Ok, Err, IfOk, ◌≤◌, ℕ, Bool, cond, true, false, List, [], ◌∷◌, Option, Some, None, IfSome, option_and_then, codes, refl, subst, arith}
 use Rattle.std.specs.Prelude.{find, nat_le}
 use Rattle.text_lines.specs.Numbers.{number, quad}
 use Rattle.text_lines.proofs.NumberLaws.{number_within-le}

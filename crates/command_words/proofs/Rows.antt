@@ -1,8 +1,7 @@
 -- Rows of the table, one after the other.
-use Rattle.std.proofs.Common.{◌≡◌, ◌∙◌, ◌<◌, ◌+◌, ℕ, Bool, cond, true, false, zero, suc, List, [], ◌∷◌, map, length, drop, Option, Some, None, refl, sym, ap, arith}
+use Rattle.std.proofs.Common.{◌≡◌, ◌∙◌, ◌<◌, ◌+◌, ℕ, cond, false, zero, suc, List, [], ◌∷◌, map, length, drop, Option, Some, sym, ap, arith}
 use Rattle.std.specs.Prelude.{find}
 use Rattle.std.specs.List.{slice_index_or}
-use Rattle.std.proofs.lemmas.List.{drop_at}
 use Rattle.cost_base.specs.Lists.{same_bytes}
 use Rattle.command_words.specs.declared.table.CommandName.{CommandName}
 use Rattle.command_words.specs.Jobs.{Text}

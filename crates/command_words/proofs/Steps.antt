@@ -1,13 +1,13 @@
 -- From the values that a row finds to the job of its words.
-use Rattle.std.proofs.Common.{◌≡◌, ◌∙◌, cond, true, false, List, [], ◌∷◌, Option, Some, None, Result, Ok, Err, IsErrAnd, IsErrOf, IfOk, MatchOption, option_map, option_and_then, sym, ap, subst, length, ℕ, arith, ◌+◌}
+use Rattle.std.proofs.Common.{◌≡◌, ◌∙◌, cond, true, false, List, [], ◌∷◌, Option, Some, None, Result, Ok, Err, IsErrAnd, MatchOption, option_map, option_and_then, sym, ap, subst, length, arith}
 use Rattle.std.specs.declared.string.String.{String}
 use Rattle.std.specs.declared.alloc.Global.{Global}
 use Rattle.command_words.specs.Words.{texts}
 use Rattle.command_words.specs.declared.job.Job.{Job}
 use Rattle.command_words.specs.declared.job.WordsStop.{WordsStop}
-use Rattle.command_words.specs.declared.job.WordsStop.TheVariants.{Refused, OutOfMemory}
+use Rattle.command_words.specs.declared.job.WordsStop.TheVariants.{Refused}
 use Rattle.command_words.specs.declared.table.CommandName.{CommandName}
-use Rattle.command_words.specs.Jobs.{Text, JobRead, seen}
+use Rattle.command_words.specs.Jobs.{Text, seen}
 use Rattle.command_words.specs.Commands.{Form, Found, found_in, job_of, job_of_row, row_of_word, takes_words}
 use Rattle.command_words.specs.Forms.{form_of, Answers}
 

@@ -1,5 +1,5 @@
 -- The simple commands of the table, and the words that they take.
-use Rattle.std.proofs.Common.{◌≡◌, ◌∙◌, ◌⊎◌, true, false, List, [], ◌∷◌, refl, sym, ap, inl, inr, rules}
+use Rattle.std.proofs.Common.{◌≡◌, ◌⊎◌, true, false, [], ◌∷◌, refl, inl, inr, rules}
 use Rattle.clap.specs.Kinds.{Kinds, IsAmong}
 use Rattle.clap.specs.Walk.{is_empty}
 use Rattle.clap.specs.Simple.{is_simple}

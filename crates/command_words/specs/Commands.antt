@@ -1,6 +1,6 @@
 -- The commands, their options, and the jobs that words ask for.
-use Rattle.std.specs.Prelude.{ℕ, ◌-◌, ◌^◌, ◌++◌, List, [], ◌∷◌, map, fold, find, Bool, true, false, if◌then◌else◌, nat_le, Option, Some, None, codes}
-use Rattle.std.specs.Prelude.{option_map, option_and_then}
+use Rattle.std.specs.Prelude.{ℕ, ◌-◌, ◌^◌, List, [], ◌∷◌, map, fold, find, Bool, true, false, if◌then◌else◌, nat_le, Option, Some, None, codes}
+use Rattle.std.specs.Prelude.{option_and_then}
 use Rattle.cost_base.specs.Lists.{same_bytes}
 use Rattle.text_lines.specs.Numbers.{number, quad}
 use Rattle.clap.specs.Lexer.{usize_max}

@@ -1,5 +1,5 @@
 -- Rows of the command table by what names them in the code.
-use Rattle.std.specs.Prelude.{◌≡◌, List, [], ◌∷◌, map, codes, Option, Some, None, Result, MatchResult}
+use Rattle.std.specs.Prelude.{◌≡◌, List, map, Option, Some, None, Result, MatchResult}
 use Rattle.std.specs.Borrow.{Bor}
 use Rattle.clap.specs.Matches.{found_of}
 use Rattle.clap.specs.Walk.{rows_of}

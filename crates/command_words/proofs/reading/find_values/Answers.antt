@@ -1,4 +1,4 @@
-use Rattle.std.proofs.Common.{◌≡◌, ◌∙◌, List, ℕ, sym, ap}
+use Rattle.std.proofs.Common.{◌∙◌, List, ℕ, sym, ap}
 use Rattle.clap.specs.Faults.{fault_of, is_simple_and_free}
 use Rattle.clap.specs.Simple.{app_of, is_simple, matches_of}
 use Rattle.clap.specs.Values.{kind_of}
