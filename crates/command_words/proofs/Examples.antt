@@ -1,0 +1,55 @@
+-- Words, and the jobs that they ask for.
+use Rattle.std.proofs.Common.{◌≡◌, refl, [], ◌∷◌, Some, None}
+use Rattle.std.specs.Prelude.{codes, ◌-◌, ◌^◌}
+use Rattle.clap.proofs.OnLiterals.{clap_on_literals}
+use Rattle.command_words.specs.Jobs.{Bounds, Design, Check, Route}
+use Rattle.command_words.specs.Commands.{job_of, job_of_row, row_of_word, table}
+
+abbrev usual : Bounds
+usual = record { nodes = 100000; top = 2 ^ 127 - 1 }
+
+no_words : job_of [] ≡ None
+unfolding job_of
+no_words = refl
+
+plain_design : job_of (codes "design" ∷ codes "--request" ∷ codes "F" ∷ codes "A" ∷ codes "B" ∷ [])
+    ≡ Some (Design (codes "F") usual (codes "A" ∷ codes "B" ∷ []))
+unfolding job_of job_of_row row_of_word table clap_on_literals
+plain_design = refl
+
+-- options in any order and between the CONFIG words
+mixed_design : job_of (codes "design" ∷ codes "A" ∷ codes "--nodes=5" ∷ codes "--request" ∷ codes "F" ∷ codes "B" ∷ codes "--bits" ∷ codes "28" ∷ [])
+    ≡ Some (Design (codes "F") (record { nodes = 5; top = 2 ^ 28 - 1 }) (codes "A" ∷ codes "B" ∷ []))
+unfolding job_of job_of_row row_of_word table clap_on_literals
+mixed_design = refl
+
+-- no option stands behind `--`, and an option's value may be empty
+dashes : job_of (codes "check" ∷ codes "--request=" ∷ codes "--answer" ∷ codes "-" ∷ codes "--" ∷ codes "--help" ∷ [])
+    ≡ Some (Check [] (codes "-") (codes "--help" ∷ []))
+unfolding job_of job_of_row row_of_word table clap_on_literals
+dashes = refl
+
+no_request : job_of (codes "design" ∷ codes "A.conf" ∷ []) ≡ None
+unfolding job_of job_of_row row_of_word table clap_on_literals
+no_request = refl
+
+too_many_blocks : job_of (codes "trial" ∷ codes "--blocks" ∷ codes "126" ∷ []) ≡ None
+unfolding job_of job_of_row row_of_word table clap_on_literals
+too_many_blocks = refl
+
+routed : job_of (codes "route" ∷ codes "--lsas" ∷ codes "L" ∷ codes "--to" ∷ codes "0.0.1.0" ∷ codes "--from" ∷ codes "0.0.0.2" ∷ [])
+    ≡ Some (Route (codes "L") 2 256)
+unfolding job_of job_of_row row_of_word table clap_on_literals
+routed = refl
+
+two_configs : job_of (codes "rewrite" ∷ codes "--answer" ∷ codes "A" ∷ codes "B" ∷ codes "C" ∷ []) ≡ None
+unfolding job_of job_of_row row_of_word table clap_on_literals
+two_configs = refl
+
+asks_for_help : job_of (codes "trial" ∷ codes "--blocks" ∷ codes "3" ∷ codes "-h" ∷ []) ≡ None
+unfolding job_of job_of_row row_of_word table clap_on_literals
+asks_for_help = refl
+
+twice : job_of (codes "trial" ∷ codes "--blocks" ∷ codes "3" ∷ codes "--blocks" ∷ codes "3" ∷ []) ≡ None
+unfolding job_of job_of_row row_of_word table clap_on_literals
+twice = refl

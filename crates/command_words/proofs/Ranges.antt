@@ -1,0 +1,141 @@
+-- The ranges of numbers in jobs.
+use Rattle.std.proofs.Common.{◌≡◌, ◌∙◌, Result, Ok, Err, IfOk, ◌≤◌, ℕ, Bool, cond, true, false, List, [], ◌∷◌, Option, Some, None, IfSome, option_and_then, codes, refl, subst, arith}
+use Rattle.std.specs.Prelude.{find, nat_le}
+use Rattle.text_lines.specs.Numbers.{number, quad}
+use Rattle.text_lines.proofs.NumberLaws.{number_within-le}
+use Rattle.cost_base.specs.Lists.{same_bytes}
+use Rattle.command_words.specs.declared.job.Job.{Job}
+use Rattle.command_words.specs.declared.job.WordsStop.{WordsStop}
+use Rattle.command_words.specs.Forms.{Answers}
+use Rattle.command_words.specs.Jobs.{seen, Text, JobRead, IsInRange, Design, Check, Audit, Rewrite, Trial, Conflict, Spread, Total, Lsas, Route}
+use Rattle.command_words.specs.Commands.{Form, Found, job_of, job_of_row, row_of_word, table, takes_words, found_in, value, limits, configs, number_between, number_or, from_low, of_two, of_three, of_four, trial_job}
+
+two_in : {A B : Type 0} (whole : A → B → JobRead) (a : Option A) (b : Option B)
+    → ((x : A) (y : B) → a ≡ Some x → b ≡ Some y → IsInRange (whole x y)) → IfSome (of_two whole a b) IsInRange
+two_in whole None b h = tt
+two_in whole (Some x) None h = tt
+two_in whole (Some x) (Some y) h = h x y refl refl
+
+three_in : {A B C : Type 0} (whole : A → B → C → JobRead) (a : Option A) (b : Option B) (c : Option C)
+    → ((x : A) (y : B) (z : C) → IsInRange (whole x y z)) → IfSome (of_three whole a b c) IsInRange
+three_in whole None b c h = tt
+three_in whole (Some x) None c h = tt
+three_in whole (Some x) (Some y) None h = tt
+three_in whole (Some x) (Some y) (Some z) h = h x y z
+
+four_in : {A B C D : Type 0} (whole : A → B → C → D → JobRead) (a : Option A) (b : Option B) (c : Option C) (d : Option D)
+    → ((x : A) (y : B) (z : C) (w : D) → IsInRange (whole x y z w)) → IfSome (of_four whole a b c d) IsInRange
+four_in whole None b c d h = tt
+four_in whole (Some x) None c d h = tt
+four_in whole (Some x) (Some y) None d h = tt
+four_in whole (Some x) (Some y) (Some z) None h = tt
+four_in whole (Some x) (Some y) (Some z) (Some w) h = h x y z w
+
+pub between_in : (low high : ℕ) (text : Text) (n : ℕ) → number_between low high text ≡ Some n → (low ≤ n) × (n ≤ high)
+between_in low high text n is = go (number text high) (number_within-le 10 high text) is
+  where
+    same : (b : Bool) (m : ℕ) → nat_le low m ≡ b → (m ≤ high) → cond b (Some m) None ≡ Some n → (low ≤ n) × (n ≤ high)
+    same true m le most e = grind arith
+    same false m le most e = absurd cc
+
+    go : (o : Option ℕ) → ((m : ℕ) → o ≡ Some m → m ≤ high) → from_low low o ≡ Some n → (low ≤ n) × (n ≤ high)
+    go None most e = absurd cc
+    go (Some m) most e = same (nat_le low m) m refl (most m refl) e
+
+pub or_in : (default low high : ℕ) (o : Option Text) (n : ℕ) → low ≤ default → default ≤ high → number_or default low high o ≡ Some n → (low ≤ n) × (n ≤ high)
+or_in default low high None n least most is = grind arith
+or_in default low high (Some text) n least most is = between_in low high text n is
+
+must_in : (low high : ℕ) (o : Option Text) (n : ℕ) → option_and_then (number_between low high) o ≡ Some n → (low ≤ n) × (n ≤ high)
+must_in low high None n is = absurd cc
+must_in low high (Some text) n is = between_in low high text n is
+
+trial_in : (found : Found) → IfSome (trial_job found) IsInRange
+trial_in found =
+    two_in Trial (option_and_then (number_between 1 125) (value (codes "blocks") found))
+    (number_or 1 0 2147483647 (value (codes "start") found))
+    (λ blocks start blocks_is start_is.
+    let most = must_in 1 125 (value (codes "blocks") found) blocks blocks_is in
+    let last = or_in 1 0 2147483647 (value (codes "start") found) start (omega arith) (omega arith) start_is in
+    (most.0, most.1, omega arith))
+
+abbrev InRange : Form → Type 0
+InRange form = (found : Found) → IfSome (form.job found) IsInRange
+
+abbrev Each : {X : Type 0} → (X → Type 0) → List X → Type 0
+Each P [] = Unit {0}
+Each P (x ∷ xs) = P x × Each P xs
+
+rows_in : Each InRange table
+unfolding table
+rows_in = (
+  (λ found. three_in Design (value (codes "request") found) (limits found) (configs found) (λ x y z. tt)),
+  (
+    (λ found. three_in Check (value (codes "request") found) (value (codes "answer") found) (configs found) (λ x y z. tt)),
+    (
+      (λ found. two_in Audit (value (codes "request") found) (configs found) (λ x y e f. tt)),
+      (
+        (λ found. two_in Rewrite (value (codes "answer") found) (value (codes "CONFIG") found) (λ x y e f. tt)),
+        (
+          trial_in,
+          (
+            (λ found. three_in Conflict (value (codes "request") found) (limits found) (configs found) (λ x y z. tt)),
+            (
+              (λ found. four_in Spread (value (codes "request") found) (value (codes "sets") found) (limits found) (configs found) (λ x y z w. tt)),
+              (
+                (λ found. three_in Total (value (codes "request") found) (limits found) (configs found) (λ x y z. tt)),
+                (
+                  (λ found. two_in Lsas (value (codes "request") found) (configs found) (λ x y e f. tt)),
+                  (
+                    (λ found. three_in Route (value (codes "lsas") found) (option_and_then quad (value (codes "from") found)) (option_and_then quad (value (codes "to") found)) (λ x y z. tt)),
+                    tt,
+                  ),
+                ),
+              ),
+            ),
+          ),
+        ),
+      ),
+    ),
+  ),
+)
+
+found_holds : {X : Type 0} (p : X → Bool) (P : X → Type 0) (xs : List X) → Each P xs → IfSome (find p xs) P
+found_holds p P [] h = tt
+found_holds p P (x ∷ xs) h = go (p x) (found_holds p P xs h.1)
+  where
+    go : (b : Bool) → IfSome (find p xs) P → IfSome (cond b (Some x) (find p xs)) P
+    go true rest = h.0
+    go false rest = rest
+
+row_in : (word : Text) → IfSome (row_of_word word) InRange
+unfolding row_of_word
+row_in word = found_holds (λ form. same_bytes form.name word) InRange table rows_in
+
+row_job_in : (form : Form) (words : List Text) → InRange form → IfSome (job_of_row form words) IsInRange
+unfolding job_of_row
+row_job_in form words h = go (takes_words form words)
+  where
+    go : (b : Bool) → IfSome (cond b (form.job (found_in form words)) None) IsInRange
+    go true = h (found_in form words)
+    go false = tt
+
+named_in : (words : List Text) (o : Option Form) → IfSome o InRange → IfSome (option_and_then (λ form. job_of_row form words) o) IsInRange
+named_in words None h = tt
+named_in words (Some form) h = row_job_in form words h
+
+-- the numbers of each job are within their ranges
+pub job_in : (words : List Text) → IfSome (job_of words) IsInRange
+unfolding job_of
+job_in [] = tt
+job_in (command ∷ others) = named_in (command ∷ others) (row_of_word command) (row_in command)
+
+-- so a job that words ask for has them there
+pub asked_in : (words : List Text) (job : JobRead) → job_of words ≡ Some job → IsInRange job
+asked_in words job is = let P : Option JobRead → Type 0 = λ o. IfSome o IsInRange in subst P is (job_in words)
+
+-- and a job that was read has them there
+pub answered_in : (words : List Text) (part : Option JobRead) (r : Result Job WordsStop) → job_of words ≡ part → Answers part seen r
+    → IfOk r (λ job. IsInRange (seen job))
+answered_in words part (Ok job) is h = asked_in words (seen job) (is ∙ h)
+answered_in words part (Err stop) is h = tt

@@ -1,0 +1,8 @@
+use Rattle.std.proofs.Common.{◌≡◌, take}
+use Rattle.command_words.specs.Forms.{now_texts}
+use Rattle.command_words.specs.Words.{texts}
+use Rattle.command_words.proofs.values.copies.Given as goal
+
+-- the words so far are copied
+abbrev pub invariant-loop-word : goal.invariant-loop-word
+invariant-loop-word l = texts l.all.items ≡ now_texts (take l.word-index l.words)

@@ -1,0 +1,181 @@
+//! The jobs of the commands, from the values that they find.
+ghost use Rattle.std.specs.Prelude.{◌≡◌, ◌≢◌, MatchResult, true, false};
+ghost use Rattle.clap.specs.Values.{kind_of};
+ghost use Rattle.command_words.specs.Commands.{takes_words, found_in, job_of_row, design_job, check_job, audit_job, rewrite_job, trial_job, conflict_job, spread_job, total_job, lsas_job, route_job};
+ghost use Rattle.command_words.specs.Forms.{form_of, found, Answers};
+ghost use Rattle.command_words.specs.Jobs.{seen};
+ghost use Rattle.command_words.specs.Words.{texts};
+
+use crate::table::{CommandName, simple_command};
+use crate::values::{configs, limits, may_number, must_number, router, text};
+use crate::{Job, WordsStop};
+use clap::error::ErrorKind;
+use clap::{ArgMatches, Error};
+use std::alloc::Global;
+
+/// The job of words whose first is this command's.
+pub(crate) fn read_row(alloc: Global, name: CommandName, words: &[String]) -> Result<Job, WordsStop>
+    ensures { Answers (job_of_row (form_of name) (texts words.now)) seen result }
+{
+    let matches = find_values(alloc, name, words)?;
+    job_of_values(alloc, name, &matches)
+}
+
+/// What the simple command of a row finds in the words, of which it passes over the first.
+fn find_values<'a>(
+    alloc: Global,
+    name: CommandName,
+    words: &'a [String],
+) -> Result<ArgMatches<'a>, WordsStop>
+    ensures { MatchResult result (λ matches. (takes_words (form_of name) (texts words.now) ≡ true) × (found matches ≡ found_in (form_of name) (texts words.now))) (λ stop. stop ≡ WordsStop.Refused → takes_words (form_of name) (texts words.now) ≡ false) }
+{
+    let command = simple_command(alloc, name)?;
+    match command.try_get_matches_from(words) {
+        Ok(matches) => Ok(matches),
+        Err(error) => Err(stop_of(&error)),
+    }
+}
+
+/// What stops a reading where `clap` fails.
+fn stop_of(error: &Error) -> WordsStop
+    ensures { result ≡ WordsStop.Refused → kind_of error.now ≢ ErrorKind.OutOfMemory }
+{
+    if error.kind() == ErrorKind::OutOfMemory {
+        WordsStop::OutOfMemory
+    } else {
+        WordsStop::Refused
+    }
+}
+
+/// The job of a command, from the values that it finds.
+fn job_of_values(
+    alloc: Global,
+    name: CommandName,
+    matches: &ArgMatches<'_>,
+) -> Result<Job, WordsStop>
+    ensures { Answers ((form_of name).job (found matches.now)) seen result }
+{
+    match name {
+        CommandName::Design => design(alloc, matches),
+        CommandName::Check => check(alloc, matches),
+        CommandName::Audit => audit(alloc, matches),
+        CommandName::Rewrite => rewrite(alloc, matches),
+        CommandName::Trial => trial(matches),
+        CommandName::Conflict => conflict(alloc, matches),
+        CommandName::Spread => spread(alloc, matches),
+        CommandName::Total => total(alloc, matches),
+        CommandName::Lsas => lsas(alloc, matches),
+        CommandName::Route => route(alloc, matches),
+    }
+}
+
+fn design(alloc: Global, matches: &ArgMatches<'_>) -> Result<Job, WordsStop>
+    ensures { Answers (design_job (found matches.now)) seen result }
+{
+    let limits = limits(matches).ok_or(WordsStop::Refused)?;
+    let request = text(alloc, matches, "request")?;
+    let configs = configs(alloc, matches)?;
+    Ok(Job::Design {
+        request,
+        limits,
+        configs,
+    })
+}
+
+fn check(alloc: Global, matches: &ArgMatches<'_>) -> Result<Job, WordsStop>
+    ensures { Answers (check_job (found matches.now)) seen result }
+{
+    let request = text(alloc, matches, "request")?;
+    let answer = text(alloc, matches, "answer")?;
+    let configs = configs(alloc, matches)?;
+    Ok(Job::Check {
+        request,
+        answer,
+        configs,
+    })
+}
+
+fn audit(alloc: Global, matches: &ArgMatches<'_>) -> Result<Job, WordsStop>
+    ensures { Answers (audit_job (found matches.now)) seen result }
+{
+    let request = text(alloc, matches, "request")?;
+    let configs = configs(alloc, matches)?;
+    Ok(Job::Audit { request, configs })
+}
+
+fn rewrite(alloc: Global, matches: &ArgMatches<'_>) -> Result<Job, WordsStop>
+    ensures { Answers (rewrite_job (found matches.now)) seen result }
+{
+    let answer = text(alloc, matches, "answer")?;
+    let config = text(alloc, matches, "CONFIG")?;
+    Ok(Job::Rewrite { answer, config })
+}
+
+fn trial(matches: &ArgMatches<'_>) -> Result<Job, WordsStop>
+    ensures { Answers (trial_job (found matches.now)) seen result }
+{
+    let blocks = must_number(matches, "blocks", 1, 125).ok_or(WordsStop::Refused)?;
+    let start = may_number(matches, "start", 0, 2147483647, 1).ok_or(WordsStop::Refused)?;
+    Ok(Job::Trial {
+        blocks: blocks as u32,
+        start: start as u32,
+    })
+}
+
+fn conflict(alloc: Global, matches: &ArgMatches<'_>) -> Result<Job, WordsStop>
+    ensures { Answers (conflict_job (found matches.now)) seen result }
+{
+    let limits = limits(matches).ok_or(WordsStop::Refused)?;
+    let request = text(alloc, matches, "request")?;
+    let configs = configs(alloc, matches)?;
+    Ok(Job::Conflict {
+        request,
+        limits,
+        configs,
+    })
+}
+
+fn spread(alloc: Global, matches: &ArgMatches<'_>) -> Result<Job, WordsStop>
+    ensures { Answers (spread_job (found matches.now)) seen result }
+{
+    let limits = limits(matches).ok_or(WordsStop::Refused)?;
+    let request = text(alloc, matches, "request")?;
+    let sets = text(alloc, matches, "sets")?;
+    let configs = configs(alloc, matches)?;
+    Ok(Job::Spread {
+        request,
+        sets,
+        limits,
+        configs,
+    })
+}
+
+fn total(alloc: Global, matches: &ArgMatches<'_>) -> Result<Job, WordsStop>
+    ensures { Answers (total_job (found matches.now)) seen result }
+{
+    let limits = limits(matches).ok_or(WordsStop::Refused)?;
+    let request = text(alloc, matches, "request")?;
+    let configs = configs(alloc, matches)?;
+    Ok(Job::Total {
+        request,
+        limits,
+        configs,
+    })
+}
+
+fn lsas(alloc: Global, matches: &ArgMatches<'_>) -> Result<Job, WordsStop>
+    ensures { Answers (lsas_job (found matches.now)) seen result }
+{
+    let request = text(alloc, matches, "request")?;
+    let configs = configs(alloc, matches)?;
+    Ok(Job::Lsas { request, configs })
+}
+
+fn route(alloc: Global, matches: &ArgMatches<'_>) -> Result<Job, WordsStop>
+    ensures { Answers (route_job (found matches.now)) seen result }
+{
+    let from = router(matches, "from").ok_or(WordsStop::Refused)?;
+    let to = router(matches, "to").ok_or(WordsStop::Refused)?;
+    let lsas = text(alloc, matches, "lsas")?;
+    Ok(Job::Route { lsas, from, to })
+}

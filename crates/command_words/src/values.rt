@@ -1,0 +1,99 @@
+//! The values that a command finds in the words.
+ghost use Rattle.std.specs.Prelude.{◌≡◌, ◌≤◌, IfOk, IfSome, map, option_map, option_and_then, string_bytes};
+ghost use Rattle.text_lines.specs.Numbers as numbers;
+ghost use Rattle.command_words.specs.Commands.{value, configs, number_between, number_or, limits};
+ghost use Rattle.command_words.specs.Forms.{found, now_texts, Answers};
+ghost use Rattle.command_words.specs.Jobs.{bounds};
+ghost use Rattle.command_words.specs.Words.{texts};
+
+use crate::WordsStop;
+use clap::ArgMatches;
+use std::alloc::{AllocError, Global};
+use text_lines::{number, quad};
+use wide_fraction::{Limits, Top};
+
+/// The value of an option, or the first CONFIG word.
+fn value<'a>(matches: &ArgMatches<'a>, name: &str) -> Option<&'a str>
+    ensures { option_map (λ text. text.now) result ≡ value name.now (found matches.now) }
+{
+    matches.get_str(name)
+}
+
+/// A copy of the value of an option, or of the first CONFIG word.
+pub(crate) fn text(alloc: Global, matches: &ArgMatches<'_>, name: &str) -> Result<String, WordsStop>
+    ensures { Answers (value name.now (found matches.now)) string_bytes result }
+{
+    match value(matches, name) {
+        Some(value) => Ok(String::from_str(alloc, value)?),
+        None => Err(WordsStop::Refused),
+    }
+}
+
+/// Copies of the CONFIG words in their order.
+pub(crate) fn configs(alloc: Global, matches: &ArgMatches<'_>) -> Result<Vec<String>, WordsStop>
+    ensures { Answers (configs (found matches.now)) (λ all. texts all.items) result }
+{
+    match matches.get_raw("CONFIG") {
+        Some(words) => Ok(copies(alloc, words)?),
+        None => Err(WordsStop::Refused),
+    }
+}
+
+/// Copies of words in their order.
+fn copies(alloc: Global, words: &[&str]) -> Result<Vec<String>, AllocError>
+    ensures { IfOk result (λ all. texts all.items ≡ now_texts words.now) }
+{
+    let mut all = Vec::new(alloc);
+    for word in words {
+        let copy = String::from_str(alloc, word)?;
+        all.push(copy)?;
+    }
+    Ok(all)
+}
+
+/// A number of 1 to 10 decimal digits, from `low` to `high`.
+fn number_between(text: &str, low: u64, high: u64) -> Option<u64>
+    ensures { result ≡ number_between low high text.now }
+{
+    let number = number(text.as_bytes(), high)?;
+    if low <= number { Some(number) } else { None }
+}
+
+/// The number of an option that must be given; None where it isn't a number from `low` to `high`.
+pub(crate) fn must_number(matches: &ArgMatches<'_>, name: &str, low: u64, high: u64) -> Option<u64>
+    ensures { result ≡ option_and_then (number_between low high) (value name.now (found matches.now)) }
+{
+    number_between(value(matches, name)?, low, high)
+}
+
+/// The number of an option that may be given, or `default`; None where it isn't a number from `low` to `high`.
+pub(crate) fn may_number(
+    matches: &ArgMatches<'_>,
+    name: &str,
+    low: u64,
+    high: u64,
+    default: u64,
+) -> Option<u64>
+    ensures { result ≡ number_or default low high (value name.now (found matches.now)) }
+{
+    match value(matches, name) {
+        Some(text) => number_between(text, low, high),
+        None => Some(default),
+    }
+}
+
+/// The router ID of an option that must be given; None where it isn't a dotted quad.
+pub(crate) fn router(matches: &ArgMatches<'_>, name: &str) -> Option<u32>
+    ensures { result ≡ option_and_then numbers.quad (value name.now (found matches.now)) }
+{
+    quad(value(matches, name)?.as_bytes())
+}
+
+/// The limits of a search; None where one is off its range.
+pub(crate) fn limits(matches: &ArgMatches<'_>) -> Option<Limits>
+    ensures { option_map bounds result ≡ limits (found matches.now) }
+{
+    let nodes = may_number(matches, "nodes", 1, 10_000_000, 100_000)?;
+    let bits = may_number(matches, "bits", 28, 127, 127)?;
+    Limits::new(nodes, Top::new(bits as u32)?)
+}
