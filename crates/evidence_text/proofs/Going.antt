@@ -5,10 +5,8 @@ use Rattle.std.specs.List.{concat}
 use Rattle.text_lines.specs.Lines.{IsOneLine}
 use Rattle.evidence_text.specs.Lines.{text_of}
 use Rattle.evidence_text.specs.Grammar.{Place, Next}
-use Rattle.evidence_text.specs.Refusals.{Leads, LeadOn, IsLawful, IsRead, IsRefused, IsStop}
+use Rattle.evidence_text.specs.Refusals.{Leads, LeadOn, IsLawful, IsRead, IsRefused}
 use Rattle.evidence_text.specs.Places.{IsFirst, LacksFirst, LacksLawful}
-use Rattle.evidence_text.specs.declared.AnswerStop.{AnswerStop}
-use Rattle.evidence_text.specs.declared.AnswerStop.TheVariants.{Refused, OutOfMemory}
 use Rattle.evidence_text.proofs.LineFronts.{first-one}
 
 -- a text without a short first line has no lawful one
@@ -61,7 +59,8 @@ read-then from mid to b0 b1 b2 bytes middle left xs ys first second =
       count = omega (arith, first.count, second.count, length-append xs ys);
     }
 
-refused-then : (from mid : Place) (b0 b1 : ℕ) (bytes middle : List ℕ) (xs : List (List ℕ)) (number line : ℕ) → IsRead from b0 bytes xs mid b1 middle → IsRefused mid b1 middle number line → IsRefused from b0 bytes number line
+-- a refusal behind lines that were read
+pub refused-then : (from mid : Place) (b0 b1 : ℕ) (bytes middle : List ℕ) (xs : List (List ℕ)) (number line : ℕ) → IsRead from b0 bytes xs mid b1 middle → IsRefused mid b1 middle number line → IsRefused from b0 bytes number line
 refused-then from mid b0 b1 bytes middle xs number line first second =
     record {
       lines = xs ++ second.lines;
@@ -72,8 +71,3 @@ refused-then from mid b0 b1 bytes middle xs number line first second =
       line_is = omega (arith, first.count, second.line_is, length-append xs second.lines);
       fault = second.fault;
     }
-
--- a refusal behind lines that were read
-pub stop-then : (from mid : Place) (b0 b1 : ℕ) (bytes middle : List ℕ) (xs : List (List ℕ)) (stop : AnswerStop) → IsRead from b0 bytes xs mid b1 middle → IsStop mid b1 middle stop → IsStop from b0 bytes stop
-stop-then from mid b0 b1 bytes middle xs (Refused number line) first second = refused-then from mid b0 b1 bytes middle xs number line first second
-stop-then from mid b0 b1 bytes middle xs OutOfMemory first second = tt

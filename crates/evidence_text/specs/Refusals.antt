@@ -1,10 +1,8 @@
 -- Refusals of texts that are no answer's.
 use Rattle.std.specs.Prelude.{◌≡◌, ◌≢◌, ℕ, ◌+◌, ◌≤◌, ◌⊎◌, List, [], ◌∷◌, ◌++◌, length}
 use Rattle.text_lines.specs.Lines.{IsOneLine}
-use Rattle.evidence_text.specs.Grammar.{Place, AtHead, AfterEnd, Next}
+use Rattle.evidence_text.specs.Grammar.{Place, AfterEnd, Next}
 use Rattle.evidence_text.specs.Lines.{text_of}
-use Rattle.evidence_text.specs.declared.AnswerStop.{AnswerStop}
-use Rattle.evidence_text.specs.declared.AnswerStop.TheVariants.{Refused, OutOfMemory}
 
 -- a line is lawful at a place, and leads to the next one: it is in the grammar there, and has at most 65,536 bytes
 pub record Leads (place : Place) (line : List ℕ) (next : Place) : Type 0 where
@@ -44,11 +42,6 @@ pub record IsRefused (from : Place) (before : ℕ) (bytes : List ℕ) (number li
   pub parts : bytes ≡ text_of lines ++ rest
   pub line_is : line ≡ before + length lines + 1
   pub fault : IsFault place rest number
-
--- why a text was not read on from a place; want of memory is free
-abbrev pub IsStop : Place → ℕ → List ℕ → AnswerStop → Type 0
-IsStop from before bytes (Refused number line) = IsRefused from before bytes number line
-IsStop from before bytes OutOfMemory = Unit {0}
 
 -- from a place, lawful lines lead to another, with what is left behind them
 pub record IsRead (from : Place) (before : ℕ) (bytes : List ℕ) (lines : List (List ℕ)) (to : Place) (after : ℕ) (left : List ℕ) : Type 0 where

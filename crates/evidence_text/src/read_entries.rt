@@ -30,7 +30,19 @@ const GREATEST_VALUE: u128 = 65_535;
 const GREATEST_MULTIPLIER: u128 = 9_999_999_999_999_999_999_999_999_999_999;
 
 /// The entry that a line says.
+///
+/// # Errors
+///
+/// `OutOfMemory` where a growth was refused.
 pub(crate) fn entry_of(alloc: Global, line: &[u8]) -> Result<Option<Entry>, OutOfMemory>
+    ensures { IfOk result (λ found. MatchOption found ((entry : Entry) → BoundsEntry entry → FitsEntry entry → line.now ≢ entry_line entry)
+        (λ entry. BoundsEntry entry × FitsEntry entry × (line.now ≡ entry_line entry))) }
+{
+    entry_of_words(alloc, line)
+}
+
+/// The entry that the words of a line say.
+fn entry_of_words(alloc: Global, line: &[u8]) -> Result<Option<Entry>, OutOfMemory>
     ensures { IfOk result (λ found. MatchOption found (SaysNoEntry (split 32 line.now)) (λ entry. SaysEntry (split 32 line.now) entry)) }
 {
     let words = Pieces::new(line);

@@ -4,7 +4,7 @@ ghost use Rattle.path_rows.specs.Bounds.{IsThing, IsCost, IsRowNumber, BoundsVer
 ghost use Rattle.evidence_text.specs.Parts.{verdict_line, floor_line, rows_line, part_word, tree_line};
 ghost use Rattle.evidence_text.specs.Grammar.{AtHead, AtVerdict, AtCosts, AtFloor, AtSections, AtRows, AtRow, AtTree, AtEnd, AfterEnd};
 ghost use Rattle.evidence_text.specs.Places.{LacksLawful};
-ghost use Rattle.evidence_text.specs.Going.{Goes, Stops};
+ghost use Rattle.evidence_text.specs.Going.{Goes};
 
 use crate::TreePart;
 use crate::text_left::TextLeft;

@@ -12,7 +12,11 @@ use cost_base::{Listed, OutOfMemory};
 use path_rows::Row;
 use std::alloc::Global;
 
-/// The row that a line says.
+/// The row that a line says. Its rival starts at 0, since a text says no start.
+///
+/// # Errors
+///
+/// `OutOfMemory` where a growth was refused.
 pub(crate) fn row_of(alloc: Global, line: &[u8]) -> Result<Option<Row>, OutOfMemory>
     ensures { IfOk result (λ found. MatchOption found ((row : Row) → BoundsRow row → line.now ≢ row_line row) (λ row. BoundsRow row × (line.now ≡ row_line row) × (row.rival.start ≡ 0))) }
 {

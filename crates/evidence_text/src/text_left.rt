@@ -1,11 +1,7 @@
 //! What is left of an answer's text while it is read.
 ghost use Rattle.std.specs.Prelude.{◌≡◌, ◌≢◌, ℕ, ◌+◌, ◌-◌, ◌^◌, ◌<◌, ◌≤◌, List, [], MatchOption, IsTrue, true, false, length};
-ghost use Rattle.text_lines.specs.Lines.{IsOneLine};
-ghost use Rattle.evidence_text.specs.Places.{place_of, IsFirst, LacksFirst, LacksLawful};
-ghost use Rattle.evidence_text.specs.Refusals.{IsStop, IsEarlyEnd, IsBadLine, IsLawful};
+ghost use Rattle.evidence_text.specs.Places.{IsFirst, LacksFirst};
 
-use crate::AnswerStop;
-use crate::place::Place;
 use text_lines::cut;
 
 /// The greatest number of bytes of a line.

@@ -1,4 +1,4 @@
-use Rattle.std.proofs.Common.{◌≡◌, [], sym, ◌∙◌}
+use Rattle.std.proofs.Common.{◌≡◌, sym, ◌∙◌}
 use Rattle.path_rows.specs.Text.{members_words}
 use Rattle.evidence_text.specs.Words.{words_left}
 use Rattle.evidence_text.proofs.EntryWords.{only_halve, members-some, front-rest, front_of, front-fits}

@@ -1,4 +1,4 @@
-use Rattle.std.proofs.Common.{◌≡◌, List, [], ◌++◌, All, sym, ap, subst, ◌∙◌}
+use Rattle.std.proofs.Common.{◌++◌, All, sym, ap, subst, ◌∙◌}
 use Rattle.path_rows.specs.Bounds.{BoundsMember}
 use Rattle.path_rows.specs.Text.{members_words}
 use Rattle.evidence_text.specs.Words.{words_left}

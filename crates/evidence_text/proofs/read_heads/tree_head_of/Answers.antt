@@ -1,6 +1,5 @@
-use Rattle.std.proofs.Common.{◌≡◌, List, [], ◌∷◌, ◌∙◌, sym, ap, arith}
+use Rattle.std.proofs.Common.{◌≡◌, [], ◌∷◌, ◌∙◌, sym, ap, arith}
 use Rattle.cost_base.specs.Decimal.{decimal}
-use Rattle.text_lines.specs.Numbers.{split}
 use Rattle.evidence_text.specs.Words.{words_left}
 use Rattle.evidence_text.specs.Parts.{part_word}
 use Rattle.evidence_text.proofs.Chains.{rest-is, more-is, not-both}

@@ -1,4 +1,4 @@
-use Rattle.std.proofs.Common.{◌≡◌, ◌≢◌, ℕ, ◌≤◌, ◌++◌, List, codes, arith, sym, ◌∙◌}
+use Rattle.std.proofs.Common.{◌≢◌, ℕ, ◌≤◌, ◌++◌, List, codes, arith, sym, ◌∙◌}
 use Rattle.std.specs.Cmp.Lexicographic.{pointwise_decides}
 use Rattle.std.proofs.lemmas.Bool.Decides.{Decides-eqb}
 use Rattle.cost_base.specs.Decimal.{decimal}

@@ -1,4 +1,4 @@
-use Rattle.std.proofs.Common.{◌≡◌, nat_abs, sym, ap, ◌∙◌, arith}
+use Rattle.std.proofs.Common.{nat_abs, sym, ap, ◌∙◌, arith}
 use Rattle.std.specs.Int.{w128}
 use Rattle.std.proofs.lemmas.Int.{to_z-of_z, to_z_pos}
 use Rattle.whole_numbers.specs.Fractions.{gcd}

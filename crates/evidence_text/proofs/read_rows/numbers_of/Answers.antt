@@ -1,4 +1,4 @@
-use Rattle.std.proofs.Common.{◌≡◌, List, [], ◌∙◌, sym}
+use Rattle.std.proofs.Common.{◌∙◌, sym}
 use Rattle.evidence_text.specs.Words.{words_left}
 use Rattle.evidence_text.proofs.Chains.{not-both}
 use Rattle.evidence_text.proofs.NumberWords.{no_number}

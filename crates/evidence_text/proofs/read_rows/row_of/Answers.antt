@@ -1,8 +1,8 @@
-use Rattle.std.proofs.Common.{◌≡◌, List, [], ◌∷◌, ◌∙◌, map, codes, sym, ap, subst, refl, arith, ◌<◌, ◌^◌, All}
+use Rattle.std.proofs.Common.{◌≡◌, ◌∷◌, ◌∙◌, map, codes, sym, ap, subst, refl, arith, ◌<◌, ◌^◌, All}
 use Rattle.path_rows.specs.Bounds.{IsThing}
 use Rattle.cost_base.specs.Decimal.{decimal}
 use Rattle.evidence_text.specs.Words.{words_left}
-use Rattle.evidence_text.proofs.Chains.{rest-is, more-is, not-both}
+use Rattle.evidence_text.proofs.Chains.{rest-is, more-is}
 use Rattle.evidence_text.proofs.LineWords.{row-words}
 use Rattle.evidence_text.proofs.SpacedWords.{from-words}
 use Rattle.evidence_text.proofs.read_rows.row_of.Goals as goal
