@@ -4,6 +4,11 @@ ghost use Rattle.path_rows.specs.Text.{tree_lines};
 ghost use Rattle.evidence_text.specs.Lines.{AreShort};
 ghost use Rattle.evidence_text.specs.Parts.{part_word};
 
+use crate::read_entries::entry_of;
+use crate::read_heads::{floor_next, floor_of, rows_next, tree_head_of, verdict_next, verdict_of};
+use crate::read_rows::row_of;
+use crate::text_left::TextLeft;
+use crate::words::name_after;
 use crate::{TreePart, put_answer, put_costs, put_rows, put_tree};
 use cost_base::{Listed, MemorySink, Name, OutOfMemory};
 use path_rows::{
@@ -126,4 +131,80 @@ fn parts_are_put_by_their_own_calls(rt: HostRuntime) -> Result<(), Fail> {
         b"costs none\nrows 0\nproof 2 6\ntighten 0 low 2 0\nhalve 1 1 add 1/16384 -1/3 low 0 1 high 1 2 row 7\nrefute 0 1 2 3\nsplit 0 1\nopen\nopen\nopen none\n".as_slice()
     );
     Ok(())
+}
+
+#[test]
+fn tree_lines_are_read(rt: HostRuntime) -> Result<(), Fail> {
+    let alloc = rt.alloc();
+    let cases: [(&[u8], bool); 16] = [
+        (b"tighten 0 low 2 0", true),
+        (b"tighten 0 low 02 0", false),
+        (b"tighten 0  low 2 0", false),
+        (b"split 4294967295 65535", true),
+        (b"split 4294967296 0", false),
+        (b"halve 1 1 add 1/16384 -1/3 low 0 1 high 1 2 row 7", true),
+        (b"halve 1 1 add 2/4 -1/3 row 7", false),
+        (b"halve 1 1 add -0/1 -1/3 row 7", false),
+        (b"halve 1 1 add 1/4 1/3", false),
+        (b"refute 0 1 2 3", true),
+        (b"refute 0 1 0 3", false),
+        (b"refute 0 0", false),
+        (b"refute", false),
+        (b"refute 0 10000000000000000000000000000000", false),
+        (b"open", true),
+        (b"open ", false),
+    ];
+    for (line, wanted) in cases {
+        assert_eq!(rt; entry_of(alloc, line)?.is_some(), wanted);
+    }
+    Ok(())
+}
+
+#[test]
+fn rows_are_read(rt: HostRuntime) -> Result<(), Fail> {
+    let alloc = rt.alloc();
+    let cases: [(&[u8], bool); 5] = [
+        (b"row 0", true),
+        (b"row 0 1 4", true),
+        (b"row 0 1 ", false),
+        (b"row", false),
+        (b"row 4294967296", false),
+    ];
+    for (line, wanted) in cases {
+        assert_eq!(rt; row_of(alloc, line)?.is_some(), wanted);
+    }
+    Ok(())
+}
+
+#[test]
+fn heads_are_read(rt: HostRuntime) {
+    assert_eq!(rt;
+        verdict_of(b"verdict undecided budget 3"),
+        Some(Verdict::Budget(3))
+    );
+    assert_eq!(rt; floor_of(b"floor 7"), Some(Floor::Var(7)));
+    assert_eq!(rt; tree_head_of(b"proof 1 0", TreePart::Proof), Some((1, 0)));
+    assert_eq!(rt; tree_head_of(b"open 1 0", TreePart::Proof), None);
+}
+
+#[test]
+fn heads_are_read_from_a_text(rt: HostRuntime) {
+    let text = TextLeft::new(b"verdict impossible\nfloor none\nrows 0\nproof none");
+    let Some((verdict, text)) = verdict_next(text) else {
+        assert!(rt; false);
+        return;
+    };
+    assert_eq!(rt; verdict, Verdict::Impossible);
+    let Some((floor, text)) = floor_next(text) else {
+        assert!(rt; false);
+        return;
+    };
+    assert_eq!(rt; floor, Floor::Absent);
+    let Some((count, text)) = rows_next(text) else {
+        assert!(rt; false);
+        return;
+    };
+    assert_eq!(rt; count, 0);
+    assert!(rt; text.line().is_none());
+    assert_eq!(rt; name_after(b"router A", b"router "), Some(b"A".as_slice()));
 }
