@@ -1,11 +1,12 @@
 -- Zero among the fractions: what is 0 is 0/1, products with it are 0, and less it nothing changes.
-use Rattle.std.proofs.Common.{◌≡◌, ℕ, ◌*◌, ◌<◌, ◌≤◌, refl, sym, ◌∙◌, ap, arith}
-use Rattle.std.specs.Prelude.{ℤ, pos, ◌-ℤ◌, ◌*ℤ◌}
+use Rattle.std.proofs.Common.{◌≡◌, ℕ, zero, suc, ◌*◌, ◌<◌, refl, sym, ◌∙◌, ap, subst, arith}
+use Rattle.std.specs.Prelude.{ℤ, pos, negsuc, ◌-ℤ◌, ◌*ℤ◌}
 use Rattle.std.proofs.lemmas.Int.{ints}
-use Rattle.whole_numbers.specs.Fractions.{Fraction, IsLowest, StandsFor, whole, minus, times, divided, inverse}
+use Rattle.whole_numbers.specs.Fractions.{Fraction, IsLowest, StandsFor, minus, times, divided, inverse, inverted}
 use Rattle.whole_numbers.proofs.Sums.{lowest_unique}
 use Rattle.whole_numbers.proofs.FractionLaws.{reduced_lowest, product_positive, times_stands}
 use Rattle.whole_numbers.proofs.Multiples.{minus_stands_over}
+use Rattle.wide_fraction.specs.Widths.{IsWithin}
 use Rattle.wide_fraction.proofs.Quotients.{zero_stands}
 use Rattle.exact_simplex.specs.TableRows.{nothing, IsNumber}
 
@@ -62,3 +63,19 @@ nothing_number top q q_is =
       lowest = nothing_lowest;
       within = record { numerator = omega arith; denominator = omega (arith, q_is.lowest.positive, q_is.within.denominator) };
     }
+
+inverse_positive : (n : ℤ) (d : ℕ) → 0 < (inverted n d).denominator
+inverse_positive (pos zero) d = omega arith
+inverse_positive (pos (suc n)) d = omega arith
+inverse_positive (negsuc n) d = omega arith
+
+pub nothing_divided : (q : Fraction) → divided nothing q ≡ nothing
+nothing_divided q = nothing_times (inverse q) (inverse_positive q.numerator q.denominator)
+
+pub divided_lowest : (p q : Fraction) → 0 < p.denominator → IsLowest (divided p q)
+divided_lowest p q p_positive = times_lowest p (inverse q) p_positive (inverse_positive q.numerator q.denominator)
+
+-- a quotient that is within the top is a number of the table
+pub divided_number : (top : ℕ) (p q r : Fraction) → 0 < p.denominator → r ≡ divided p q → IsWithin top r → IsNumber top r
+divided_number top p q r p_positive r_is r_within =
+    record { lowest = subst IsLowest (sym r_is) (divided_lowest p q p_positive); within = r_within }

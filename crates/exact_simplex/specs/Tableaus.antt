@@ -1,5 +1,5 @@
 -- What a tableau holds, and what its calls may answer and leave.
-use Rattle.std.specs.Prelude.{◌≡◌, ℕ, suc, ◌+◌, ◌^◌, ◌<◌, ◌≤◌, ◌⊎◌, List, [], ◌∷◌, ◌++◌, ℤ, pos, ◌-ℤ◌, ◌≤ℤ◌, nat_abs, map, length, take, drop, slice_get, slice_index, All, Any, Some}
+use Rattle.std.specs.Prelude.{◌≡◌, ℕ, suc, ◌^◌, ◌<◌, ◌≤◌, ◌⊎◌, List, [], ◌∷◌, ◌++◌, ℤ, pos, ◌-ℤ◌, ◌≤ℤ◌, nat_abs, map, length, take, drop, slice_get, slice_index, All, Any, Some}
 use Rattle.cost_base.specs.Lists.{numbers_from}
 use Rattle.cost_base.specs.declared.StepName.{StepName}
 use Rattle.cost_base.specs.declared.StepName.TheVariants.{Add, Sub, Mul}
