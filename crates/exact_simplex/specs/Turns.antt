@@ -1,0 +1,23 @@
+-- How a pivot turns one row of the table.
+use Rattle.std.specs.Prelude.{ℕ, zero, suc, List, ℤ, pos, negsuc, slice_set}
+use Rattle.cost_base.specs.declared.StepName.{StepName}
+use Rattle.cost_base.specs.declared.StepName.TheVariants.{Mul}
+use Rattle.whole_numbers.specs.Fractions.{Fraction, times}
+use Rattle.path_rows.specs.Basis.{entry}
+use Rattle.exact_simplex.specs.TableRows.{IsCrossStep, crossed_by}
+
+abbrev pub unless_none : ℤ → List Fraction → List Fraction → List Fraction
+unless_none (pos zero) kept turned = kept
+unless_none (pos (suc n)) kept turned = turned
+unless_none (negsuc n) kept turned = turned
+
+-- The row after the pivot at the place, by the quotients of the pivot's row and the inverse of its entry there. A row
+-- with 0 there stays as it is.
+abbrev pub turned_by : List Fraction → List Fraction → ℕ → Fraction → List Fraction
+turned_by fs ts place inverse =
+    unless_none (entry fs place).numerator fs (slice_set (crossed_by (entry fs place) fs ts) place (times (entry fs place) inverse))
+
+-- the steps by which a row is turned
+pub data IsTurnStep (fs ts : List Fraction) (place : ℕ) (inverse : Fraction) : StepName → Fraction → Fraction → Type 0 where
+  crossing : (step : StepName) (left right : Fraction) → IsCrossStep (entry fs place) fs ts step left right → IsTurnStep fs ts place inverse step left right
+  entering : IsTurnStep fs ts place inverse Mul (entry fs place) inverse
