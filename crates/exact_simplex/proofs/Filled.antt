@@ -14,11 +14,14 @@ use Rattle.exact_simplex.specs.Entries.{AllNumbers, IsMade, IsPassing, IsQuotien
 use Rattle.exact_simplex.proofs.Numbers.{nothing_number}
 use Rattle.exact_simplex.proofs.Columns.{fraction_here, fraction_there, test_cases}
 
-length-mapped : {X : Type 0} (f : ℕ → X) (a n : ℕ) → length (map f (numbers_from a n)) ≡ n
+-- as many places as numbers
+pub length-mapped : {X : Type 0} (f : ℕ → X) (a n : ℕ) → length (map f (numbers_from a n)) ≡ n
 length-mapped f a zero = refl
 length-mapped f a (suc n) = ap suc (length-mapped f (a + 1) n)
 
-mapped_at : {X : Type 0} (f : ℕ → X) (a n k : ℕ) (d : X) → k < n → slice_index_or (map f (numbers_from a n)) k d ≡ f (a + k)
+
+-- what stands at a place
+pub mapped_at : {X : Type 0} (f : ℕ → X) (a n k : ℕ) (d : X) → k < n → slice_index_or (map f (numbers_from a n)) k d ≡ f (a + k)
 mapped_at f a zero k d k_in = absurd (omega arith)
 mapped_at f a (suc n) zero d k_in = ap f (sym (add-zero a))
 mapped_at f a (suc n) (suc k) d k_in = mapped_at f (a + 1) n k d (omega arith) ∙ ap f (omega arith)
