@@ -58,7 +58,7 @@ lows_mixture D n (c ∷ cs) (g ∷ gs) [] basis i long are = absurd are
 lows_mixture D n (c ∷ cs) (g ∷ gs) (ts ∷ rows) basis i long are =
     let rest = lows_mixture D n cs gs rows basis i long.1 are.1 in
     let own : mixture (map (number_at ts) (numbers_from 0 n)) (one_form ∷ basis) i ≡ mixture ts (one_form ∷ basis) i =
-        ap (λ m. mixture (map (number_at ts) (numbers_from 0 m)) (one_form ∷ basis) i) (sym long.0) ∙ ap (λ zs. mixture zs (one_form ∷ basis) i) (listed_at ts) in
+    ap (λ m. mixture (map (number_at ts) (numbers_from 0 m)) (one_form ∷ basis) i) (sym long.0) ∙ ap (λ zs. mixture zs (one_form ∷ basis) i) (listed_at ts) in
     let first : (pos D *ℤ coordinate g i) ≡ mixture (map (number_at ts) (numbers_from 0 n)) (one_form ∷ basis) i = are.0 i ∙ sym own in
     ring_by (pos D ∷ c ∷ coordinate g i ∷ blend_at cs gs i ∷ mixture (map (number_at ts) (numbers_from 0 n)) (one_form ∷ basis) i ∷ mixture (map (from_lows cs rows) (numbers_from 0 n)) (one_form ∷ basis) i ∷ [])
     (var 0 ⊗ (var 1 ⊗ var 2 ⊕ var 3)) (var 1 ⊗ var 4 ⊕ var 5)
@@ -74,7 +74,7 @@ pub form_mixture : (D n : ℕ) (low : List ℕ) (gs : List Form) (rows : List (L
 form_mixture D n low gs rows basis f long are resolved i =
     let others = map (from_lows f.coefficients rows) (numbers_from 1 n) in
     let rest : mixture (map (number_of D low rows f) (numbers_from 1 n)) basis i ≡ mixture others basis i =
-        ap (λ zs. mixture zs basis i) (shifted (number_of D low rows f) 0 n ∙ sym (shifted (from_lows f.coefficients rows) 0 n)) in
+    ap (λ zs. mixture zs basis i) (shifted (number_of D low rows f) 0 n ∙ sym (shifted (from_lows f.coefficients rows) 0 n)) in
     ap (λ z. pos D *ℤ z) (resolved i)
     ∙ ring_by (pos D ∷ value f low ∷ coordinate one_form i ∷ blend_at f.coefficients gs i ∷ from_lows f.coefficients rows 0 ∷ mixture others basis i ∷ [])
     (var 0 ⊗ (var 1 ⊗ var 2 ⊕ var 3)) ((var 0 ⊗ var 1 ⊕ var 4) ⊗ var 2 ⊕ var 5)

@@ -19,7 +19,6 @@ pub length-mapped : {X : Type 0} (f : ℕ → X) (a n : ℕ) → length (map f (
 length-mapped f a zero = refl
 length-mapped f a (suc n) = ap suc (length-mapped f (a + 1) n)
 
-
 -- what stands at a place
 pub mapped_at : {X : Type 0} (f : ℕ → X) (a n k : ℕ) (d : X) → k < n → slice_index_or (map f (numbers_from a n)) k d ≡ f (a + k)
 mapped_at f a zero k d k_in = absurd (omega arith)

@@ -1,7 +1,7 @@
 -- The fractions of a row at a place, after a write, and after two rows were crossed.
 use Rattle.std.proofs.Common.{◌≡◌, ◌≢◌, ℕ, zero, suc, ◌*◌, ◌<◌, ◌≤◌, refl, sym, ◌∙◌, ap, subst, List, [], ◌∷◌, length, arith}
 use Rattle.std.specs.Prelude.{ℤ, pos, negsuc, ◌*ℤ◌, slice_set}
-use Rattle.whole_numbers.specs.Fractions.{Fraction, IsLowest, minus, times}
+use Rattle.whole_numbers.specs.Fractions.{Fraction, IsLowest, minus, times, whole}
 use Rattle.whole_numbers.proofs.Ring.{var, num, ◌⊗◌, neg, ring_by, nothing as no_more, using}
 use Rattle.whole_numbers.proofs.FractionLaws.{cancel, times_stands}
 use Rattle.wide_fraction.specs.Widths.{IsWithin}
@@ -55,3 +55,8 @@ times_not_zero p q p_positive q_positive p_not q_not e =
 pub times_number : (top : ℕ) (p q r : Fraction) → 0 < p.denominator → 0 < q.denominator → r ≡ times p q → IsWithin top r → IsNumber top r
 times_number top p q r p_positive q_positive r_is r_within =
     record { lowest = subst IsLowest (sym r_is) (times_lowest p q p_positive q_positive); within = r_within }
+
+-- 1 is a number of the table, wherever there is one
+pub one_within : (top : ℕ) (q : Fraction) → IsNumber top q → IsWithin top (whole (pos 1))
+one_within top q q_is =
+    record { numerator = omega (arith, q_is.lowest.positive, q_is.within.denominator); denominator = omega (arith, q_is.lowest.positive, q_is.within.denominator) }

@@ -1,10 +1,10 @@
 -- How a pivot turns one row of the table.
 use Rattle.std.specs.Prelude.{ℕ, zero, suc, List, ℤ, pos, negsuc, slice_set}
 use Rattle.cost_base.specs.declared.StepName.{StepName}
-use Rattle.cost_base.specs.declared.StepName.TheVariants.{Mul}
-use Rattle.whole_numbers.specs.Fractions.{Fraction, times}
+use Rattle.cost_base.specs.declared.StepName.TheVariants.{Div, Mul}
+use Rattle.whole_numbers.specs.Fractions.{Fraction, times, whole}
 use Rattle.path_rows.specs.Basis.{entry}
-use Rattle.exact_simplex.specs.TableRows.{IsCrossStep, crossed_by}
+use Rattle.exact_simplex.specs.TableRows.{IsCrossStep, IsDivideStep, crossed_by}
 
 abbrev pub unless_none : ℤ → List Fraction → List Fraction → List Fraction
 unless_none (pos zero) kept turned = kept
@@ -21,3 +21,8 @@ turned_by fs ts place inverse =
 pub data IsTurnStep (fs ts : List Fraction) (place : ℕ) (inverse : Fraction) : StepName → Fraction → Fraction → Type 0 where
   crossing : (step : StepName) (left right : Fraction) → IsCrossStep (entry fs place) fs ts step left right → IsTurnStep fs ts place inverse step left right
   entering : IsTurnStep fs ts place inverse Mul (entry fs place) inverse
+
+-- the steps by which the quotients of the pivot's row and the inverse of its entry at the place are made
+pub data IsQuotientStepOf (rs : List Fraction) (place : ℕ) : StepName → Fraction → Fraction → Type 0 where
+  dividing : (step : StepName) (left right : Fraction) → IsDivideStep (entry rs place) rs step left right → IsQuotientStepOf rs place step left right
+  inverting : IsQuotientStepOf rs place Div (whole (pos 1)) (entry rs place)

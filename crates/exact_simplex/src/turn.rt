@@ -1,12 +1,13 @@
 //! One row's part in a pivot.
-ghost use Rattle.std.specs.Prelude.{◌≡◌, ◌≢◌, suc, ◌<◌, length, pos, IfErr, OnOk};
+ghost use Rattle.std.specs.Prelude.{◌≡◌, ◌≢◌, suc, ◌<◌, length, pos, IfErr, IfOk, OnOk};
+ghost use Rattle.whole_numbers.specs.Fractions.{divided, whole};
 ghost use Rattle.path_rows.specs.Basis.{entry};
-ghost use Rattle.exact_simplex.specs.TableRows.{AreNumbers, IsNumber, IsWideStep, nothing};
-ghost use Rattle.exact_simplex.specs.Turns.{IsTurnStep, turned_by};
+ghost use Rattle.exact_simplex.specs.TableRows.{AreNumbers, IsNumber, IsWideStep, divided_without, nothing};
+ghost use Rattle.exact_simplex.specs.Turns.{IsQuotientStepOf, IsTurnStep, turned_by};
 
 use crate::row::TableRow;
 use std::mem;
-use wide_fraction::{Frac, Top, Wide, mul};
+use wide_fraction::{Frac, Top, Wide, div, mul};
 
 /// Turns a row at the pivot's column, by the quotients of the pivot's row, which have 0 there, and the inverse of its
 /// entry there. The steps are taken by the places, the constant first, and the pivot's column last; none is taken
@@ -46,4 +47,32 @@ pub fn turn_row(
     scratch.replace(column, entered);
     mem::swap(row, scratch);
     Ok(())
+}
+
+/// Makes the quotients of the pivot's row by its entry at the pivot's column, with 0 at that column, and gives the
+/// inverse of that entry. The steps are taken by the places, the constant first, and the inverse last.
+///
+/// # Errors
+///
+/// `Wide` where one of these steps makes a whole number that passes `top`.
+pub fn take_quotients(
+    row: &TableRow,
+    column: u32,
+    quotients: &mut TableRow,
+    top: Top,
+) -> Result<Frac, Wide>
+    requires column { suc column < length row.now }
+    requires width { length quotients.old ≡ length row.now }
+    requires numbers { AreNumbers top row.now }
+    requires not_zero { (entry row.now (suc column)).numerator ≢ pos 0 }
+    ensures quotients { OnOk result (quotients.new ≡ divided_without (suc column) (entry row.now (suc column)) row.now 0) }
+    ensures quotient_numbers { OnOk result (AreNumbers top quotients.new) }
+    ensures inverse { IfOk result (λ inverse. inverse ≡ divided (whole (pos 1)) (entry row.now (suc column))) }
+    ensures number { IfOk result (λ inverse. IsNumber top inverse) }
+    ensures width { length quotients.new ≡ length quotients.old }
+    ensures wide { IfErr result (λ wide. IsWideStep top (IsQuotientStepOf row.now (suc column)) wide.step wide.left wide.right) }
+{
+    let divisor = row.entry(column);
+    row.divide(divisor, column, quotients, top)?;
+    div(Frac::whole(1), divisor, top)
 }
