@@ -1,6 +1,6 @@
 -- The fractions of a row at a place, after a write, and after two rows were crossed.
-use Rattle.std.proofs.Common.{◌≡◌, ◌≢◌, ℕ, zero, suc, ◌*◌, ◌<◌, ◌≤◌, refl, sym, ◌∙◌, ap, subst, List, [], ◌∷◌, length, arith}
-use Rattle.std.specs.Prelude.{ℤ, pos, negsuc, ◌*ℤ◌, slice_set}
+use Rattle.std.proofs.Common.{◌≡◌, ◌≢◌, ℕ, zero, suc, ◌*◌, ◌<◌, refl, sym, ◌∙◌, ap, subst, List, [], ◌∷◌, ◌++◌, length, map, take, drop, arith}
+use Rattle.std.specs.Prelude.{ℤ, pos, negsuc, ◌*ℤ◌, slice_index_or, slice_set}
 use Rattle.whole_numbers.specs.Fractions.{Fraction, IsLowest, minus, times, whole}
 use Rattle.whole_numbers.proofs.Ring.{var, num, ◌⊗◌, neg, ring_by, nothing as no_more, using}
 use Rattle.whole_numbers.proofs.FractionLaws.{cancel, times_stands}
@@ -8,6 +8,7 @@ use Rattle.wide_fraction.specs.Widths.{IsWithin}
 use Rattle.wide_fraction.proofs.Quotients.{zero_stands}
 use Rattle.path_rows.specs.Basis.{entry}
 use Rattle.exact_simplex.specs.TableRows.{AreNumbers, IsNumber, crossed_by, nothing}
+use Rattle.exact_simplex.specs.Turns.{AreRows}
 use Rattle.exact_simplex.proofs.Numbers.{times_lowest, crossed_nothing}
 
 pub number_at : (top : ℕ) (qs : List Fraction) (k : ℕ) → AreNumbers top qs → k < length qs → IsNumber top (entry qs k)
@@ -60,3 +61,22 @@ times_number top p q r p_positive q_positive r_is r_within =
 pub one_within : (top : ℕ) (q : Fraction) → IsNumber top q → IsWithin top (whole (pos 1))
 one_within top q q_is =
     record { numerator = omega (arith, q_is.lowest.positive, q_is.within.denominator); denominator = omega (arith, q_is.lowest.positive, q_is.within.denominator) }
+
+-- each of the rows has their length, and numbers of the table
+pub rows_at : (top count : ℕ) (rows : List (List Fraction)) (k : ℕ) (d : List Fraction) → AreRows top count rows → k < length rows → (length (slice_index_or rows k d) ≡ count) × AreNumbers top (slice_index_or rows k d)
+rows_at top count [] k d are k_in = absurd (omega arith)
+rows_at top count (fs ∷ rows) zero d are k_in = (are.0, are.1)
+rows_at top count (fs ∷ rows) (suc k) d are k_in = rows_at top count rows k d are.2 (omega arith)
+
+-- where only the rows before an index were changed, the row at the index is as before
+pub later_same : (f : List Fraction → List Fraction) (rows : List (List Fraction)) (k : ℕ) (d : List Fraction) → slice_index_or (map f (take k rows) ++ drop k rows) k d ≡ slice_index_or rows k d
+later_same f [] zero d = refl
+later_same f [] (suc k) d = refl
+later_same f (fs ∷ rows) zero d = refl
+later_same f (fs ∷ rows) (suc k) d = later_same f rows k d
+
+-- a row that there is doesn't depend on what stands for one that there isn't
+pub any_default : (rows : List (List Fraction)) (k : ℕ) (d e : List Fraction) → k < length rows → slice_index_or rows k d ≡ slice_index_or rows k e
+any_default [] k d e k_in = absurd (omega arith)
+any_default (fs ∷ rows) zero d e k_in = refl
+any_default (fs ∷ rows) (suc k) d e k_in = any_default rows k d e (omega arith)

@@ -3,8 +3,8 @@ use Rattle.std.proofs.Common.{◌≡◌, ◌≢◌, ℕ, zero, suc, ◌+◌, ◌
 use Rattle.std.specs.Prelude.{ℤ, pos, ◌-ℤ◌, ◌*ℤ◌, ◌==◌, slice_set, slice_index_or}
 use Rattle.std.specs.List.{AllZip}
 use Rattle.std.proofs.lemmas.Bool.Decides.{nat_tests}
-use Rattle.whole_numbers.specs.Fractions.{Fraction, StandsFor, whole, minus, times, divided, inverse}
-use Rattle.whole_numbers.proofs.Ring.{var, num, ◌⊕◌, ◌⊖◌, ◌⊗◌, ring, ring_by, nothing, using}
+use Rattle.whole_numbers.specs.Fractions.{Fraction, StandsFor, whole, minus, times, divided}
+use Rattle.whole_numbers.proofs.Ring.{var, num, ◌⊖◌, ◌⊗◌, ring, ring_by, nothing, using}
 use Rattle.whole_numbers.proofs.FractionLaws.{times_stands, divided_stands, pivot_entry_stands}
 use Rattle.path_rows.specs.Basis.{entry}
 use Rattle.exact_simplex.specs.TableRows.{AreNumbers, IsNumber, crossed_by, divided_without, nothing as none}

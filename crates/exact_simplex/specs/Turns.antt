@@ -1,10 +1,10 @@
 -- How a pivot turns one row of the table.
-use Rattle.std.specs.Prelude.{ℕ, zero, suc, List, ℤ, pos, negsuc, slice_set}
+use Rattle.std.specs.Prelude.{◌≡◌, ℕ, zero, suc, ◌<◌, List, [], ◌∷◌, ℤ, pos, negsuc, length, slice_index_or, slice_set}
 use Rattle.cost_base.specs.declared.StepName.{StepName}
 use Rattle.cost_base.specs.declared.StepName.TheVariants.{Div, Mul}
 use Rattle.whole_numbers.specs.Fractions.{Fraction, times, whole}
 use Rattle.path_rows.specs.Basis.{entry}
-use Rattle.exact_simplex.specs.TableRows.{IsCrossStep, IsDivideStep, crossed_by}
+use Rattle.exact_simplex.specs.TableRows.{AreNumbers, IsCrossStep, IsDivideStep, IsWideStep, crossed_by}
 
 abbrev pub unless_none : ℤ → List Fraction → List Fraction → List Fraction
 unless_none (pos zero) kept turned = kept
@@ -26,3 +26,14 @@ pub data IsTurnStep (fs ts : List Fraction) (place : ℕ) (inverse : Fraction) :
 pub data IsQuotientStepOf (rs : List Fraction) (place : ℕ) : StepName → Fraction → Fraction → Type 0 where
   dividing : (step : StepName) (left right : Fraction) → IsDivideStep (entry rs place) rs step left right → IsQuotientStepOf rs place step left right
   inverting : IsQuotientStepOf rs place Div (whole (pos 1)) (entry rs place)
+
+-- rows of one length, of numbers of the table
+abbrev pub AreRows : ℕ → ℕ → List (List Fraction) → Type 0
+AreRows top count [] = Unit {0}
+AreRows top count (fs ∷ rows) = (length fs ≡ count) × AreNumbers top fs × AreRows top count rows
+
+-- a step by which some row is turned makes a whole number that passes the top
+pub record TurnsWide (top : ℕ) (rows : List (List Fraction)) (ts : List Fraction) (place : ℕ) (inverse : Fraction) (step : StepName) (left right : Fraction) : Type 0 where
+  pub row : ℕ
+  pub row_in : row < length rows
+  pub wide : IsWideStep top (IsTurnStep (slice_index_or rows row []) ts place inverse) step left right

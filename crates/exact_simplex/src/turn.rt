@@ -1,9 +1,9 @@
 //! One row's part in a pivot.
-ghost use Rattle.std.specs.Prelude.{◌≡◌, ◌≢◌, suc, ◌<◌, length, pos, IfErr, IfOk, OnOk};
+ghost use Rattle.std.specs.Prelude.{◌≡◌, ◌≢◌, suc, ◌<◌, length, map, pos, IfErr, IfOk, OnOk};
 ghost use Rattle.whole_numbers.specs.Fractions.{divided, whole};
 ghost use Rattle.path_rows.specs.Basis.{entry};
 ghost use Rattle.exact_simplex.specs.TableRows.{AreNumbers, IsNumber, IsWideStep, divided_without, nothing};
-ghost use Rattle.exact_simplex.specs.Turns.{IsQuotientStepOf, IsTurnStep, turned_by};
+ghost use Rattle.exact_simplex.specs.Turns.{AreRows, IsQuotientStepOf, IsTurnStep, TurnsWide, turned_by};
 
 use crate::row::TableRow;
 use std::mem;
@@ -75,4 +75,34 @@ pub fn take_quotients(
     let divisor = row.entry(column);
     row.divide(divisor, column, quotients, top)?;
     div(Frac::whole(1), divisor, top)
+}
+
+/// Turns each row in order, as `turn_row` does.
+///
+/// # Errors
+///
+/// `Wide` where a step of some row makes a whole number that passes `top`.
+pub fn turn_rows(
+    rows: &mut [TableRow],
+    column: u32,
+    quotients: &TableRow,
+    inverse: Frac,
+    scratch: &mut TableRow,
+    top: Top,
+) -> Result<(), Wide>
+    requires column { suc column < length quotients.now }
+    requires rows { AreRows top (length quotients.now) rows.old }
+    requires scratch { length scratch.old ≡ length quotients.now }
+    requires quotient_numbers { AreNumbers top quotients.now }
+    requires none_there { entry quotients.now (suc column) ≡ nothing }
+    requires inverse { IsNumber top inverse }
+    requires not_zero { inverse.numerator ≢ pos 0 }
+    ensures turned { OnOk result (rows.new ≡ map (λ fs. turned_by fs quotients.now (suc column) inverse) rows.old) }
+    ensures scratch_width { length scratch.new ≡ length scratch.old }
+    ensures wide { IfErr result (λ wide. TurnsWide top rows.old quotients.now (suc column) inverse wide.step wide.left wide.right) }
+{
+    for row in rows.iter_mut() {
+        turn_row(row, column, quotients, inverse, scratch, top)?;
+    }
+    Ok(())
 }

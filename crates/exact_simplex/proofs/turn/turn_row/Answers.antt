@@ -1,6 +1,6 @@
 -- The row is crossed with the quotients, and gets its new entry at the pivot's column.
-use Rattle.std.proofs.Common.{◌≡◌, ◌≢◌, Err, suc, ◌∙◌, ap, sym, subst, List}
-use Rattle.std.specs.Prelude.{pos, IsTrue}
+use Rattle.std.proofs.Common.{◌≡◌, Err, suc, ◌∙◌, ap, sym, subst, List}
+use Rattle.std.specs.Prelude.{IsTrue}
 use Rattle.std.proofs.lemmas.Bool.{false≢true}
 use Rattle.std.proofs.lemmas.Result.{err_from_is_err_and}
 use Rattle.cost_base.specs.declared.StepName.TheVariants.{Mul}
