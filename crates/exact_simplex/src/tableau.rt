@@ -78,13 +78,14 @@ impl Tableau {
     /// - `OutOfMemory` where a growth was refused.
     ///
     /// After both, `into` is as before.
-    pub fn multipliers(&self, form: u64, into: &mut Parts) -> Result<(), SimplexStop>
+    pub fn multipliers(&self, alloc: Global, form: u64, into: &mut Parts) -> Result<(), SimplexStop>
         requires { self.now.stage ≡ Stage.Ended (Solved.Refuted form) }
         ensures refutes { OnOk result (Refutes self.now.rows into.new self.now.costs) }
         ensures few { OnOk result (length into.new ≤ suc (length self.now.costs.low)) }
         ensures told { IfErr result (λ stop. IsTold self.now stop) }
         ensures same { OnErr result (into.new ≡ into.old) }
     {
+        let _ = alloc;
         let _ = form;
         let _ = into;
         Err(SimplexStop::OutOfMemory)
