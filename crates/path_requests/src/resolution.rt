@@ -3,6 +3,8 @@ ghost use Rattle.std.specs.Prelude.{◌≡◌, None, IfOk, IfErr};
 ghost use Rattle.path_requests.specs.Meaning.{problem_of};
 ghost use Rattle.path_requests.specs.Resolving.{resolution_fault, present_fault, present_problem_of, TellsResolution};
 
+mod names;
+
 use crate::Requests;
 use crate::stop::RequestStop;
 use lsdb_build::Lsdb;
