@@ -1,22 +1,26 @@
 -- The places of names in sets are the numbers of routers and links.
 use Rattle.std.proofs.Common.{inl, inr, ◌≡◌, ◌≢◌, ℕ, zero, suc, ◌+◌, ◌<◌, ◌≤◌, refl, sym, ◌∙◌, ap, subst, List, [], ◌∷◌, ◌++◌, length, take, map, get_or, arith, Bool, true, false, cond, Option, Some, None}
-use Rattle.std.specs.Prelude.{All, AllPairs, filter, position, is_some, slice_get, slice_index_or, if◌then◌else◌, ◌&&◌, ◌||◌, ◌==◌}
+use Rattle.std.specs.Prelude.{All, AllPairs, filter, position, is_some, slice_get, slice_index_or, unwrap_or, MatchOption, if◌then◌else◌, ◌&&◌, ◌||◌, ◌==◌}
 use Rattle.std.specs.List.{list_any}
-use Rattle.std.proofs.lemmas.List.{get_or_default, length-map, get_or-map, map-append, take_more, length-take-le, get_or-take}
+use Rattle.std.proofs.lemmas.List.{get_or_default, length-map, length-append, get_or-map, map-append, take_more, length-take-le, get_or-take}
 use Rattle.std.proofs.lemmas.List.Elements.{All-head, All-tail, All-weaker}
-use Rattle.std.proofs.lemmas.List.Folds.{Any-from_list_any}
+use Rattle.std.proofs.lemmas.List.Folds.{Any-from_list_any, list_any_none}
 use Rattle.std.proofs.lemmas.List.Quantifiers.{position-Some}
 use Rattle.std.proofs.lemmas.Option.{slice_get-get_or, slice_get_within, get_or_from_slice_get}
-use Rattle.std.proofs.lemmas.Bool.{eqb-true, eq-eqb, ne_eqb, and_parts, and_from, and_left, cases_Bool, cases_order, cases_eq, false≢true}
-use Rattle.cost_base.specs.Lists.{numbers_from, same_bytes}
+use Rattle.std.proofs.lemmas.Bool.{eqb-true, eq-eqb, ne_eqb, and_parts, and_from, and_left, cases_Bool, cases_order, cases_eq, false≢true, or_parts, false_from_ne_true}
+use Rattle.cost_base.specs.Lists.{numbers_from, first_of, same_bytes}
+use Rattle.area_graph.specs.declared.Vertex.{Vertex}
+use Rattle.area_graph.specs.declared.Vertex.TheVariants.{Router as RouterVertex, Subnet as SubnetVertex}
+use Rattle.area_graph.specs.Area.{Area, edge_at, edges_out}
 use Rattle.lsdb_build.specs.declared.Linked.{Linked}
 use Rattle.lsdb_build.specs.Graphs.{Database, IsDatabase, IsLink}
 use Rattle.lsdb_build.proofs.Pairs.{pair_at, all_at}
-use Rattle.path_requests.specs.Meaning.{is_named, names_link, link_number, router_number}
+use Rattle.path_requests.specs.Meaning.{is_named, names_link, link_number, router_number, edge_to}
+use Rattle.path_requests.specs.Resolving.{outline}
 use Rattle.path_requests.specs.Resolution.{knows_router, knows_link}
 use Rattle.path_requests.specs.Keys.{link_key}
 use Rattle.path_requests.proofs.ThinProblems.{no_link}
-use Rattle.path_requests.proofs.RouteLaws.{same_bytes-true, same_bytes-same, first_passing, router_known, router_number_is}
+use Rattle.path_requests.proofs.RouteLaws.{same_bytes-true, same_bytes-same, first_passing, router_known, router_number_is, numbers_length}
 
 pub any_map : {X Y : Type 0} (p : Y → Bool) (f : X → Y) (xs : List X) → list_any p (map f xs) ≡ list_any (λ x. p (f x)) xs
 any_map p f [] = refl
@@ -132,3 +136,63 @@ link_found d router interface now keys base known are =
     sym (any_map test now keys) ∙ ap (list_any test) are ∙ any_map test link_key d.links
     ∙ sym (any_agree (is_named d router interface) (λ link. router_number d router == link.router && same_bytes interface link.interface) d.links
     (All-weaker (IsLink d) (λ link. is_named d router interface link ≡ (router_number d router == link.router && same_bytes interface link.interface)) (λ link is. named_is d router interface link base known is) d.links base.each_link))
+
+-- What isn't found has the number 0.
+
+none_there : {X : Type 0} (p : X → Bool) (xs : List X) → list_any p xs ≡ false → (k : ℕ) (d : X) → k < length xs → p (get_or xs k d) ≡ false
+none_there p [] none k d within = absurd (omega arith)
+none_there p (x ∷ xs) none zero d within = (or_parts (p x) (list_any p xs) none).0
+none_there p (x ∷ xs) none (suc k) d within = none_there p xs (or_parts (p x) (list_any p xs) none).1 k d (omega arith)
+
+pub none_passing : (test : ℕ → Bool) (a n : ℕ) → ((k : ℕ) → a ≤ k → k < a + n → test k ≡ false) → filter test (numbers_from a n) ≡ []
+none_passing test a zero fails = refl
+none_passing test a (suc n) fails = rw (fails a (omega arith) (omega arith)) (none_passing test (a + 1) n (λ k from below. fails k (omega arith) (omega arith)))
+
+pub router_unknown : (d : Database) (name : List ℕ) → knows_router d name ≡ false → router_number d name ≡ 0
+router_unknown d name unknown =
+    rw (none_passing (λ r. same_bytes (slice_index_or d.routers r []) name) 0 (length d.routers) (λ r from below. other r (none_there (same_bytes name) d.routers unknown r [] (omega arith)))) refl
+  where
+    other : (r : ℕ) → same_bytes name (get_or d.routers r []) ≡ false → same_bytes (slice_index_or d.routers r []) name ≡ false
+    other r differs = false_from_ne_true (same_bytes (slice_index_or d.routers r []) name)
+        (λ same. false≢true (sym differs ∙ same_bytes-same name (get_or d.routers r []) (sym (same_bytes-true (slice_index_or d.routers r []) name same))))
+
+pub link_unknown : (d : Database) (router interface : List ℕ) → knows_link d router interface ≡ false → link_number d router interface ≡ 0
+link_unknown d router interface unknown =
+    rw (none_passing (λ l. names_link d router interface (slice_get d.links l)) 0 (length d.links)
+    (λ l from below. let within : l < length d.links = omega arith in rw (slice_get-get_or d.links l no_link within) (none_there (is_named d router interface) d.links unknown l no_link within))) refl
+
+-- a router without a name that is known has no link
+pub no_router_link : (d : Database) (router interface : List ℕ) → IsDatabase d → knows_router d router ≡ false → knows_link d router interface ≡ false
+no_router_link d router interface base unknown =
+    list_any_none (is_named d router interface) d.links
+    (All-weaker (IsLink d) (λ link. is_named d router interface link ≡ false)
+    (λ link is. false_from_ne_true (is_named d router interface link)
+    (λ named. let parts = and_parts (same_bytes (slice_index_or d.routers link.router []) router) (same_bytes link.interface interface) named in
+    false≢true (sym (none_there (same_bytes router) d.routers unknown link.router [] is.router) ∙ same_bytes-same router (get_or d.routers link.router []) (sym (same_bytes-true (slice_index_or d.routers link.router []) router parts.0)))))
+    d.links base.each_link)
+
+-- a number that is found, or else 0
+pub number_or_zero : (o : Option ℕ) (n : ℕ) (known : Bool) → MatchOption o (known ≡ false) (λ r. (known ≡ true) × (r ≡ n)) → (known ≡ false → n ≡ 0) → unwrap_or o 0 ≡ n
+number_or_zero None n known found none = sym (none found)
+number_or_zero (Some r) n known found none = found.1
+
+filter_twice : {X : Type 0} (p q : X → Bool) (xs : List X) → filter q (filter p xs) ≡ filter (λ x. p x && q x) xs
+filter_twice p q [] = refl
+filter_twice p q (x ∷ xs) =
+    elim (cases_Bool (p x)) [
+      | inl passes ↦ rw passes (ap (λ ys. cond (q x) (x ∷ ys) ys) (filter_twice p q xs))
+      | inr fails ↦ rw fails (filter_twice p q xs)
+    ]
+
+-- the first edge out of a vertex that leads to a router
+pub edge_to_first : (g : Area) (from router : ℕ) → edge_to g from router ≡ unwrap_or (first_of (filter (λ e. (edge_at g e).to == router) (edges_out g from))) 0
+edge_to_first g from router = ap (λ (es : List ℕ). unwrap_or (first_of es) 0) (sym (filter_twice (λ e. (edge_at g e).from == from) (λ e. (edge_at g e).to == router) (numbers_from 0 (length g.edges))))
+
+pub vertices_count : (d : Database) → length (outline d).vertices ≡ length d.routers + length d.subnets
+vertices_count d =
+    let routers : length (map RouterVertex (numbers_from 0 (length d.routers))) ≡ length d.routers
+    = length-map {B = Vertex} (numbers_from 0 (length d.routers)) RouterVertex ∙ numbers_length 0 (length d.routers) in
+    let subnets : length (map SubnetVertex (numbers_from 0 (length d.subnets))) ≡ length d.subnets
+    = length-map {B = Vertex} (numbers_from 0 (length d.subnets)) SubnetVertex ∙ numbers_length 0 (length d.subnets) in
+    let whole = length-append (map RouterVertex (numbers_from 0 (length d.routers))) (map SubnetVertex (numbers_from 0 (length d.subnets))) in
+    omega arith

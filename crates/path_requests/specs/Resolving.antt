@@ -39,10 +39,13 @@ abbrev pub hop_faults : Database → ℕ → List (List ℕ × List ℕ) → Lis
 hop_faults d line [] last = router_faults d line last
 hop_faults d line (hop ∷ hops) last = interface_faults d line hop.0 hop.1 ++ hop_faults d line hops last
 
-abbrev pub part_faults : Database → ℕ → List Part → List ResolutionFault
-part_faults d line [] = []
-part_faults d line (Router router ∷ parts) = router_faults d line router ++ part_faults d line parts
-part_faults d line (Interface router interface ∷ parts) = interface_faults d line router interface ++ part_faults d line parts
+abbrev pub part_faults : Database → ℕ → Part → List ResolutionFault
+part_faults d line (Router router) = router_faults d line router
+part_faults d line (Interface router interface) = interface_faults d line router interface
+
+abbrev pub parts_faults : Database → ℕ → List Part → List ResolutionFault
+parts_faults d line [] = []
+parts_faults d line (part ∷ parts) = part_faults d line part ++ parts_faults d line parts
 
 -- The faults of a path.
 
@@ -70,14 +73,19 @@ is_path_gone d route parts =
     list_any (is_router_part (next_name route.hops route.last)) parts
     || list_any (λ e. list_any (takes d (outline d) e) parts) (route_edges d (outline d) route.hops route.last)
 
--- word by word, then hop by hop, then a vertex that comes twice, then the words after `without`, then what they take away
-abbrev pub path_faults : Database → ℕ → Route → List Part → List ResolutionFault
-path_faults d line route parts =
+-- the words of a path one by one, then its hops one by one, then a router or a transit subnet that comes twice
+abbrev pub walk_faults : Database → ℕ → Route → List ResolutionFault
+walk_faults d line route =
     hop_faults d line route.hops route.last
     ++ broken_faults d line 1 route.hops route.last
     ++ fault_unless (is_loop_free d (outline d) route) 24 line
-    ++ part_faults d line parts
-    ++ fault_unless (not (is_path_gone d route parts)) 70 line
+
+-- the words after `without` one by one, then what they take away of the path
+abbrev pub without_faults : Database → ℕ → Route → List Part → List ResolutionFault
+without_faults d line route parts = parts_faults d line parts ++ fault_unless (not (is_path_gone d route parts)) 70 line
+
+abbrev pub path_faults : Database → ℕ → Route → List Part → List ResolutionFault
+path_faults d line route parts = walk_faults d line route ++ without_faults d line route parts
 
 -- The faults of lines.
 

@@ -4,6 +4,8 @@ ghost use Rattle.path_requests.specs.Meaning.{problem_of};
 ghost use Rattle.path_requests.specs.Resolving.{resolution_fault, present_fault, present_problem_of, TellsResolution};
 
 mod names;
+mod parts;
+mod routes;
 
 use crate::Requests;
 use crate::stop::RequestStop;

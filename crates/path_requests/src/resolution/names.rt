@@ -98,7 +98,8 @@ impl<'a> Names<'a> {
 
     /// The number of the router of a name.
     fn find_router(&self, name: &[u8]) -> Option<u32>
-        ensures { MatchOption result (knows_router self.now name.now ≡ false) (λ r. (knows_router self.now name.now ≡ true) × (r ≡ router_number self.now name.now)) }
+        ensures base { IsDatabase self.now }
+        ensures found { MatchOption result (knows_router self.now name.now ≡ false) (λ r. (knows_router self.now name.now ≡ true) × (r ≡ router_number self.now name.now)) }
     {
         match self.routers.get_index_of(name) {
             Some(place) => Some(place as u32),
@@ -113,6 +114,23 @@ impl<'a> Names<'a> {
         match self.links.get_index_of(&(router, interface)) {
             Some(place) => Some(place as u32),
             None => None,
+        }
+    }
+
+    /// The number of the router of a name, 0 where there is none.
+    pub fn router_number(&self, name: &[u8]) -> u32
+        ensures { result ≡ router_number self.now name.now }
+    {
+        self.find_router(name).unwrap_or(0)
+    }
+
+    /// The number of the link of an interface, 0 where there is none.
+    pub fn link_number(&self, router: &[u8], interface: &[u8]) -> u32
+        ensures { result ≡ link_number self.now router.now interface.now }
+    {
+        match self.find_router(router) {
+            Some(number) => self.find_link(number, interface).unwrap_or(0),
+            None => 0,
         }
     }
 
