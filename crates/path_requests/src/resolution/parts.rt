@@ -1,11 +1,11 @@
 //! Resolves what a wanted path goes without.
-ghost use Rattle.std.specs.Prelude.{◌≡◌, ℕ, ◌+◌, ◌^◌, ◌<◌, ◌==◌, ◌++◌, [], ◌∷◌, Some, false, List, filter, length, slice_index_or, option_to_list, IfOk, IfErr, OnOk};
+ghost use Rattle.std.specs.Prelude.{◌≡◌, ℕ, ◌+◌, ◌^◌, ◌<◌, ◌==◌, ◌++◌, [], ◌∷◌, Some, false, List, filter, length, slice_get, slice_index_or, option_to_list, IfOk, IfErr, OnOk};
 ghost use Rattle.std.specs.List.{list_any};
 ghost use Rattle.cost_base.specs.Lists.{first_of, numbers_from};
 ghost use Rattle.area_graph.specs.Area.{edge_at, edges_out, edges_in};
 ghost use Rattle.lsdb_build.specs.Graphs.{IsFar};
 ghost use Rattle.path_requests.specs.Resolving.{part_faults, parts_faults, is_router_part, outline, TellsResolution};
-ghost use Rattle.path_requests.specs.Taken.{taken_from, taken_by_link, taken_by, taken_by_all};
+ghost use Rattle.path_requests.specs.Taken.{taken_from, taken_by_link, taken_at, taken_by, taken_by_all};
 
 use super::names::Names;
 use super::routes::{far_end, subnet_vertex};
@@ -72,6 +72,22 @@ fn push_link(
     push_from(names, graph, link.router, link.to, taken)
 }
 
+/// Appends the edges of the link of a number in both directions.
+fn push_interface(
+    names: &Names,
+    graph: &Graph,
+    number: u32,
+    taken: &mut Vec<u32>,
+) -> Result<(), OutOfMemory>
+    requires { graph.now ≡ outline names.now }
+    ensures { OnOk result (taken.new.items ≡ taken.old.items ++ taken_at names.now graph.now number (slice_get names.now.links number)) }
+{
+    match names.links().get(number as usize) {
+        Some(link) => push_link(names, graph, number, link, taken),
+        None => Ok(()),
+    }
+}
+
 /// Appends the edges out of a vertex and those into it.
 fn push_router(graph: &Graph, vertex: u32, taken: &mut Vec<u32>) -> Result<(), OutOfMemory>
     requires { vertex < length graph.now.vertices }
@@ -102,9 +118,7 @@ fn push_part(
         }
         Part::Interface(router, interface) => {
             let number = names.link(line, router.as_bytes(), interface.as_bytes())?;
-            if let Some(link) = names.links().get(number as usize) {
-                push_link(names, graph, number, link, taken)?;
-            }
+            push_interface(names, graph, number, taken)?;
         }
     }
     Ok(())
@@ -163,6 +177,16 @@ pub fn has_marked(marks: &[bool], edges: &[u32]) -> bool
     edges.iter().any(|edge| is_marked(marks, *edge))
 }
 
+/// Appends an edge that is marked.
+fn push_marked(marks: &[bool], edge: u32, found: &mut Vec<u32>) -> Result<(), OutOfMemory>
+    ensures { OnOk result (found.new.items ≡ found.old.items ++ filter (λ e. slice_index_or marks.now e false) (edge ∷ [])) }
+{
+    if is_marked(marks, edge) {
+        found.push(edge)?;
+    }
+    Ok(())
+}
+
 /// The numbers of the marked edges, in rising order.
 pub fn marked(alloc: Global, marks: &[bool]) -> Result<Vec<u32>, OutOfMemory>
     requires { length marks.now < 2 ^ 32 }
@@ -170,9 +194,7 @@ pub fn marked(alloc: Global, marks: &[bool]) -> Result<Vec<u32>, OutOfMemory>
 {
     let mut found = Vec::new(alloc);
     for edge in 0..marks.len() as u32 {
-        if is_marked(marks, edge) {
-            found.push(edge)?;
-        }
+        push_marked(marks, edge, &mut found)?;
     }
     Ok(found)
 }
