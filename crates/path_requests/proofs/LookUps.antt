@@ -176,7 +176,7 @@ pub number_or_zero : (o : Option ℕ) (n : ℕ) (known : Bool) → MatchOption o
 number_or_zero None n known found none = sym (none found)
 number_or_zero (Some r) n known found none = found.1
 
-filter_twice : {X : Type 0} (p q : X → Bool) (xs : List X) → filter q (filter p xs) ≡ filter (λ x. p x && q x) xs
+pub filter_twice : {X : Type 0} (p q : X → Bool) (xs : List X) → filter q (filter p xs) ≡ filter (λ x. p x && q x) xs
 filter_twice p q [] = refl
 filter_twice p q (x ∷ xs) =
     elim (cases_Bool (p x)) [

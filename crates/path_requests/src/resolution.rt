@@ -5,6 +5,7 @@ ghost use Rattle.path_requests.specs.Resolving.{resolution_fault, present_fault,
 
 mod names;
 mod parts;
+mod paths;
 mod routes;
 
 use crate::Requests;
