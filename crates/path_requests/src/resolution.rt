@@ -3,6 +3,7 @@ ghost use Rattle.std.specs.Prelude.{◌≡◌, None, IfOk, IfErr};
 ghost use Rattle.path_requests.specs.Meaning.{problem_of};
 ghost use Rattle.path_requests.specs.Resolving.{resolution_fault, present_fault, present_problem_of, TellsResolution};
 
+mod lines;
 mod names;
 mod parts;
 mod paths;
