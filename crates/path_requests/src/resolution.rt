@@ -7,6 +7,7 @@ mod lines;
 mod names;
 mod parts;
 mod paths;
+mod ranges;
 mod routes;
 
 use crate::Requests;
