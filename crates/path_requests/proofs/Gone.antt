@@ -39,7 +39,7 @@ has_append e (x ∷ xs) ys = rw (has_append e xs ys) (by_test (e == x))
     by_test false = refl
 
 -- where it stands in the run of numbers, it stands among the kept ones exactly where it passes
-has_kept : (test : ℕ → Bool) (a n e : ℕ) → a ≤ e → e < a + n → has e (filter test (numbers_from a n)) ≡ test e
+pub has_kept : (test : ℕ → Bool) (a n e : ℕ) → a ≤ e → e < a + n → has e (filter test (numbers_from a n)) ≡ test e
 has_kept test a zero e from below = absurd (omega arith)
 has_kept test a (suc n) e from below =
     elim (cases_eq e a) [
@@ -149,7 +149,7 @@ mark_is d g parts taken marks e are is count within =
     by_mark false true to from same = absurd (false≢true (sym (to refl)))
     by_mark false false to from same = same
 
-kept_alike : (p q : ℕ → Bool) (a n : ℕ) → ((k : ℕ) → k < a + n → p k ≡ q k) → filter p (numbers_from a n) ≡ filter q (numbers_from a n)
+pub kept_alike : (p q : ℕ → Bool) (a n : ℕ) → ((k : ℕ) → k < a + n → p k ≡ q k) → filter p (numbers_from a n) ≡ filter q (numbers_from a n)
 kept_alike p q a zero same = refl
 kept_alike p q a (suc n) same =
     rw (same a (omega arith)) (ap (λ ks. cond (q a) (a ∷ ks) ks) (kept_alike p q (a + 1) n (λ k below. same k (omega arith))))

@@ -139,7 +139,7 @@ link_found d router interface now keys base known are =
 
 -- What isn't found has the number 0.
 
-none_there : {X : Type 0} (p : X → Bool) (xs : List X) → list_any p xs ≡ false → (k : ℕ) (d : X) → k < length xs → p (get_or xs k d) ≡ false
+pub none_there : {X : Type 0} (p : X → Bool) (xs : List X) → list_any p xs ≡ false → (k : ℕ) (d : X) → k < length xs → p (get_or xs k d) ≡ false
 none_there p [] none k d within = absurd (omega arith)
 none_there p (x ∷ xs) none zero d within = (or_parts (p x) (list_any p xs) none).0
 none_there p (x ∷ xs) none (suc k) d within = none_there p xs (or_parts (p x) (list_any p xs) none).1 k d (omega arith)

@@ -8,7 +8,9 @@ mod names;
 mod parts;
 mod paths;
 mod ranges;
+mod problems;
 mod routes;
+mod variables;
 
 use crate::Requests;
 use crate::stop::RequestStop;

@@ -1,16 +1,17 @@
 //! Looks up routers and linked interfaces by their names.
-ghost use Rattle.std.specs.Prelude.{◌≡◌, ◌≢◌, ℕ, List, ◌<◌, ◌≤◌, [], true, false, length, map, take, position, slice_index_or, AllPairs, MatchOption, IfOk, IfErr};
+ghost use Rattle.std.specs.Prelude.{◌≡◌, ◌≢◌, ℕ, List, ◌<◌, ◌≤◌, [], true, false, length, map, take, position, slice_index_or, All, AllPairs, MatchOption, IfOk, IfErr};
 ghost use Rattle.cost_base.specs.Lists.{first_of};
-ghost use Rattle.lsdb_build.specs.Graphs.{IsDatabase, router_of};
+ghost use Rattle.lsdb_build.specs.Graphs.{IsDatabase, IsLinkPrice, graph_at, router_of};
 ghost use Rattle.path_requests.specs.Meaning.{router_number, link_number};
 ghost use Rattle.path_requests.specs.Keys.{link_key};
 ghost use Rattle.path_requests.specs.Resolution.{knows_router, knows_link};
-ghost use Rattle.path_requests.specs.Resolving.{router_faults, interface_faults, TellsResolution};
+ghost use Rattle.path_requests.specs.Resolving.{outline, router_faults, interface_faults, TellsResolution};
 
 use crate::RequestStop;
 use cost_base::{Name, OutOfMemory};
 use indexmap::IndexSet;
-use lsdb_build::{Linked, Lsdb};
+use area_graph::{Graph, Price};
+use lsdb_build::{Linked, Lsdb, graph_of};
 use std::alloc::Global;
 use std::marker::Model;
 
@@ -190,6 +191,23 @@ impl<'a> Names<'a> {
             Some(members) => members.as_slice(),
             None => &[],
         }
+    }
+
+    /// The graph of the area at given prices of its links, as `graph_of` makes it.
+    pub fn graph(&self, alloc: Global, prices: &[Price]) -> Result<Graph, OutOfMemory>
+        requires one_each { length prices.now ≡ length self.now.links }
+        requires priced { All IsLinkPrice prices.now }
+        ensures { IfOk result (λ graph. graph ≡ graph_at self.now prices.now) }
+    {
+        graph_of(alloc, self.lsdb, prices)
+    }
+
+    /// The graph of the area with cost 1 at each link, which tells what an edge joins.
+    pub fn outline(&self, alloc: Global) -> Result<Graph, OutOfMemory>
+        ensures { IfOk result (λ graph. graph ≡ outline self.now) }
+    {
+        let prices = vec![in alloc; Price::Fixed(1); self.links().len()]?;
+        self.graph(alloc, prices.as_slice())
     }
 
     /// The name of a router.

@@ -63,7 +63,7 @@ fn range_said(names: &Names, link: &Linked, wish: &Wish) -> Option<Range>
 }
 
 /// The range of a link: the last line that says it counts.
-fn range_by(names: &Names, link: &Linked, items: &[Item]) -> Range
+pub fn range_by(names: &Names, link: &Linked, items: &[Item]) -> Range
     ensures { result ≡ range_by names.now link.now items.now }
 {
     let mut range = Range::AsItIs;
@@ -98,7 +98,7 @@ fn says_symmetric(names: &Names, link: &Linked, wish: &Wish) -> bool
 }
 
 /// Whether one of the lines names the link of an interface as symmetric.
-fn any_symmetric(names: &Names, link: &Linked, items: &[Item]) -> bool
+pub fn any_symmetric(names: &Names, link: &Linked, items: &[Item]) -> bool
     ensures { result ≡ list_any (λ item. says_symmetric names.now link.now item.what) items.now }
 {
     items
