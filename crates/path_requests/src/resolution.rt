@@ -1,22 +1,46 @@
 //! The problem that requests make of a database.
-ghost use Rattle.std.specs.Prelude.{◌≡◌, None, IfOk, IfErr};
+ghost use Rattle.std.specs.Prelude.{◌≡◌, ◌≤◌, nat_le, [], None, OnOk, IfOk, IfErr};
+ghost use Rattle.cost_base.specs.Lists.{first_of};
 ghost use Rattle.path_requests.specs.Meaning.{problem_of};
-ghost use Rattle.path_requests.specs.Resolving.{resolution_fault, present_fault, present_problem_of, TellsResolution};
+ghost use Rattle.path_requests.specs.Resolving.{fault_unless, resolution_fault, present_fault, present_problem_of, TellsResolution};
 
 mod lines;
 mod names;
 mod parts;
 mod paths;
-mod ranges;
 mod problems;
+mod ranges;
 mod routes;
 mod variables;
 
+use self::lines::resolve_lines;
+use self::names::Names;
+use self::problems::assemble;
+use self::variables::{check_costs, check_ends, items, own_links};
 use crate::Requests;
 use crate::stop::RequestStop;
 use lsdb_build::Lsdb;
 use path_rows::Problem;
 use std::alloc::Global;
+
+/// The most variables that a problem has.
+const MOST_VARIABLES: usize = 1000;
+
+/// Whether there are few enough variables; else 27 with line 0.
+fn check_count(count: usize) -> Result<(), RequestStop>
+    ensures made { OnOk result (fault_unless (nat_le count 1000) 27 0 ≡ []) }
+    ensures few { OnOk result (count ≤ 1000) }
+    ensures refused { IfErr result (TellsResolution (first_of (fault_unless (nat_le count 1000) 27 0))) }
+{
+    if count > MOST_VARIABLES {
+        return Err(RequestStop::Refused {
+            number: 27,
+            line: 0,
+            hop: 0,
+        });
+    }
+    Ok(())
+}
 
 /// The problem that requests make of an area's routers and links: free interfaces have variables, and each wanted
 /// path is one of the area's graph (RFC 2328, 16.1), with the edges that its line takes away.
@@ -34,7 +58,15 @@ pub fn resolve(alloc: Global, requests: &Requests, lsdb: &Lsdb) -> Result<Proble
     ensures made { IfOk result (λ p. (resolution_fault requests.now lsdb.now ≡ None) × (p ≡ problem_of requests.now lsdb.now)) }
     ensures refused { IfErr result (TellsResolution (resolution_fault requests.now lsdb.now)) }
 {
-    Err(RequestStop::OutOfMemory)
+    let names = Names::new(alloc, lsdb)?;
+    let outline = names.outline(alloc)?;
+    let lines = items(requests);
+    let paths = resolve_lines(alloc, &names, &outline, lines)?;
+    check_ends(&names, requests, lines)?;
+    let own = own_links(alloc, &names, requests)?;
+    check_count(own.len())?;
+    check_costs(&names, requests)?;
+    Ok(assemble(alloc, &names, requests, &own, paths)?)
 }
 
 /// The problem in which every interface is fixed at its present cost, or at the default, whatever the requests free:

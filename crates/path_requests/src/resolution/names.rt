@@ -8,9 +8,9 @@ ghost use Rattle.path_requests.specs.Resolution.{knows_router, knows_link};
 ghost use Rattle.path_requests.specs.Resolving.{outline, router_faults, interface_faults, TellsResolution};
 
 use crate::RequestStop;
+use area_graph::{Graph, Price};
 use cost_base::{Name, OutOfMemory};
 use indexmap::IndexSet;
-use area_graph::{Graph, Price};
 use lsdb_build::{Linked, Lsdb, graph_of};
 use std::alloc::Global;
 use std::marker::Model;
