@@ -75,7 +75,7 @@ own_at a d lo hi l (Some link) thin = own_by_mate (is_symmetric a d link) l link
 pub thin_owner : (a : Asked) (d : Database) (lo hi l : ℕ) → IsThinAsked a lo hi → owner a d l ≡ l
 thin_owner a d lo hi l thin = own_at a d lo hi l (slice_get d.links l) thin
 
-abbrev no_link : Linked
+abbrev pub no_link : Linked
 no_link = record { router = 0; interface = []; line = 0; cost = None; to = Router 0; mate = None }
 
 thin_free : (a : Asked) (d : Database) (lo hi l : ℕ) → IsThinAsked a lo hi → l < length d.links → is_free_at a d l ≡ true

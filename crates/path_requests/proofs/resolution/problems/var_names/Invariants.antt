@@ -1,0 +1,6 @@
+use Rattle.std.proofs.Common.{◌≡◌, ◌++◌, drop}
+use Rattle.path_requests.specs.Meaning.{names_from}
+use Rattle.path_requests.proofs.resolution.problems.var_names.Given as goal
+
+abbrev pub invariant-loop-i : goal.invariant-loop-i
+invariant-loop-i l = l.made.items ++ names_from l.requests l.names l.i (drop l.i l.names.links) ≡ names_from l.requests l.names 0 l.names.links

@@ -1,0 +1,158 @@
+//! The prices and the names of links, and the problem that is made of them.
+ghost use Rattle.std.specs.Prelude.{◌≡◌, ℕ, ◌<◌, ◌≤◌, ◌^◌, ◌++◌, ◌∷◌, [], Some, List, count_by, nat_lt, if◌then◌else◌, length, slice_get, slice_index_or, All, IfOk, OnOk};
+ghost use Rattle.std.specs.List.{filter_map};
+ghost use Rattle.lsdb_build.specs.Graphs.{IsLinkPrice};
+ghost use Rattle.path_requests.specs.Meaning.{range_of, is_free, owner_at, owners, variable_of, present_cost, price_of, prices_from, names_from, request_of, problem_of};
+ghost use Rattle.path_requests.specs.Resolving.{line_faults, ends_faults, cost_faults, outline};
+
+use super::names::Names;
+use super::ranges::Range;
+use super::variables::{high_bounds, is_free, items, low_bounds, owner, range_of};
+use crate::Requests;
+use area_graph::Price;
+use cost_base::{Listed, Name, OutOfMemory};
+use lsdb_build::Linked;
+use path_rows::{Problem, Request, VarName};
+use std::alloc::Global;
+
+/// How many links with a variable of their own stand before a link's owner: the number of its variable.
+fn variable(names: &Names, requests: &Requests, own: &[u32], number: u32, link: &Linked) -> u32
+    requires few { length own.now < 2 ^ 32 }
+    ensures { result ≡ count_by (λ m. nat_lt m (owner_at requests.now names.now number (Some link.now))) own.now }
+{
+    let owner = owner(names, requests, number, link);
+    own.iter().filter(|link| **link < owner).count() as u32
+}
+
+/// The number of a link's variable.
+fn variable_of(names: &Names, requests: &Requests, own: &[u32], number: u32, link: &Linked) -> u32
+    requires few { length own.now < 2 ^ 32 }
+    requires own { own.now ≡ owners requests.now names.now }
+    requires there { slice_get names.now.links number ≡ Some link.now }
+    ensures { result ≡ variable_of requests.now names.now number }
+{
+    variable(names, requests, own, number, link)
+}
+
+/// The present cost of a link's interface, or the default, or 0.
+fn present_cost(requests: &Requests, link: &Linked) -> u16
+    ensures { result ≡ present_cost requests.now link.now }
+{
+    link.cost.unwrap_or(requests.default_cost.unwrap_or(0))
+}
+
+/// The price of a link: its variable where it is free, else its present cost.
+fn price_of(names: &Names, requests: &Requests, own: &[u32], number: u32, link: &Linked) -> Price
+    requires few { length own.now < 2 ^ 32 }
+    requires own { own.now ≡ owners requests.now names.now }
+    requires there { slice_get names.now.links number ≡ Some link.now }
+    ensures { result ≡ price_of requests.now names.now number link.now (range_of requests.now names.now link.now) }
+{
+    match range_of(names, requests, link) {
+        Range::Within(_, _) => Price::Var(variable_of(names, requests, own, number, link)),
+        Range::AsItIs => Price::Fixed(present_cost(requests, link)),
+    }
+}
+
+/// The prices of the links, in order.
+fn prices(
+    alloc: Global,
+    names: &Names,
+    requests: &Requests,
+    own: &[u32],
+) -> Result<Vec<Price>, OutOfMemory>
+    requires few { length own.now < 2 ^ 32 }
+    requires own { own.now ≡ owners requests.now names.now }
+    ensures { IfOk result (λ made. made.items ≡ prices_from requests.now names.now 0 names.now.links) }
+{
+    let mut made = Vec::new(alloc);
+    for (i, link) in names.links().iter().enumerate() {
+        let price = price_of(names, requests, own, i as u32, link);
+        made.push(price)?;
+    }
+    Ok(made)
+}
+
+/// The name of a link with the number of its variable.
+fn name_of(alloc: Global, names: &Names, link: &Linked, var: u32) -> Result<VarName, OutOfMemory>
+    ensures { IfOk result (λ name. name ≡ record { router = slice_index_or names.now.routers link.now.router []; interface = link.now.interface; var = var }) }
+{
+    Ok(VarName {
+        router: Name::from_bytes(alloc, names.router_name(link.router))?,
+        interface: Name::from_bytes(alloc, link.interface.as_bytes())?,
+        var,
+    })
+}
+
+/// Appends the name of a link, where it is free.
+fn push_name(
+    alloc: Global,
+    names: &Names,
+    requests: &Requests,
+    own: &[u32],
+    number: u32,
+    link: &Linked,
+    made: &mut Vec<VarName>,
+) -> Result<(), OutOfMemory>
+    requires few { length own.now < 2 ^ 32 }
+    requires own { own.now ≡ owners requests.now names.now }
+    requires there { slice_get names.now.links number ≡ Some link.now }
+    ensures { OnOk result (made.new.items ≡ made.old.items ++ (if is_free (range_of requests.now names.now link.now) then record { router = slice_index_or names.now.routers link.now.router []; interface = link.now.interface; var = variable_of requests.now names.now number } ∷ [] else [])) }
+{
+    if is_free(range_of(names, requests, link)) {
+        let var = variable_of(names, requests, own, number, link);
+        let name = name_of(alloc, names, link, var)?;
+        made.push(name)?;
+    }
+    Ok(())
+}
+
+/// The names of the free links, in order, each with the number of its variable.
+fn var_names(
+    alloc: Global,
+    names: &Names,
+    requests: &Requests,
+    own: &[u32],
+) -> Result<Vec<VarName>, OutOfMemory>
+    requires few { length own.now < 2 ^ 32 }
+    requires own { own.now ≡ owners requests.now names.now }
+    ensures { IfOk result (λ made. made.items ≡ names_from requests.now names.now 0 names.now.links) }
+{
+    let mut made = Vec::new(alloc);
+    for (i, link) in names.links().iter().enumerate() {
+        push_name(alloc, names, requests, own, i as u32, link, &mut made)?;
+    }
+    Ok(made)
+}
+
+/// The problem of requests whose lines have no fault, with their paths and the links with a variable of their own.
+pub fn assemble(
+    alloc: Global,
+    names: &Names,
+    requests: &Requests,
+    own: &[u32],
+    paths: Vec<Request>,
+) -> Result<Problem, OutOfMemory>
+    requires few { length own.now ≤ 1000 }
+    requires own { own.now ≡ owners requests.now names.now }
+    requires paths { paths.items ≡ filter_map (λ item. request_of names.now (outline names.now) item.what) requests.now.items }
+    requires lines { line_faults names.now requests.now.items ≡ [] }
+    requires ends { ends_faults requests.now names.now requests.now.items ≡ [] }
+    requires costs { cost_faults requests.now names.now 0 names.now.links ≡ [] }
+    ensures { IfOk result (λ problem. problem ≡ problem_of requests.now names.now) }
+{
+    let _lines = items(requests);
+    let _links = names.links();
+    let prices = prices(alloc, names, requests, own)?;
+    let graph = names.graph(alloc, prices.as_slice())?;
+    let vars = var_names(alloc, names, requests, own)?;
+    let low = low_bounds(alloc, names, requests, own)?;
+    let high = high_bounds(alloc, names, requests, own)?;
+    Ok(Problem {
+        graph,
+        vars: Listed::from_items(vars),
+        low: Listed::from_items(low),
+        high: Listed::from_items(high),
+        paths: Listed::from_items(paths),
+    })
+}
