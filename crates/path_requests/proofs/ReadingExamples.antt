@@ -4,8 +4,8 @@ use Rattle.std.specs.Prelude.{Option, Some, None, codes, map}
 use Rattle.std.specs.List.{concat}
 use Rattle.path_requests.specs.declared.Part.TheVariants.{Router, Interface}
 use Rattle.path_requests.specs.declared.Wish.TheVariants.{FreeAll, Free, Fix, Path, SymmetricAll, Symmetric}
-use Rattle.path_requests.specs.declared.statement.LineFault.TheVariants.{BadLine, BadBounds}
-use Rattle.path_requests.specs.declared.statement.Statement.TheVariants.{Passed, Ask, Refused}
+use Rattle.path_requests.specs.declared.reading.statement.LineFault.TheVariants.{BadLine, BadBounds}
+use Rattle.path_requests.specs.declared.reading.statement.Statement.TheVariants.{Passed, Ask, Refused}
 use Rattle.path_requests.specs.Reading.{RequestFault, asked_by, request_fault, said_by}
 
 -- a text of lines

@@ -4,10 +4,10 @@ use Rattle.std.specs.List.{filter_map, list_any}
 use Rattle.cost_base.specs.Lists.{first_of}
 use Rattle.text_lines.specs.Lines.{lines, words}
 use Rattle.path_requests.specs.declared.Item.{Item}
-use Rattle.path_requests.specs.declared.statement.LineFault.{LineFault}
-use Rattle.path_requests.specs.declared.statement.LineFault.TheVariants.{BadLine, BadBounds, TooManyPaths}
-use Rattle.path_requests.specs.declared.statement.Statement.{Statement}
-use Rattle.path_requests.specs.declared.statement.Statement.TheVariants.{Passed, Header, Area, DefaultCost, Ask, Refused}
+use Rattle.path_requests.specs.declared.reading.statement.LineFault.{LineFault}
+use Rattle.path_requests.specs.declared.reading.statement.LineFault.TheVariants.{BadLine, BadBounds, TooManyPaths}
+use Rattle.path_requests.specs.declared.reading.statement.Statement.{Statement}
+use Rattle.path_requests.specs.declared.reading.statement.Statement.TheVariants.{Passed, Header, Area, DefaultCost, Ask, Refused}
 use Rattle.path_requests.specs.declared.stop.RequestStop.{RequestStop}
 use Rattle.path_requests.specs.declared.stop.RequestStop.TheVariants.{Refused as StopRefused, NoCost, OutOfMemory}
 use Rattle.path_requests.specs.Meaning.{Asked, is_path, is_path_wish}

@@ -6,11 +6,11 @@ use Rattle.text_lines.specs.Numbers.{number, number_within, area}
 use Rattle.path_requests.specs.declared.Part.{Part}
 use Rattle.path_requests.specs.declared.Part.TheVariants.{Router, Interface}
 use Rattle.path_requests.specs.declared.Wish.TheVariants.{FreeAll, Free, Fix, Path, SymmetricAll, Symmetric}
-use Rattle.path_requests.specs.declared.statement.LineFault.{LineFault}
-use Rattle.path_requests.specs.declared.statement.LineFault.TheVariants.{BadLine, BadBounds}
-use Rattle.path_requests.specs.declared.statement.Statement.{Statement}
-use Rattle.path_requests.specs.declared.statement.Statement.TheVariants.{Passed, Header, Area, DefaultCost, Ask, Refused}
-use Rattle.path_requests.specs.declared.statement.Bounds.{Bounds}
+use Rattle.path_requests.specs.declared.reading.statement.LineFault.{LineFault}
+use Rattle.path_requests.specs.declared.reading.statement.LineFault.TheVariants.{BadLine, BadBounds}
+use Rattle.path_requests.specs.declared.reading.statement.Statement.{Statement}
+use Rattle.path_requests.specs.declared.reading.statement.Statement.TheVariants.{Passed, Header, Area, DefaultCost, Ask, Refused}
+use Rattle.path_requests.specs.declared.reading.statement.Bounds.{Bounds}
 use Rattle.path_requests.specs.Wishes.{Route}
 use Rattle.path_requests.specs.Routes.{cut, hop_of, route_of}
 
