@@ -56,3 +56,6 @@ fn read_line(
     let said = statement_of(alloc, text)?;
     reader.take(number, said)
 }
+
+#[cfg(test)]
+mod tests;
