@@ -1,5 +1,5 @@
 -- What the reader of a request file keeps while it goes over the lines.
-use Rattle.std.specs.Prelude.{◌≡◌, ℕ, ◌≤◌, List, [], ◌∷◌, ◌++◌, true, false, Option, Some, None, All, count_by}
+use Rattle.std.specs.Prelude.{◌≡◌, ℕ, ◌≤◌, List, [], ◌∷◌, ◌++◌, true, Option, Some, None, All, count_by}
 use Rattle.path_requests.specs.declared.Item.{Item}
 use Rattle.path_requests.specs.declared.reading.statement.LineFault.{LineFault}
 use Rattle.path_requests.specs.declared.reading.statement.Statement.{Statement}

@@ -13,7 +13,7 @@ use line::statement_of;
 use reader::{Reader, refusal};
 use statement::LineFault;
 use std::alloc::Global;
-use text_lines::{Line, Lines};
+use text_lines::Lines;
 
 /// The longest line of a request file, in bytes.
 const LONGEST_LINE: usize = 65_536;

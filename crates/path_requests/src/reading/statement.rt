@@ -2,7 +2,7 @@
 use crate::Wish;
 
 /// Why a line of a request file is refused.
-#[derive(Clone, Copy, Debug, PartialEq, Eq)]
+#[derive(Clone, Copy)]
 pub(crate) enum LineFault {
     /// The line is off the table of lines.
     BadLine,
@@ -13,7 +13,7 @@ pub(crate) enum LineFault {
 }
 
 /// The bounds of a cost.
-#[derive(Clone, Copy, Debug)]
+#[derive(Clone, Copy)]
 pub(crate) struct Bounds {
     pub(crate) lowest: u16,
     pub(crate) highest: u16,
