@@ -6,12 +6,13 @@ use Rattle.std.specs.Prelude.{Option, ◌⊎◌, Contains, String, string_bytes}
 use Rattle.std.specs.declared.alloc.Global.{Global}
 use Rattle.interface_model.specs.Records.{Router}
 use Rattle.config_reader.specs.Configs.{config_of}
+use Rattle.config_reader.specs.FaultList.{config_fault}
 use Rattle.designer_command.specs.declared.stop.Stop.{Stop}
 use Rattle.designer_command.specs.declared.stop.Stop.TheVariants as stops
 use Rattle.designer_command.specs.Texts.{Refusal}
-use Rattle.designer_command.specs.Words.{texts}
-use Rattle.designer_command.specs.Stops.{StopsReading}
-use Rattle.designer_command.specs.Outcomes.{Reading, Untold, Refused, Ready, ◌>>=◌, ConfigFile, if_short, if_thin, config_read, configs_read, routers_of, OnReady, OnRefused}
+use Rattle.command_words.specs.Words.{texts}
+use Rattle.designer_command.specs.Stops.{StopsReading, refusal_in}
+use Rattle.designer_command.specs.Outcomes.{Reading, Untold, Refused, Ready, ◌>>=◌, ConfigFile, if_short, longest_file, if_config, config_read, configs_read, routers_of, OnReady, OnRefused}
 
 -- Of all configurations some are left: one that was read isn't told; or those that were read have these routers, and
 -- what is left says the rest.
@@ -79,7 +80,7 @@ progress_refused held all names name routers P (inr p) h = rw p.2 (refused_by_fi
 
 -- a shelf that holds the same says the same
 pub config_held : (held other : List ℕ → Option (List ℕ)) (name : List ℕ) → other name ≡ held name → config_read other name ≡ config_read held name
-config_held held other name same = ap (λ (file : Option (List ℕ)). if_short name file >>= λ bytes. if_thin name bytes) same
+config_held held other name same = ap (λ (file : Option (List ℕ)). if_short longest_file name file >>= λ bytes. if_config name bytes (config_fault name bytes)) same
 
 one_name : (name other : List ℕ) → Contains (name ∷ []) other → name ≡ other
 one_name name other h = elim (Contains-push_cases [] name other h) [
@@ -95,12 +96,11 @@ pub progress_stops : (held held_now : List ℕ → Option (List ℕ)) (before be
     Progress held all (name ∷ names) routers → held_now name ≡ held name → ((other : List ℕ) → before_now other ≡ before other) → Contains all name →
     StopsReading (config_read held_now name) before_now now (name ∷ []) stop → StopsReading (configs_read held all) before now all stop
 progress_stops held held_now before before_now now all names name routers (stops.Refused number file line) p same counts among h =
-    let P : Refusal → Type 0 = λ r. r ≡ record { number = number; file = string_bytes file.now; line = line } in
+    let P : Refusal → Type 0 = λ r. r ≡ refusal_in number file line in
     progress_refused held all names name routers P p (subst (λ (r : Reading ConfigFile). OnRefused r P) (config_held held held_now name same) h)
 progress_stops held held_now before before_now now all names name routers (stops.ReadFault file) p same counts among h =
     let f = string_bytes file.now in
     (subst (λ (x : List ℕ). Contains all x) (one_name name f h.0) among, subst (λ (n : ℕ). n < now f) (counts f) h.1)
-progress_stops held held_now before before_now now all names name routers stops.CornerNotFit p same counts among h = h
 progress_stops held held_now before before_now now all names name routers stops.OutOfMemory p same counts among h = tt
 
 -- a word's text is among those of all words

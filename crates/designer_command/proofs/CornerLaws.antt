@@ -21,7 +21,7 @@ use Rattle.path_rows.specs.Rows.{IsFit, IsBest, IsRow, box_of, greatest_cost}
 use Rattle.path_rows.specs.Answers.{ShowsLeast}
 use Rattle.path_rows.proofs.ProblemTrees.{le_greatest}
 use Rattle.path_rows.specs.Text.{IsAnswer}
-use Rattle.designer_command.specs.Corners.{LowLines, AnswersLow, ShowsFloor}
+use Rattle.designer_command.specs.Corners.{ArePrintable, LowLines, AnswersLow, ShowsFloor}
 use Rattle.designer_command.proofs.ShortAnswers.{FitsFloor, short_answer}
 use Rattle.designer_command.proofs.ShortLines.{low_lines_short}
 
@@ -93,12 +93,13 @@ floor_least p Empty shows = shows
 floor_least p (Var v) shows = shows
 
 -- the answer at fit lower bounds
-pub low_answers : (p : DesignProblem) (lines : List CostLine) (floor : Floor) → IsFit p p.low → LowLines p.low p.vars lines → ShowsFloor p.low floor →
+pub low_answers : (p : DesignProblem) (lines : List CostLine) (floor : Floor) → ArePrintable p p.low → IsFit p p.low → LowLines p.low p.vars lines → ShowsFloor p.low floor →
     AnswersLow p (record { verdict = Optimal (greatest_cost p.low); costs = Some (record { greatest = greatest_cost p.low; lines = lines }); floor = floor; rows = []; proof = None; unfinished = None })
-low_answers p lines floor fit zip shows =
+low_answers p lines floor printable fit zip shows =
     record {
       costs = record { greatest = greatest_cost p.low; lines = lines };
       printed = refl;
+      printable = printable;
       names = zip;
       valid = record {
         rows = All-nil (IsRow p);
@@ -145,13 +146,13 @@ line_of_name low names i name lines line below is zip same more pushed =
     rw (pushed, names_are) (zip_push R (take i names) lines name line zip here)
 
 -- the same of numbers and lists that are equal to these
-pub low_answers_as : (p : DesignProblem) (k : ℕ) (printed lines : List CostLine) (floor : Floor) (rows : List Row) → IsFit p p.low → LowLines p.low p.vars lines → ShowsFloor p.low floor →
+pub low_answers_as : (p : DesignProblem) (k : ℕ) (printed lines : List CostLine) (floor : Floor) (rows : List Row) → ArePrintable p p.low → IsFit p p.low → LowLines p.low p.vars lines → ShowsFloor p.low floor →
     k ≡ greatest_cost p.low → printed ≡ lines → rows ≡ [] →
     AnswersLow p (record { verdict = Optimal k; costs = Some (record { greatest = k; lines = printed }); floor = floor; rows = rows; proof = None; unfinished = None })
-low_answers_as p k printed lines floor rows fit zip shows greatest same none =
+low_answers_as p k printed lines floor rows printable fit zip shows greatest same none =
     let printed_zip : LowLines p.low p.vars printed = subst (λ (ls : List CostLine). LowLines p.low p.vars ls) (sym same) zip in
     let with_rows : (rs : List Row) → rs ≡ [] → AnswersLow p (record { verdict = Optimal (greatest_cost p.low); costs = Some (record { greatest = greatest_cost p.low; lines = printed }); floor = floor; rows = rs; proof = None; unfinished = None })
-    = λ rs e. rw e (low_answers p printed floor fit printed_zip shows) in
+    = λ rs e. rw e (low_answers p printed floor printable fit printed_zip shows) in
     rw greatest (with_rows rows none)
 
 -- a floor's variable has a number of 32 bits
@@ -169,3 +170,9 @@ low_answer_kept p k printed lines floor rows kept most zip shows greatest same n
     let small : greatest_cost p.low ≤ 65535 = greatest-le 0 65535 p.low (omega arith) most in
     let fits : k ≤ 65535 = omega (arith, greatest) in
     rw none (short_answer (Optimal k) (record { greatest = k; lines = printed }) floor fits (low_lines_short p printed kept most printed_zip) fits (floor_fits p floor kept shows))
+
+-- lower bounds of at most 65,535 can be printed
+pub low_printable : (p : DesignProblem) → IsProblem p → ((v : ℕ) → v < length p.low → slice_index p.low v ≤ 65535) → ArePrintable p p.low
+low_printable p kept most = λ k name within.
+    let below : (get_or p.vars k name).var < length p.low = kept.named k name within in
+    ((kept.ordered (get_or p.vars k name).var below).0, most (get_or p.vars k name).var below)

@@ -9,9 +9,10 @@ use Rattle.lsdb_build.specs.Graphs.{Database}
 use Rattle.path_requests.specs.declared.Wish.TheVariants.{FreeAll, Path}
 use Rattle.path_requests.specs.Meaning.{Asked}
 use Rattle.text_lines.specs.Lines.{lines}
-use Rattle.designer_command.specs.Jobs.{Job, job_of}
-use Rattle.designer_command.specs.ThinRequests.{thin_request}
-use Rattle.designer_command.specs.Outcomes.{Design, Refused, Ready, outcome}
+use Rattle.path_requests.specs.Reading.{request_fault, asked_by}
+use Rattle.designer_command.specs.declared.problem.View.TheVariants.{AsRequested}
+use Rattle.designer_command.specs.Inputs.{InputFiles}
+use Rattle.designer_command.specs.Outcomes.{Input, Refused, Ready, outcome}
 use Rattle.designer_command.specs.ReadBack.{section, graph_back}
 
 abbrev config : List ℕ → List ℕ
@@ -27,11 +28,8 @@ held bounds name =
     else (if same_bytes name (codes "A.conf") then Some (config (codes "10.0.0.1/30"))
     else (if same_bytes name (codes "B.conf") then Some (config (codes "10.0.0.2/30")) else None))
 
-abbrev job : Job
-job = record { request = codes "request.txt"; configs = codes "A.conf" ∷ codes "B.conf" ∷ [] }
-
-words_job : job_of (codes "design" ∷ codes "--request" ∷ codes "request.txt" ∷ codes "A.conf" ∷ codes "B.conf" ∷ []) ≡ Some job
-words_job = refl
+abbrev files : InputFiles
+files = record { request = codes "request.txt"; configs = codes "A.conf" ∷ codes "B.conf" ∷ [] }
 
 abbrev asked : Asked
 asked = record {
@@ -41,8 +39,11 @@ asked = record {
       ∷ record { line = 4; what = Path (record { hops = (codes "A", codes "eth0") ∷ []; last = codes "B" }) [] } ∷ [];
 }
 
-request_asks : thin_request (request (codes "1 65535")) ≡ Some asked
+request_asks : asked_by (request (codes "1 65535")) ≡ asked
 request_asks = refl
+
+request_faultless : request_fault (request (codes "1 65535")) ≡ None
+request_faultless = refl
 
 abbrev database : Database
 database = record {
@@ -52,8 +53,8 @@ database = record {
   subnets = [];
 }
 
-abbrev design : Design
-design = record {
+abbrev input : Input
+input = record {
   asked = asked;
   files = record { name = codes "A.conf"; bytes = config (codes "10.0.0.1/30") } ∷ record { name = codes "B.conf"; bytes = config (codes "10.0.0.2/30") } ∷ [];
   database = database;
@@ -66,8 +67,8 @@ design = record {
   };
 }
 
--- the files say this design
-pair_ready : outcome (held (codes "1 65535")) job ≡ Ready design
+-- what the files say
+pair_ready : outcome AsRequested (held (codes "1 65535")) files ≡ Ready input
 pair_ready = refl
 
 abbrev printed : List ℕ
@@ -78,10 +79,10 @@ pair_section : section (codes "B") (lines printed) ≡ codes "interface eth0" �
 pair_section = refl
 
 -- read back, both interfaces have cost 1
-pair_back : graph_back design printed
+pair_back : graph_back input printed
     ≡ record { vertices = RouterVertex 0 ∷ RouterVertex 1 ∷ []; edges = record { from = 0; to = 1; price = Fixed 1 } ∷ record { from = 1; to = 0; price = Fixed 1 } ∷ [] }
 pair_back = refl
 
--- a lower bound of 0 is off the form
-pair_bad_bounds : outcome (held (codes "0 5")) job ≡ Refused (record { number = 60; file = codes "request.txt"; line = 0 })
+-- a lower bound of 0 is refused at its line
+pair_bad_bounds : outcome AsRequested (held (codes "0 5")) files ≡ Refused (record { number = 25; file = codes "request.txt"; line = 3 })
 pair_bad_bounds = refl

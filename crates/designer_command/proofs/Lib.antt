@@ -5,22 +5,16 @@ pub mod PresentCosts
 pub mod CheapestWith
 pub mod PrintedText
 pub mod PrintedSections
-pub mod ReadyDesigns
+pub mod ReadyInputs
 pub mod LineRuns
 pub mod ReadBackLaws
-pub mod ThinRequestLaws
 pub mod DesignedLaws
-pub mod RequestReading
-pub mod RouteReading
-mod Examples
+pub mod DesignRuns
 pub mod Runs
-pub mod ThinSteps
-pub mod ThinForm
-pub mod ThinReading
-pub mod ThinPlaces
+pub mod Audits
+pub mod OnlyCheapest
 pub mod CornerLaws
 pub mod Pieces
-pub mod ThinFirstPlaces
-pub mod ThinResolving
 pub mod ShortAnswers
 pub mod ShortLines
+mod Examples

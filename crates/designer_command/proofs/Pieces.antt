@@ -1,12 +1,14 @@
 -- Pieces put one after another.
-use Rattle.std.proofs.Common.{◌≡◌, ℕ, ◌+◌, ◌<◌, ◌≤◌, List, [], ◌++◌, length, get_or, drop, suc, refl, sym, ap, ◌∙◌, subst, append_assoc, append-nil, add-one, arith, Option, Some, None, Result, Ok, Err, drop-cons}
+use Rattle.std.proofs.Common.{◌≡◌, ℕ, ◌+◌, ◌<◌, ◌≤◌, List, [], ◌∷◌, ◌++◌, length, get_or, drop, suc, refl, sym, ap, ◌∙◌, subst, append_assoc, append-nil, add-one, arith, Option, Some, None, Result, Ok, Err, drop-cons}
 use Rattle.std.proofs.lemmas.Bool.{false≢true}
 use Rattle.std.specs.Result.{IsErr}
 use Rattle.std.specs.Borrow.{Bor}
+use Rattle.std.specs.Prelude.{Vec}
+use Rattle.std.specs.declared.alloc.Global.{Global}
 use Rattle.cost_base.specs.Outside.{GotWhole, GotPart, HasCause}
 use Rattle.cost_base.proofs.Puts.{whole_whole, whole_part, part_more}
 use Rattle.evidence_text.specs.Lines.{IsPut}
-use Rattle.designer_command.specs.Texts.{joined}
+use Rattle.designer_command.specs.Texts.{joined, bytes_of}
 
 -- of the whole text the sink got all but the pieces that are left
 pub record IsUnderway (before now : Option (List ℕ)) (faults_before faults_now : ℕ) (left total : List ℕ) : Type 0 where
@@ -57,3 +59,13 @@ finish {T} {E} {a} {b} {f0} {f1} {total} {x} u =
 pub joined_turn : (pieces : List (Bor (List ℕ))) (i : ℕ) (d : Bor (List ℕ)) (bytes : List ℕ) → i < length pieces → bytes ≡ (get_or pieces i d).now → joined (drop i pieces) ≡ bytes ++ joined (drop (i + 1) pieces)
 joined_turn pieces i d bytes below is =
     ap joined (drop-cons pieces i d below) ∙ (rw add-one (ap (λ (b : List ℕ). b ++ joined (drop (suc i) pieces)) (sym is)))
+
+-- what is left begins with the next line
+pub bytes_turn : (lines : List (Vec ℕ Global)) (i : ℕ) (d : Vec ℕ Global) (bytes : List ℕ) → i < length lines → bytes ≡ (get_or lines i d).items → bytes_of (drop i lines) ≡ bytes ++ bytes_of (drop (i + 1) lines)
+bytes_turn lines i d bytes below is =
+    ap bytes_of (drop-cons lines i d below) ∙ (rw add-one (ap (λ (b : List ℕ). b ++ bytes_of (drop (suc i) lines)) (sym is)))
+
+-- the lines with one more behind them
+pub bytes_more : (lines : List (Vec ℕ Global)) (line : Vec ℕ Global) → bytes_of (lines ++ line ∷ []) ≡ bytes_of lines ++ line.items
+bytes_more [] line = append-nil line.items
+bytes_more (first ∷ lines) line = ap (λ (bs : List ℕ). first.items ++ bs) (bytes_more lines line) ∙ sym (append_assoc first.items (bytes_of lines) line.items)

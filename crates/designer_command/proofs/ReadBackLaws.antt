@@ -26,9 +26,9 @@ use Rattle.path_rows.specs.Answers.{AnswerParts, Names}
 use Rattle.path_rows.specs.Text.{text}
 use Rattle.path_requests.specs.Meaning.{Asked, present_cost, names_from, problem_of}
 use Rattle.path_requests.proofs.RouteLaws.{same_bytes-true, same_bytes-same}
-use Rattle.designer_command.specs.Outcomes.{ConfigFile, Design, routers_of}
+use Rattle.designer_command.specs.Outcomes.{ConfigFile, Input, routers_of}
 use Rattle.designer_command.specs.ReadBack.{router_back, database_back, graph_back, graph_with}
-use Rattle.designer_command.specs.Readiness.{IsReadyDesign}
+use Rattle.designer_command.proofs.ReadyInputs.{IsReadyInput}
 use Rattle.designer_command.proofs.PresentCosts.{cost_in, line_at, named_lines, costs_by_lines, recosted_graph_is}
 use Rattle.designer_command.proofs.PrintedText.{NamesWords}
 use Rattle.designer_command.proofs.PrintedSections.{pairs_of, OneRun, section_printed}
@@ -154,7 +154,7 @@ router_back_is d asked files a costs w k file base names known within some are t
     (λ name before. pairs_cost (config_of file.name file.bytes).name costs.lines name before ∙ ap (λ (r : List ℕ). cost_in costs.lines r name before) (sym stands)))
 
 -- the database read back is the database with the costs of the lines
-pub database_back_is : (d : Design) (a : AnswerParts) (costs : Costs) (w : List ℕ) → d.database ≡ database_of d.asked.area (routers_of d.files) → IsDatabase d.database → a.costs ≡ Some costs → costs.lines ≡ map (line_at w) (names_from d.asked d.database 0 d.database.links) →
+pub database_back_is : (d : Input) (a : AnswerParts) (costs : Costs) (w : List ℕ) → d.database ≡ database_of d.asked.area (routers_of d.files) → IsDatabase d.database → a.costs ≡ Some costs → costs.lines ≡ map (line_at w) (names_from d.asked d.database 0 d.database.links) →
     All (λ name. (1 ≤ slice_index w name.var) × (slice_index w name.var ≤ 65535)) (names_from d.asked d.database 0 d.database.links) → database_back d (text a) ≡ recosted (costs_by_lines costs.lines d.database.routers) d.database
 database_back_is d a costs w is base some are within =
     let names : d.database.routers ≡ map (λ r. r.name) (routers_of d.files) = ap (λ (b : Database). b.routers) is in
@@ -170,7 +170,7 @@ database_back_is d a costs w is base some are within =
     ∙ ap (recosted c) (sym is)
 
 -- Costs that are printed, read back, give the graph that was designed, at the costs.
-pub graph_back_is : (d : Design) (a : AnswerParts) (costs : Costs) (w : List ℕ) → IsReadyDesign d → IsDatabase d.database → a.costs ≡ Some costs → Names d.problem costs.lines w → All (λ name. (1 ≤ slice_index w name.var) × (slice_index w name.var ≤ 65535)) d.problem.vars → graph_back d (text a) ≡ graph_with w d.problem.graph
+pub graph_back_is : (d : Input) (a : AnswerParts) (costs : Costs) (w : List ℕ) → IsReadyInput d → IsDatabase d.database → a.costs ≡ Some costs → Names d.problem costs.lines w → All (λ name. (1 ≤ slice_index w name.var) × (slice_index w name.var ≤ 65535)) d.problem.vars → graph_back d (text a) ≡ graph_with w d.problem.graph
 graph_back_is d a costs w ready base some names within =
     let zip : Names (problem_of d.asked d.database) costs.lines w = subst (λ (p : DesignProblem). Names p costs.lines w) ready.problem_is names in
     let inside : All (λ name. (1 ≤ slice_index w name.var) × (slice_index w name.var ≤ 65535)) (names_from d.asked d.database 0 d.database.links)

@@ -1,23 +1,21 @@
 -- Readings of files, one bound after another.
-use Rattle.std.proofs.Common.{◌≡◌, ℕ, ◌≤◌, refl, List, length}
+use Rattle.std.proofs.Common.{◌≡◌, ℕ, ◌≤◌, refl, subst, List, length}
 use Rattle.std.proofs.lemmas.Bool.{lt-ltb, le-ltb}
 use Rattle.std.specs.Prelude.{Option, Some, None}
 use Rattle.cost_base.specs.Outside.{IsFile, IsLonger}
-use Rattle.path_requests.specs.Meaning.{Asked}
-use Rattle.designer_command.specs.ThinRequests.{thin_request}
 use Rattle.designer_command.specs.Texts.{Refusal}
-use Rattle.designer_command.specs.Outcomes.{Reading, Untold, Refused, Ready, ◌>>=◌, if_short, longest_file, too_long, if_asked, OnReady, OnRefused}
+use Rattle.designer_command.specs.Outcomes.{Reading, Untold, Refused, Ready, ◌>>=◌, if_short, too_long, OnReady, OnRefused}
 
 -- a file that was read and isn't too long is ready
-pub file_ready : (name : List ℕ) (file : Option (List ℕ)) (bytes : List ℕ) → IsFile file bytes → length bytes ≤ longest_file → OnReady (if_short name file) (λ read. bytes ≡ read)
-file_ready name None bytes same short = tt
-file_ready name (Some file) bytes same short =
-    rw (← same) (rw (le-ltb longest_file (length bytes) short) refl)
+pub file_ready : (most : ℕ) (name : List ℕ) (file : Option (List ℕ)) (bytes : List ℕ) → IsFile file bytes → length bytes ≤ most → OnReady (if_short most name file) (λ read. bytes ≡ read)
+file_ready most name None bytes same short = tt
+file_ready most name (Some file) bytes same short =
+    rw (← same) (rw (le-ltb most (length bytes) short) refl)
 
 -- a longer file is refused
-pub file_refused : (name : List ℕ) (file : Option (List ℕ)) → IsLonger file longest_file → OnRefused (if_short name file) (λ r. r ≡ too_long name)
-file_refused name None long = tt
-file_refused name (Some file) long = rw (lt-ltb longest_file (length file) long) refl
+pub file_refused : (most : ℕ) (name : List ℕ) (file : Option (List ℕ)) → IsLonger file most → OnRefused (if_short most name file) (λ r. r ≡ too_long name)
+file_refused most name None long = tt
+file_refused most name (Some file) long = rw (lt-ltb most (length file) long) refl
 
 -- where the one is ready and then the other, both are
 pub both_ready : {A B : Type 0} (r : Reading A) (f : A → Reading B) (P : B → Type 0) → OnReady r (λ x. OnReady (f x) P) → OnReady (r >>= f) P
@@ -49,10 +47,14 @@ refused_so Untold P Q h f = tt
 refused_so (Refused refusal) P Q h f = f refusal h
 refused_so (Ready x) P Q h f = absurd h
 
--- a request file that was read, and says what is asked
-pub asked_ready : (name : List ℕ) (file : Option (List ℕ)) (bytes : List ℕ) (asked : Asked) → IsFile file bytes → length bytes ≤ longest_file → thin_request bytes ≡ Some asked →
-    OnReady (if_short name file >>= λ read. if_asked name (thin_request read)) (λ a. asked ≡ a)
-asked_ready name file bytes asked same short says =
-    let P : Asked → Type 0 = λ a. asked ≡ a in
-    let f : List ℕ → Reading Asked = λ read. if_asked name (thin_request read) in
-    both_ready (if_short name file) f P (ready_so (if_short name file) (λ read. bytes ≡ read) (λ read. OnReady (f read) P) (file_ready name file bytes same short) (λ read e. rw (← e) (rw says refl)))
+-- a file that was read, with what is read of its bytes
+pub bytes_ready : {A : Type 0} (most : ℕ) (name : List ℕ) (file : Option (List ℕ)) (bytes : List ℕ) (f : List ℕ → Reading A) (P : A → Type 0) → IsFile file bytes → length bytes ≤ most → OnReady (f bytes) P → OnReady (if_short most name file >>= f) P
+bytes_ready most name file bytes f P same short ready =
+    both_ready (if_short most name file) f P
+    (ready_so (if_short most name file) (λ read. bytes ≡ read) (λ read. OnReady (f read) P) (file_ready most name file bytes same short) (λ read e. subst (λ (b : List ℕ). OnReady (f b) P) e ready))
+
+-- a file that was read, whose bytes are refused
+pub bytes_refused : {A : Type 0} (most : ℕ) (name : List ℕ) (file : Option (List ℕ)) (bytes : List ℕ) (f : List ℕ → Reading A) (P : Refusal → Type 0) → IsFile file bytes → length bytes ≤ most → OnRefused (f bytes) P → OnRefused (if_short most name file >>= f) P
+bytes_refused most name file bytes f P same short refused =
+    second_refused (if_short most name file) f P
+    (ready_so (if_short most name file) (λ read. bytes ≡ read) (λ read. OnRefused (f read) P) (file_ready most name file bytes same short) (λ read e. subst (λ (b : List ℕ). OnRefused (f b) P) e refused))

@@ -1,15 +1,20 @@
--- What the files of a job say, read in their order: the request, each configuration, the topology, resolution.
-use Rattle.std.specs.Prelude.{ℕ, List, [], ◌∷◌, nat_lt, if◌then◌else◌, Option, Some, None, length, map}
+-- What the files of a network say, read in their order: the request, each configuration, the topology, resolution.
+use Rattle.std.specs.Prelude.{ℕ, List, [], ◌∷◌, nat_lt, if◌then◌else◌, Option, Some, None, length, map, slice_get, slice_index_or}
 use Rattle.interface_model.specs.Records.{Router}
 use Rattle.config_reader.specs.Configs.{config_of}
+use Rattle.config_reader.specs.declared.ConfigFault.{ConfigFault}
+use Rattle.config_reader.specs.declared.ConfigFault.TheVariants.{LongLine, BadAddress, BadNumber, BadArea, Unsupported, SecondAddress, AreaTwice, BadName}
+use Rattle.config_reader.specs.FaultList.{Fault, config_fault}
+use Rattle.lsdb_build.specs.declared.Linked.{Linked}
 use Rattle.lsdb_build.specs.Graphs.{Database}
 use Rattle.lsdb_build.specs.Topology.{TopologyFault, topology_fault, database_of}
 use Rattle.path_rows.specs.Problems.{DesignProblem}
 use Rattle.path_requests.specs.Meaning.{Asked, problem_of}
-use Rattle.path_requests.specs.Resolution.{resolves}
-use Rattle.designer_command.specs.Jobs.{Job}
-use Rattle.designer_command.specs.ThinConfigs.{is_thin_config}
-use Rattle.designer_command.specs.ThinRequests.{thin_request}
+use Rattle.path_requests.specs.Reading.{RequestFault, request_fault, asked_by}
+use Rattle.path_requests.specs.Resolving.{ResolutionFault, AtLine, LacksCost, resolution_fault, present_fault, present_problem_of}
+use Rattle.designer_command.specs.declared.problem.View.{View}
+use Rattle.designer_command.specs.declared.problem.View.TheVariants.{AsRequested, AtPresent}
+use Rattle.designer_command.specs.Inputs.{InputFiles}
 use Rattle.designer_command.specs.Texts.{Refusal}
 
 -- a configuration: its file's name and its bytes
@@ -17,8 +22,8 @@ pub record ConfigFile : Type 0 where
   pub name : List ℕ
   pub bytes : List ℕ
 
--- what well-formed input asks for
-pub record Design : Type 0 where
+-- what well-formed input says
+pub record Input : Type 0 where
   pub asked : Asked
   pub files : List ConfigFile
   pub database : Database
@@ -44,33 +49,39 @@ longest_file = 4194304
 abbrev pub too_long : List ℕ → Refusal
 too_long file = record { number = 9; file = file; line = 0 }
 
--- for now: off the form that is read, or off the rules of a topology or a request
-abbrev pub off_form : List ℕ → Refusal
-off_form file = record { number = 60; file = file; line = 0 }
+abbrev pub if_short : ℕ → List ℕ → Option (List ℕ) → Reading (List ℕ)
+if_short most name None = Untold
+if_short most name (Some bytes) = if nat_lt most (length bytes) then Refused (too_long name) else Ready bytes
 
-abbrev pub if_short : List ℕ → Option (List ℕ) → Reading (List ℕ)
-if_short name None = Untold
-if_short name (Some bytes) = if nat_lt longest_file (length bytes) then Refused (too_long name) else Ready bytes
+-- the bytes of a file of at most so many, where a shelf holds these
+abbrev pub file_read : (List ℕ → Option (List ℕ)) → ℕ → List ℕ → Reading (List ℕ)
+file_read held most name = if_short most name (held name)
 
--- the bytes of a file, where a shelf holds these
-abbrev pub file_read : (List ℕ → Option (List ℕ)) → List ℕ → Reading (List ℕ)
-file_read held name = if_short name (held name)
-
-abbrev pub if_asked : List ℕ → Option Asked → Reading Asked
-if_asked name None = Refused (off_form name)
-if_asked name (Some asked) = Ready asked
+abbrev pub if_asked : List ℕ → List ℕ → Option RequestFault → Reading Asked
+if_asked name bytes None = Ready (asked_by bytes)
+if_asked name bytes (Some fault) = Refused (record { number = fault.number; file = name; line = fault.line })
 
 -- the request: its file's size, and then its lines
 abbrev pub request_read : (List ℕ → Option (List ℕ)) → List ℕ → Reading Asked
-request_read held name = file_read held name >>= λ bytes. if_asked name (thin_request bytes)
+request_read held name = file_read held longest_file name >>= λ bytes. if_asked name bytes (request_fault bytes)
 
-abbrev pub if_thin : List ℕ → List ℕ → Reading ConfigFile
-if_thin name bytes =
-    if is_thin_config name bytes then Ready (record { name = name; bytes = bytes }) else Refused (off_form name)
+abbrev pub fault_number : ConfigFault → ℕ
+fault_number LongLine = 1
+fault_number BadAddress = 2
+fault_number BadNumber = 3
+fault_number BadArea = 4
+fault_number Unsupported = 5
+fault_number SecondAddress = 6
+fault_number AreaTwice = 7
+fault_number BadName = 8
+
+abbrev pub if_config : List ℕ → List ℕ → Option Fault → Reading ConfigFile
+if_config name bytes None = Ready (record { name = name; bytes = bytes })
+if_config name bytes (Some fault) = Refused (record { number = fault_number fault.fault; file = name; line = fault.line })
 
 -- a configuration: its file's size, and then its lines
 abbrev pub config_read : (List ℕ → Option (List ℕ)) → List ℕ → Reading ConfigFile
-config_read held name = file_read held name >>= λ bytes. if_thin name bytes
+config_read held name = file_read held longest_file name >>= λ bytes. if_config name bytes (config_fault name bytes)
 
 -- the configurations in word order
 abbrev pub configs_read : (List ℕ → Option (List ℕ)) → List (List ℕ) → Reading (List ConfigFile)
@@ -81,25 +92,43 @@ configs_read held (name ∷ names) =
 abbrev pub routers_of : List ConfigFile → List Router
 routers_of files = map (λ file. config_of file.name file.bytes) files
 
-abbrev pub if_faultless : List ℕ → ℕ → List Router → Option TopologyFault → Reading Database
-if_faultless request area routers (Some fault) = Refused (off_form request)
-if_faultless request area routers None = Ready (database_of area routers)
+-- the file of a router's configuration; there is one for each router
+abbrev pub file_of : InputFiles → ℕ → List ℕ
+file_of names router = slice_index_or names.configs router names.request
 
--- the topology; for now its faults are told of the request
-abbrev pub topology_read : List ℕ → ℕ → List Router → Reading Database
-topology_read request area routers = if_faultless request area routers (topology_fault area routers)
+abbrev pub if_faultless : InputFiles → Database → Option TopologyFault → Reading Database
+if_faultless names d None = Ready d
+if_faultless names d (Some fault) = Refused (record { number = fault.number; file = file_of names fault.config; line = fault.line })
 
--- the problem that the requests make of the database
-abbrev pub problem_read : List ℕ → Asked → Database → Reading DesignProblem
-problem_read request asked d = if resolves asked d then Ready (problem_of asked d) else Refused (off_form request)
+-- the topology
+abbrev pub topology_read : InputFiles → ℕ → List Router → Reading Database
+topology_read names area routers = if_faultless names (database_of area routers) (topology_fault area routers)
 
--- what the files of a job say, where a shelf holds these
-abbrev pub outcome : (List ℕ → Option (List ℕ)) → Job → Reading Design
-outcome held job =
-    request_read held job.request >>= λ asked.
-    configs_read held job.configs >>= λ files.
-    topology_read job.request asked.area (routers_of files) >>= λ d.
-    problem_read job.request asked d >>= λ p.
+-- an interface without a cost is refused at its first head
+abbrev pub cost_refusal : InputFiles → Option Linked → Refusal
+cost_refusal names None = record { number = 26; file = names.request; line = 0 }
+cost_refusal names (Some link) = record { number = 26; file = file_of names link.router; line = link.line }
+
+abbrev pub resolution_refusal : InputFiles → Database → ResolutionFault → Refusal
+resolution_refusal names d (AtLine number line hop) = record { number = number; file = names.request; line = line }
+resolution_refusal names d (LacksCost l) = cost_refusal names (slice_get d.links l)
+
+abbrev pub if_resolved : InputFiles → Database → DesignProblem → Option ResolutionFault → Reading DesignProblem
+if_resolved names d p None = Ready p
+if_resolved names d p (Some fault) = Refused (resolution_refusal names d fault)
+
+-- the problem that the requests make of the database: with the interfaces that they free, or with every interface as it is
+abbrev pub problem_read : View → InputFiles → Asked → Database → Reading DesignProblem
+problem_read AsRequested names asked d = if_resolved names d (problem_of asked d) (resolution_fault asked d)
+problem_read AtPresent names asked d = if_resolved names d (present_problem_of asked d) (present_fault asked d)
+
+-- what the files say, where a shelf holds these
+abbrev pub outcome : View → (List ℕ → Option (List ℕ)) → InputFiles → Reading Input
+outcome view held names =
+    request_read held names.request >>= λ asked.
+    configs_read held names.configs >>= λ files.
+    topology_read names asked.area (routers_of files) >>= λ d.
+    problem_read view names asked d >>= λ p.
     Ready (record { asked = asked; files = files; database = d; problem = p })
 
 -- the shelf doesn't tell a file; or the input is well-formed and P holds of what it says

@@ -11,7 +11,7 @@ use Rattle.config_reader.specs.Sections.{ended, with_ends}
 use Rattle.lsdb_build.specs.Graphs.{Database, graph_at}
 use Rattle.lsdb_build.specs.Topology.{database_of}
 use Rattle.path_requests.specs.Meaning.{present_cost}
-use Rattle.designer_command.specs.Outcomes.{Design, ConfigFile}
+use Rattle.designer_command.specs.Outcomes.{Input, ConfigFile}
 
 -- `router NAME`
 abbrev pub opens_section : List ℕ → List ℕ → Bool
@@ -38,11 +38,11 @@ router_back text file =
 abbrev pub routers_back : List ℕ → List ConfigFile → List Router
 routers_back text files = map (router_back text) files
 
-abbrev pub database_back : Design → List ℕ → Database
+abbrev pub database_back : Input → List ℕ → Database
 database_back d text = database_of d.asked.area (routers_back text d.files)
 
 -- the graph of the network read back: each linked interface at its cost there, or at the request's default
-abbrev pub graph_back : Design → List ℕ → Area
+abbrev pub graph_back : Input → List ℕ → Area
 graph_back d text =
     graph_at (database_back d text) (map (λ link. Fixed (present_cost d.asked link)) (database_back d text).links)
 

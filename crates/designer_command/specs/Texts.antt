@@ -1,5 +1,6 @@
 -- The lines that a run writes beside an answer.
-use Rattle.std.specs.Prelude.{ℕ, List, [], ◌∷◌, ◌++◌, codes, map}
+use Rattle.std.specs.Prelude.{ℕ, List, [], ◌∷◌, ◌++◌, codes, map, Vec}
+use Rattle.std.specs.declared.alloc.Global.{Global}
 use Rattle.std.specs.List.{concat, join_with_byte}
 use Rattle.std.specs.Borrow.{Bor}
 use Rattle.cost_base.specs.Decimal.{decimal}
@@ -45,3 +46,7 @@ usage = with_ends usage_lines
 -- pieces of text, one after another
 abbrev pub joined : List (Bor (List ℕ)) → List ℕ
 joined pieces = concat (map (λ piece. piece.now) pieces)
+
+-- lines that were made, one after another
+abbrev pub bytes_of : List (Vec ℕ Global) → List ℕ
+bytes_of lines = concat (map (λ line. line.items) lines)

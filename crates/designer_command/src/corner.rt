@@ -3,9 +3,11 @@ ghost use Rattle.std.specs.Prelude.{◌≡◌, ◌↔◌, ◌<◌, ◌≤◌, �
 ghost use Rattle.area_graph.specs.Costs.{at_costs};
 ghost use Rattle.path_rows.specs.Rows.{IsFit};
 
-use area_graph::{Point, is_only_cheapest};
+use crate::rivals::is_only;
+use area_graph::Point;
 use cost_base::{Listed, OutOfMemory};
 use path_rows::Problem;
+use spf_ties::Room;
 use std::alloc::Global;
 
 /// The point at which each variable has its lower bound.
@@ -29,16 +31,9 @@ pub(crate) fn corner_is_fit(alloc: Global, problem: &Problem) -> Result<bool, Ou
     ensures { IfOk result (λ yes. IsTrue yes ↔ IsFit problem.now problem.now.low) }
 {
     let point = low_point(alloc, problem)?;
+    let mut room = Room::new(alloc, &problem.graph)?;
     for request in problem.paths.as_slice() {
-        let gone = request.gone.as_slice();
-        if !is_only_cheapest(
-            alloc,
-            &problem.graph,
-            &point,
-            &request.path,
-            request.end,
-            gone,
-        )? {
+        if !is_only(&problem.graph, request, &point, &mut room) {
             return Ok(false);
         }
     }

@@ -1,22 +1,17 @@
 //! The top call: from words and files to printed costs.
 #![tactic(auto)]
 
+mod audit;
 mod corner;
 mod design;
 mod floor;
 mod lines;
 mod problem;
 mod reading;
+mod rivals;
 mod stop;
 #[cfg(test)]
 mod tests;
-mod thin;
-mod thin_config;
-mod thin_lookup;
-mod thin_request;
-mod thin_resolve;
-mod thin_route;
 mod top_call;
-mod words;
 
 pub use top_call::run;

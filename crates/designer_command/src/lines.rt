@@ -2,7 +2,7 @@
 ghost use Rattle.std.specs.Prelude.{◌≡◌, ◌++◌, IfOk, OnOk, string_bytes};
 ghost use Rattle.cost_base.specs.Decimal.{decimal};
 ghost use Rattle.evidence_text.specs.Lines.{IsPut};
-ghost use Rattle.designer_command.specs.Texts.{refused_line, read_fault_line, usage, joined};
+ghost use Rattle.designer_command.specs.Texts.{refused_line, read_fault_line, usage, joined, bytes_of};
 
 use cost_base::{OutOfMemory, PutFailed, Sink};
 use std::alloc::Global;
@@ -39,8 +39,18 @@ fn put_pieces<K: Sink>(pieces: &[&str], out: &mut K) -> Result<(), PutFailed>
     Ok(())
 }
 
+/// Puts lines that were made, one after another.
+pub(crate) fn put_lines<K: Sink>(lines: &[Vec<u8>], out: &mut K) -> Result<(), PutFailed>
+    ensures { IsPut (K.got out.old) (K.got out.new) (K.faults out.old) (K.faults out.new) (bytes_of lines.now) result }
+{
+    for line in lines {
+        out.put(line)?;
+    }
+    Ok(())
+}
+
 /// Adds bytes at the end.
-fn push_bytes(line: &mut Vec<u8>, bytes: &[u8]) -> Result<(), OutOfMemory>
+pub(crate) fn push_bytes(line: &mut Vec<u8>, bytes: &[u8]) -> Result<(), OutOfMemory>
     ensures { OnOk result (line.new.items ≡ line.old.items ++ bytes.now) }
 {
     line.extend_from_slice(bytes)?;
@@ -48,7 +58,7 @@ fn push_bytes(line: &mut Vec<u8>, bytes: &[u8]) -> Result<(), OutOfMemory>
 }
 
 /// Adds the decimal digits of a number at the end.
-fn push_number(line: &mut Vec<u8>, number: u128) -> Result<(), OutOfMemory>
+pub(crate) fn push_number(line: &mut Vec<u8>, number: u128) -> Result<(), OutOfMemory>
     ensures { OnOk result (line.new.items ≡ line.old.items ++ decimal number) }
 {
     let mut room = [0; 40];

@@ -1,61 +1,49 @@
-//! Reading the files of a job, in their order.
-ghost use Rattle.std.specs.Prelude.{◌≡◌, ℕ, List, [], ◌∷◌, ◌≤◌, ◌<◌, IfOk, IfErr, OnOk, IsErrOf, string_bytes, length};
+//! Reading the files that words name, in their order.
+ghost use Rattle.std.specs.Prelude.{◌≡◌, ℕ, List, [], ◌∷◌, ◌≤◌, ◌<◌, ◌^◌, IfOk, IfErr, OnOk, IsErrOf, string_bytes, length};
 ghost use Rattle.cost_base.specs.Outside.{IsFile, IsLonger, CountsFaults};
 ghost use Rattle.config_reader.specs.Configs.{config_of};
-ghost use Rattle.designer_command.specs.Outcomes.{OnReady, OnRefused, request_read, configs_read, config_read, routers_of};
-ghost use Rattle.designer_command.specs.Stops.{StopsReading, file_stop, form_stop};
-ghost use Rattle.designer_command.specs.ThinRequests.{IsThin};
-ghost use Rattle.designer_command.specs.Words.{texts};
+ghost use Rattle.command_words.specs.Words.{texts};
+ghost use Rattle.designer_command.specs.Outcomes.{OnReady, OnRefused, request_read, configs_read, config_read, routers_of, fault_number};
+ghost use Rattle.designer_command.specs.Stops.{StopsReading, file_stop, request_stop, config_stop};
 
 use crate::stop::Stop;
-use crate::thin::ThinStop;
-use crate::thin_config::read_thin_config;
-use crate::thin_request::read_thin_request;
+use config_reader::{ConfigFault, ConfigStop};
 use cost_base::{Shelf, ShelfStop};
 use interface_model::RouterConfig;
-use path_requests::Requests;
+use path_requests::{RequestStop, Requests, read_requests};
 use std::alloc::Global;
+
+/// The files that words name: a request, and configurations in their order.
+#[derive(Clone, Copy)]
+pub(crate) struct FileWords<'a> {
+    pub request: &'a String,
+    pub configs: &'a [String],
+}
 
 /// The greatest length of a request and of a configuration: 4 MiB.
 const LONGEST_FILE: usize = 4_194_304;
 
-/// The bytes of a file, of which there are at most 4 MiB.
-fn read_file<S: Shelf>(alloc: Global, shelf: &mut S, name: &String) -> Result<Vec<u8>, ShelfStop>
+/// The bytes of a file, of which there are at most so many.
+pub(crate) fn read_file<S: Shelf>(
+    alloc: Global,
+    shelf: &mut S,
+    name: &String,
+    most: usize,
+) -> Result<Vec<u8>, ShelfStop>
+    requires { most < 2 ^ 31 }
     ensures read { IfOk result (λ bytes. IsFile (S.held shelf.old (string_bytes name.now)) bytes.items) }
-    ensures within { IfOk result (λ bytes. length bytes.items ≤ 4194304) }
-    ensures too_long { IsErrOf result ShelfStop.TooLong → IsLonger (S.held shelf.old (string_bytes name.now)) 4194304 }
+    ensures within { IfOk result (λ bytes. length bytes.items ≤ most) }
+    ensures too_long { IsErrOf result ShelfStop.TooLong → IsLonger (S.held shelf.old (string_bytes name.now)) most }
     ensures held { (other : List ℕ) → S.held shelf.new other ≡ S.held shelf.old other }
     ensures faults { CountsFaults (S.faults shelf.old) (S.faults shelf.new) (string_bytes name.now) result }
 {
     let mut bytes = Vec::new(alloc);
-    shelf.take(name.as_str(), LONGEST_FILE, &mut bytes)?;
+    shelf.take(name.as_str(), most, &mut bytes)?;
     Ok(bytes)
 }
 
-/// What the request file asks for.
-pub(crate) fn read_request<'a, S: Shelf>(
-    alloc: Global,
-    shelf: &mut S,
-    name: &'a String,
-) -> Result<Requests, Stop<'a>>
-    ensures read { IfOk result (λ r. OnReady (request_read (S.held shelf.old) (string_bytes name.now)) (λ asked. r ≡ asked)) }
-    ensures thin { IfOk result IsThin }
-    ensures stop { IfErr result (StopsReading (request_read (S.held shelf.old) (string_bytes name.now)) (S.faults shelf.old) (S.faults shelf.new) (string_bytes name.now ∷ [])) }
-    ensures held { (other : List ℕ) → S.held shelf.new other ≡ S.held shelf.old other }
-    ensures faults { OnOk result ((other : List ℕ) → S.faults shelf.new other ≡ S.faults shelf.old other) }
-{
-    let bytes = match read_file(alloc, shelf, name) {
-        Ok(bytes) => bytes,
-        Err(stop) => return Err(stop_of_file(stop, name)),
-    };
-    match read_thin_request(alloc, &bytes) {
-        Ok(requests) => Ok(requests),
-        Err(stop) => Err(stop_of_form(stop, name)),
-    }
-}
-
 /// The stop of a file that wasn't read.
-fn stop_of_file(stop: ShelfStop, file: &String) -> Stop<'_>
+pub(crate) fn stop_of_file(stop: ShelfStop, file: &String) -> Stop<'_>
     ensures { result ≡ file_stop stop file.entry }
 {
     match stop {
@@ -69,22 +57,69 @@ fn stop_of_file(stop: ShelfStop, file: &String) -> Stop<'_>
     }
 }
 
-/// The stop of a file off the form that is read for now.
-fn stop_of_form(stop: ThinStop, file: &String) -> Stop<'_>
-    ensures { result ≡ form_stop stop file.entry }
+/// The stop of a request that is refused by itself.
+fn stop_of_request(stop: RequestStop, file: &String) -> Stop<'_>
+    ensures { result ≡ request_stop stop file.entry }
 {
     match stop {
-        ThinStop::OffForm => Stop::Refused {
-            number: 60,
+        RequestStop::Refused { number, line, .. } => Stop::Refused { number, file, line },
+        RequestStop::NoCost { .. } | RequestStop::OutOfMemory => Stop::OutOfMemory,
+    }
+}
+
+/// What the request file asks for.
+pub(crate) fn read_request<'a, S: Shelf>(
+    alloc: Global,
+    shelf: &mut S,
+    name: &'a String,
+) -> Result<Requests, Stop<'a>>
+    ensures read { IfOk result (λ r. OnReady (request_read (S.held shelf.old) (string_bytes name.now)) (λ asked. r ≡ asked)) }
+    ensures stop { IfErr result (StopsReading (request_read (S.held shelf.old) (string_bytes name.now)) (S.faults shelf.old) (S.faults shelf.new) (string_bytes name.now ∷ [])) }
+    ensures held { (other : List ℕ) → S.held shelf.new other ≡ S.held shelf.old other }
+    ensures faults { OnOk result ((other : List ℕ) → S.faults shelf.new other ≡ S.faults shelf.old other) }
+{
+    let bytes = match read_file(alloc, shelf, name, LONGEST_FILE) {
+        Ok(bytes) => bytes,
+        Err(stop) => return Err(stop_of_file(stop, name)),
+    };
+    match read_requests(alloc, &bytes) {
+        Ok(requests) => Ok(requests),
+        Err(stop) => Err(stop_of_request(stop, name)),
+    }
+}
+
+/// The number of a fault of a configuration.
+fn number_of(fault: ConfigFault) -> u8
+    ensures { result ≡ fault_number fault }
+{
+    match fault {
+        ConfigFault::LongLine => 1,
+        ConfigFault::BadAddress => 2,
+        ConfigFault::BadNumber => 3,
+        ConfigFault::BadArea => 4,
+        ConfigFault::Unsupported => 5,
+        ConfigFault::SecondAddress => 6,
+        ConfigFault::AreaTwice => 7,
+        ConfigFault::BadName => 8,
+    }
+}
+
+/// The stop of a configuration that is refused.
+fn stop_of_config(stop: ConfigStop, file: &String) -> Stop<'_>
+    ensures { result ≡ config_stop stop file.entry }
+{
+    match stop {
+        ConfigStop::Refused { fault, line } => Stop::Refused {
+            number: number_of(fault),
             file,
-            line: 0,
+            line,
         },
-        ThinStop::OutOfMemory => Stop::OutOfMemory,
+        ConfigStop::OutOfMemory => Stop::OutOfMemory,
     }
 }
 
 /// What a configuration says.
-fn read_config<'a, S: Shelf>(
+pub(crate) fn read_config<'a, S: Shelf>(
     alloc: Global,
     shelf: &mut S,
     name: &'a String,
@@ -94,13 +129,13 @@ fn read_config<'a, S: Shelf>(
     ensures held { (other : List ℕ) → S.held shelf.new other ≡ S.held shelf.old other }
     ensures faults { OnOk result ((other : List ℕ) → S.faults shelf.new other ≡ S.faults shelf.old other) }
 {
-    let bytes = match read_file(alloc, shelf, name) {
+    let bytes = match read_file(alloc, shelf, name, LONGEST_FILE) {
         Ok(bytes) => bytes,
         Err(stop) => return Err(stop_of_file(stop, name)),
     };
-    match read_thin_config(alloc, name.as_bytes(), &bytes) {
+    match config_reader::read_config(alloc, name.as_str(), &bytes) {
         Ok(config) => Ok(config),
-        Err(stop) => Err(stop_of_form(stop, name)),
+        Err(stop) => Err(stop_of_config(stop, name)),
     }
 }
 

@@ -1,8 +1,8 @@
-//! Why a design wasn't made.
+//! What ends a command before its own work.
 
 use cost_base::OutOfMemory;
 
-/// What ends a design before its answer: a refusal of input with its number, file and line; a file that failed; lower bounds that aren't fit; want of memory.
+/// A refusal of input with its number, file and line; a file that failed; want of memory.
 #[derive(Clone, Copy)]
 pub(crate) enum Stop<'a> {
     Refused {
@@ -13,7 +13,6 @@ pub(crate) enum Stop<'a> {
     ReadFault {
         file: &'a String,
     },
-    CornerNotFit,
     OutOfMemory,
 }
 

@@ -1,15 +1,22 @@
 //! The top call.
-ghost use Rattle.std.specs.Prelude.{◌≡◌, ℕ, List, MatchResult};
-ghost use Rattle.designer_command.specs.Designs.{RunMeets};
-ghost use Rattle.designer_command.specs.Stops.{IsEnd, StopEnds, status_after};
-ghost use Rattle.designer_command.specs.Words.{texts};
+ghost use Rattle.std.specs.Prelude.{◌≡◌, ℕ, List, MatchOption, MatchResult, string_bytes};
+ghost use Rattle.command_words.specs.Jobs.{seen};
+ghost use Rattle.command_words.specs.Words.{texts};
+ghost use Rattle.designer_command.specs.Runs.{Ends, MayAudit, MayDesign, MayWrite, RunMeets};
+ghost use Rattle.path_rows.specs.Text.{text};
+ghost use Rattle.designer_command.specs.Texts.{corner_line};
+ghost use Rattle.designer_command.specs.Stops.{IsEnd, StopEnds, files_named, status_after};
+ghost use Rattle.std.specs.Prelude.{Some};
 
+use crate::audit::audit_files;
 use crate::design::design;
-use crate::lines::{put_usage, read_fault_line_of, refused_line_of};
+use crate::lines::{put_lines, put_usage, read_fault_line_of, refused_line_of};
+use crate::reading::FileWords;
 use crate::stop::Stop;
-use crate::words::read_job;
+use command_words::{Job, WordsStop, read_words};
 use cost_base::{OutOfMemory, PutFailed, Shelf, Sink, Status};
 use evidence_text::put_answer;
+use path_rows::Answer;
 use std::alloc::Global;
 
 /// The status of a run whose text was put, or not put whole.
@@ -33,7 +40,7 @@ fn put_line<K: Sink>(line: Result<Vec<u8>, OutOfMemory>, aim: Status, out: &mut 
     }
 }
 
-/// Writes why a design stopped before its answer.
+/// Writes why a command stopped before its own work.
 fn write_stop<K: Sink>(alloc: Global, stop: Stop<'_>, out: &mut K) -> Status
     ensures { StopEnds stop.entry (K.got out.old) (K.got out.new) (K.faults out.old) (K.faults out.new) result }
 {
@@ -46,10 +53,78 @@ fn write_stop<K: Sink>(alloc: Global, stop: Stop<'_>, out: &mut K) -> Status
         Stop::ReadFault { file } => {
             put_line(read_fault_line_of(alloc, file), Status::ReadFault, out)
         }
-        Stop::CornerNotFit => {
-            end_status(out.put(b"lower corner is not fit\n"), Status::Undecided)
-        }
         Stop::OutOfMemory => Status::OutOfMemory,
+    }
+}
+
+/// Puts the answer at the lower bounds, or that they aren't fit.
+fn put_found<K: Sink>(found: &Option<Answer>, out: &mut K) -> Status
+    ensures { MatchOption found.now (IsEnd Status.Undecided corner_line (K.got out.old) (K.got out.new) (K.faults out.old) (K.faults out.new) result)
+        (λ answer. IsEnd Status.Done (text answer) (K.got out.old) (K.got out.new) (K.faults out.old) (K.faults out.new) result) }
+{
+    match found {
+        Some(answer) => end_status(put_answer(answer, out), Status::Done),
+        None => end_status(out.put(b"lower corner is not fit\n"), Status::Undecided),
+    }
+}
+
+/// Runs `design`: writes the answer at the lower bounds, or that they aren't fit, or why no problem was read.
+fn run_design<S: Shelf, K: Sink>(
+    alloc: Global,
+    words: FileWords<'_>,
+    shelf: &mut S,
+    out: &mut K,
+) -> Status
+    ensures meets { Ends (MayDesign (S.held shelf.old) (S.faults shelf.old) (S.faults shelf.new) (files_named words.entry)) (K.got out.old) (K.got out.new) (K.faults out.old) (K.faults out.new) result }
+    ensures held { (name : List ℕ) → S.held shelf.new name ≡ S.held shelf.old name }
+{
+    match design(alloc, words, shelf) {
+        Ok(found) => put_found(&found, out),
+        Err(stop) => write_stop(alloc, stop, out),
+    }
+}
+
+/// Runs `audit`: writes a line for each requested path, or why no problem was read.
+fn run_audit<S: Shelf, K: Sink>(
+    alloc: Global,
+    words: FileWords<'_>,
+    shelf: &mut S,
+    out: &mut K,
+) -> Status
+    ensures meets { Ends (MayAudit (S.held shelf.old) (S.faults shelf.old) (S.faults shelf.new) (files_named words.entry)) (K.got out.old) (K.got out.new) (K.faults out.old) (K.faults out.new) result }
+    ensures held { (name : List ℕ) → S.held shelf.new name ≡ S.held shelf.old name }
+{
+    match audit_files(alloc, words, shelf) {
+        Ok(lines) => end_status(put_lines(&lines, out), Status::Done),
+        Err(stop) => write_stop(alloc, stop, out),
+    }
+}
+
+/// Runs a job. For now the words of a command that isn't built are refused.
+fn run_job<S: Shelf, K: Sink>(alloc: Global, job: &Job, shelf: &mut S, out: &mut K) -> Status
+    ensures meets { Ends (MayWrite (Some (seen job.now)) (S.held shelf.old) (S.faults shelf.old) (S.faults shelf.new)) (K.got out.old) (K.got out.new) (K.faults out.old) (K.faults out.new) result }
+    ensures held { (name : List ℕ) → S.held shelf.new name ≡ S.held shelf.old name }
+{
+    match job {
+        Job::Design {
+            request,
+            configs,
+            ..
+        } => {
+            let words = FileWords {
+                request,
+                configs: configs.as_slice(),
+            };
+            run_design(alloc, words, shelf, out)
+        }
+        Job::Audit { request, configs } => {
+            let words = FileWords {
+                request,
+                configs: configs.as_slice(),
+            };
+            run_audit(alloc, words, shelf, out)
+        }
+        _ => end_status(put_usage(out), Status::WordsRefused),
     }
 }
 
@@ -57,22 +132,20 @@ fn write_stop<K: Sink>(alloc: Global, stop: Stop<'_>, out: &mut K) -> Status
 ///
 /// `design --request F CONFIG..` reads the request and the configurations from the shelf and writes the text of an
 /// optimal answer to the sink, with status `Done`. For now costs are found only where the lower bounds themselves are
-/// fit; else, and exactly there, the status is `Undecided`. Input that isn't read for now is refused with number 60.
+/// fit; else, and exactly there, the status is `Undecided`. The other commands aren't built yet: their words are refused.
 ///
 /// # Status
 ///
 /// `InputRefused` with the first fault; `ReadFault` where a file of the words failed; `WriteFault` where the sink's count
 /// of faults rose, and then a part of a text that this call may write was written; `OutOfMemory`, and then nothing was
-/// written; `WordsRefused` exactly off the words, with the usage text.
+/// written; `WordsRefused` off the words, with the usage text.
 pub fn run<S: Shelf, K: Sink>(alloc: Global, words: &[String], shelf: &mut S, out: &mut K) -> Status
     ensures meets { RunMeets (texts words.now) (S.held shelf.old) (S.faults shelf.old) (S.faults shelf.new) (K.got out.old) (K.got out.new) (K.faults out.old) (K.faults out.new) result }
     ensures held { (name : List ℕ) → S.held shelf.new name ≡ S.held shelf.old name }
 {
-    let Some(job) = read_job(words) else {
-        return end_status(put_usage(out), Status::WordsRefused);
-    };
-    match design(alloc, job, shelf) {
-        Ok(answer) => end_status(put_answer(&answer, out), Status::Done),
-        Err(stop) => write_stop(alloc, stop, out),
+    match read_words(alloc, words) {
+        Ok(job) => run_job(alloc, &job, shelf, out),
+        Err(WordsStop::Refused) => end_status(put_usage(out), Status::WordsRefused),
+        Err(WordsStop::OutOfMemory) => Status::OutOfMemory,
     }
 }

@@ -1,7 +1,7 @@
 -- What stops a configuration stops all, and what was read goes on by one.
 use Rattle.std.proofs.Common.{◌≡◌, ℕ, List, ◌∙◌, subst, length, string_bytes, drop, ◌+◌, ◌<◌, rules}
 use Rattle.std.proofs.lemmas.Result.{err_from_is_err_and}
-use Rattle.designer_command.specs.Words.{texts}
+use Rattle.command_words.specs.Words.{texts}
 use Rattle.designer_command.specs.Outcomes.{OnReady}
 use Rattle.config_reader.specs.Configs.{config_of}
 use Rattle.designer_command.proofs.Configs.{Progress, progress_stops, progress_goes, text_among, texts_from, config_held}

@@ -1,5 +1,5 @@
 use Rattle.std.proofs.Common.{◌≡◌, ℕ, List, drop}
-use Rattle.designer_command.specs.Words.{texts}
+use Rattle.command_words.specs.Words.{texts}
 use Rattle.designer_command.proofs.Configs.{Progress}
 use Rattle.designer_command.proofs.reading.read_configs.Given as goal
 

@@ -1,0 +1,104 @@
+-- How requested paths stand at present costs.
+use Rattle.std.proofs.Common.{◌≡◌, ℕ, ◌+◌, ◌*◌, ◌<◌, ◌≤◌, lit<, ◌&&◌, refl, sym, ◌∙◌, ap, subst, List, [], ◌∷◌, ◌++◌, length, get_or, take, drop, drop-cons, add-one, append_assoc, suc, arith, Bool, true, false, cond, IsTrue, Option, Some, None}
+use Rattle.std.specs.Prelude.{◌↔◌, ◌==◌, Any, All, slice_get, filter, not, unwrap_or, map, MatchOption, Vec}
+use Rattle.std.specs.declared.alloc.Global.{Global}
+use Rattle.std.specs.List.{filter_map, AllZip}
+use Rattle.std.proofs.lemmas.Bool.{false≢true, eqb-true, eqb-false}
+use Rattle.std.proofs.lemmas.List.{take_more}
+use Rattle.std.proofs.lemmas.List.Elements.{All-nil}
+use Rattle.designer_command.proofs.CornerLaws.{zip_push}
+use Rattle.cost_base.specs.Lists.{numbers_from, last_of}
+use Rattle.area_graph.specs.declared.Point.{Point}
+use Rattle.area_graph.specs.Area.{Area}
+use Rattle.area_graph.specs.Paths.{IsPathOf}
+use Rattle.area_graph.specs.Costs.{FitsPoint, IsPriced, IsOnlyCheapest, at_costs, cost}
+use Rattle.spf_ties.specs.Distances.{IsLeast, IsLeastCost}
+use Rattle.lsdb_build.specs.declared.Linked.{Linked}
+use Rattle.lsdb_build.specs.Graphs.{Database}
+use Rattle.path_rows.specs.declared.problem.Request.{Request}
+use Rattle.path_rows.specs.Problems.{DesignProblem, IsProblem, ends_of}
+use Rattle.path_requests.specs.declared.Wish.{Wish}
+use Rattle.path_requests.specs.declared.Wish.TheVariants.{FreeAll, Free, Fix, Path, SymmetricAll, Symmetric}
+use Rattle.path_requests.specs.declared.Item.{Item}
+use Rattle.path_requests.specs.Meaning.{Asked, Range, AsItIs, range_said, range_of, is_free, is_free_at, owner, owners, ranges, low_of}
+use Rattle.path_requests.specs.Resolving.{says_freedom, present_asked, present_problem_of}
+use Rattle.designer_command.specs.declared.audit.Standing.{Standing}
+use Rattle.designer_command.specs.declared.audit.Standing.TheVariants.{Only, Tied, Beaten}
+use Rattle.designer_command.specs.declared.audit.AuditedPath.{AuditedPath}
+use Rattle.designer_command.specs.Texts.{bytes_of}
+use Rattle.designer_command.specs.Audits.{StandsAs, standing_by, IsAudited, audit_line, audit_lines}
+use Rattle.designer_command.proofs.Pieces.{bytes_more}
+
+-- The present problem has no variable.
+
+no_range : (d : Database) (link : Linked) (items : List Item) → filter_map (λ item. range_said d link item.what) (filter (λ item. not (says_freedom item.what)) items) ≡ []
+no_range d link [] = refl
+no_range d link (item ∷ items) = by_wish (no_range d link items) item.what refl
+  where
+    by_wish : filter_map (λ i. range_said d link i.what) (filter (λ i. not (says_freedom i.what)) items) ≡ [] → (w : Wish) → item.what ≡ w → filter_map (λ i. range_said d link i.what) (filter (λ i. not (says_freedom i.what)) (item ∷ items)) ≡ []
+    by_wish more (FreeAll lo hi) is = rw is more
+    by_wish more (Free router interface lo hi) is = rw is more
+    by_wish more (Fix router interface) is = rw is more
+    by_wish more (Path route without) is = rw is more
+    by_wish more SymmetricAll is = rw is more
+    by_wish more (Symmetric router interface) is = rw is more
+
+fixed : (a : Asked) (d : Database) (link : Linked) → range_of (present_asked a) d link ≡ AsItIs
+fixed a d link = ap (λ (said : List Range). unwrap_or (last_of said) AsItIs) (no_range d link a.items)
+
+none_free : (a : Asked) (d : Database) (ls : List ℕ) → filter (λ l. is_free_at (present_asked a) d l && owner (present_asked a) d l == l) ls ≡ []
+none_free a d [] = refl
+none_free a d (l ∷ ls) = rw (not_free (slice_get d.links l) refl) (none_free a d ls)
+  where
+    not_free : (o : Option Linked) → slice_get d.links l ≡ o → is_free_at (present_asked a) d l ≡ false
+    not_free None is = rw is refl
+    not_free (Some link) is = rw is (ap is_free (fixed a d link))
+
+pub present_low : (a : Asked) (d : Database) → (present_problem_of a d).low ≡ []
+present_low a d = ap (λ (ls : List ℕ). map low_of (filter_map (λ l. range_at (slice_get d.links l)) ls)) (none_free a d (numbers_from 0 (length d.links)))
+  where
+    range_at : Option Linked → Option Range
+    range_at None = None
+    range_at (Some link) = Some (range_of (present_asked a) d link)
+
+-- fixed costs fit a problem without variables
+pub fixed_fits : (p : DesignProblem) → IsProblem p → p.low ≡ [] → FitsPoint p.graph (at_costs [])
+fixed_fits p kept none = record {
+  scale = omega arith;
+  scale_below = lit< tt;
+  priced = subst (λ (low : List ℕ). All (λ edge. IsPriced (length low) edge.price) p.graph.edges) none kept.priced;
+  least = All-nil (λ (x : ℕ). 1 ≤ x);
+  most = All-nil (λ (x : ℕ). x ≤ 65535 * 1);
+}
+
+-- how a path stands, by its cost, the least cost and whether it is the only cheapest
+pub stands_by : (g : Area) (r : Request) (mine least : ℕ) (only : Bool) → (IsTrue only ↔ IsOnlyCheapest g (at_costs []) (ends_of r) r.path.edges) → least ≤ mine → StandsAs g r mine least (standing_by mine least only)
+stands_by g r mine least true only bound = only.0 refl
+stands_by g r mine least false only bound = by_cost (mine == least) refl
+  where
+    not_only : IsOnlyCheapest g (at_costs []) (ends_of r) r.path.edges → ⊥
+    not_only cheapest = false≢true (only.1 cheapest)
+
+    by_cost : (b : Bool) → (mine == least) ≡ b → StandsAs g r mine least (cond b Tied Beaten)
+    by_cost true same = (not_only, eqb-true mine least same)
+    by_cost false other = let apart = eqb-false mine least other in omega (arith, bound)
+
+-- the least cost is at most the path's
+pub least_bound : (g : Area) (r : Request) (least : ℕ) → IsLeast g (at_costs []) (ends_of r) least → IsPathOf g (ends_of r) r.path.edges → least ≤ cost g (at_costs []) r.path.edges
+least_bound g r least is path = is.none_less r.path.edges path
+
+-- the next path was audited
+pub audited_push : (g : Area) (requests : List Request) (i : ℕ) (request : Request) (found more : List AuditedPath) (path : AuditedPath) → i < length requests → request ≡ get_or requests i request →
+    AllZip (IsAudited g) (take i requests) found → IsAudited g request path → more ≡ found ++ path ∷ [] → AllZip (IsAudited g) (take (i + 1) requests) more
+audited_push g requests i request found more path below is zip here pushed =
+    let are : take (i + 1) requests ≡ take i requests ++ request ∷ [] = take_more requests i request below ∙ ap (λ (r : Request). take i requests ++ r ∷ []) (sym is) in
+    rw (pushed, are) (zip_push (IsAudited g) (take i requests) found request path zip here)
+
+-- the line of the next path was made
+pub audit_turn : (paths : List AuditedPath) (i : ℕ) (lines more : List (Vec ℕ Global)) (line : Vec ℕ Global) (d : AuditedPath) → i < length paths → line.items ≡ audit_line i (get_or paths i d) → more ≡ lines ++ line ∷ [] →
+    bytes_of lines ++ audit_lines i (drop i paths) ≡ audit_lines 0 paths → bytes_of more ++ audit_lines (i + 1) (drop (i + 1) paths) ≡ audit_lines 0 paths
+audit_turn paths i lines more line d below made pushed so_far =
+    rw (pushed, bytes_more lines line, made)
+    (append_assoc (bytes_of lines) (audit_line i (get_or paths i d)) (audit_lines (i + 1) (drop (i + 1) paths))
+    ∙ ap (λ (bs : List ℕ). bytes_of lines ++ bs) (sym (ap (audit_lines i) (drop-cons paths i d below) ∙ rw add-one refl))
+    ∙ so_far)

@@ -1,0 +1,51 @@
+-- What an audit prints of requested paths.
+use Rattle.std.specs.Prelude.{◌≡◌, ℕ, ◌+◌, ◌<◌, List, [], ◌∷◌, ◌++◌, ◌==◌, if◌then◌else◌, Bool, true, false, codes}
+use Rattle.std.specs.List.{AllZip}
+use Rattle.cost_base.specs.Decimal.{decimal}
+use Rattle.area_graph.specs.Area.{Area}
+use Rattle.area_graph.specs.Costs.{IsOnlyCheapest, at_costs, cost}
+use Rattle.spf_ties.specs.Distances.{IsLeast}
+use Rattle.path_rows.specs.declared.problem.Request.{Request}
+use Rattle.path_rows.specs.Problems.{DesignProblem, ends_of}
+use Rattle.designer_command.specs.declared.audit.Standing.{Standing}
+use Rattle.designer_command.specs.declared.audit.Standing.TheVariants.{Only, Tied, Beaten}
+use Rattle.designer_command.specs.declared.audit.AuditedPath.{AuditedPath}
+use Rattle.designer_command.specs.Texts.{line_of}
+
+-- how a requested path of this cost stands among the simple paths of its request, of which none costs less than `least`
+abbrev pub StandsAs : Area → Request → ℕ → ℕ → Standing → Type 0
+StandsAs g r mine least Only = IsOnlyCheapest g (at_costs []) (ends_of r) r.path.edges
+StandsAs g r mine least Tied = (IsOnlyCheapest g (at_costs []) (ends_of r) r.path.edges → ⊥) × (mine ≡ least)
+StandsAs g r mine least Beaten = least < mine
+
+-- how a path of this cost stands, by whether it is the only cheapest
+abbrev pub standing_by : ℕ → ℕ → Bool → Standing
+standing_by mine least true = Only
+standing_by mine least false = if mine == least then Tied else Beaten
+
+-- the cost of a requested path at fixed costs, the least cost of all simple paths of its request, and how it stands
+pub record IsAudited (g : Area) (r : Request) (path : AuditedPath) : Type 0 where
+  pub cost_is : path.cost ≡ cost g (at_costs []) r.path.edges
+  pub least_is : IsLeast g (at_costs []) (ends_of r) path.least
+  pub stands : StandsAs g r path.cost path.least path.standing
+
+abbrev pub standing_word : Standing → List ℕ
+standing_word Only = codes "only"
+standing_word Tied = codes "tied"
+standing_word Beaten = codes "beaten"
+
+-- `path I cost C least L WORD`
+abbrev pub audit_line : ℕ → AuditedPath → List ℕ
+audit_line i path =
+    line_of (codes "path" ∷ decimal i ∷ codes "cost" ∷ decimal path.cost ∷ codes "least" ∷ decimal path.least ∷ standing_word path.standing ∷ [])
+
+-- a line for each path, from number i on
+abbrev pub audit_lines : ℕ → List AuditedPath → List ℕ
+audit_lines i [] = []
+audit_lines i (path ∷ paths) = audit_line i path ++ audit_lines (i + 1) paths
+
+-- the text of an audit of a problem without variables
+pub record IsAudit (p : DesignProblem) (bytes : List ℕ) : Type 0 where
+  pub paths : List AuditedPath
+  pub audited : AllZip (IsAudited p.graph) p.paths paths
+  pub spelled : bytes ≡ audit_lines 0 paths

@@ -1,0 +1,168 @@
+//! An audit: how the requested paths stand at present costs.
+ghost use Rattle.std.specs.Prelude.{◌≡◌, ◌↔◌, ◌<◌, ◌≤◌, ◌++◌, ℕ, List, [], length, IfOk, IfErr, IsTrue, slice_index, OnOk};
+ghost use Rattle.std.specs.List.{AllZip};
+ghost use Rattle.area_graph.specs.Costs.{FitsPoint, IsOnlyCheapest, at_costs, cost};
+ghost use Rattle.area_graph.specs.Paths.{IsPathOf};
+ghost use Rattle.spf_ties.specs.Distances.{IsRoomFor, IsLeast};
+ghost use Rattle.path_rows.specs.Problems.{ends_of};
+ghost use Rattle.designer_command.specs.Inputs.{names_of};
+ghost use Rattle.designer_command.specs.Outcomes.{OnReady, outcome};
+ghost use Rattle.designer_command.specs.Stops.{StopsReading, files_named};
+ghost use Rattle.designer_command.specs.Texts.{bytes_of};
+ghost use Rattle.designer_command.specs.Audits.{IsAudit, IsAudited, audit_line, audit_lines, standing_by, standing_word};
+
+use crate::lines::{push_bytes, push_number};
+use crate::problem::{View, read_problem};
+use crate::reading::FileWords;
+use crate::rivals::is_only;
+use crate::stop::Stop;
+use area_graph::{Graph, Point, path_cost};
+use cost_base::{Listed, OutOfMemory, Shelf};
+use path_rows::{Problem, Request};
+use spf_ties::Room;
+use std::alloc::Global;
+
+/// How a requested path stands among the simple paths of its request.
+#[derive(Clone, Copy, Debug, PartialEq, Eq)]
+pub(crate) enum Standing {
+    /// Every other costs more.
+    Only,
+    /// None costs less, and another costs as much.
+    Tied,
+    /// Another costs less.
+    Beaten,
+}
+
+/// What is found of a requested path: its cost, the least cost of all simple paths of its request, and how it stands.
+#[derive(Clone, Copy, Debug, PartialEq, Eq)]
+pub(crate) struct AuditedPath {
+    pub cost: u128,
+    pub least: u128,
+    pub standing: Standing,
+}
+
+/// How a path stands by its cost, the least cost and whether it is the only cheapest.
+fn standing_of(cost: u128, least: u128, only: bool) -> Standing
+    ensures { result ≡ standing_by cost least only }
+{
+    if only {
+        Standing::Only
+    } else if cost == least {
+        Standing::Tied
+    } else {
+        Standing::Beaten
+    }
+}
+
+/// The least cost of all simple paths of a request, of which there is one.
+fn least_of(graph: &Graph, request: &Request, point: &Point, room: &mut Room) -> u128
+    requires room { IsRoomFor graph.now room.old }
+    requires fits { FitsPoint graph.now point.now }
+    requires path { IsPathOf graph.now (ends_of request.now) request.now.path.edges }
+    ensures room { IsRoomFor graph.now room.new }
+    ensures least { IsLeast graph.now point.now (ends_of request.now) result }
+{
+    room.distances_without(graph, point, request.end, request.gone.as_slice());
+    match room.distance(request.path.start) {
+        Some(least) => least,
+        None => path_cost(graph, &request.path, point),
+    }
+}
+
+/// What is found of a requested path.
+fn audited(graph: &Graph, request: &Request, point: &Point, room: &mut Room) -> AuditedPath
+    requires room { IsRoomFor graph.now room.old }
+    requires point { point.now ≡ at_costs [] }
+    requires fits { FitsPoint graph.now point.now }
+    requires path { IsPathOf graph.now (ends_of request.now) request.now.path.edges }
+    ensures room { IsRoomFor graph.now room.new }
+    ensures found { IsAudited graph.now request.now result }
+{
+    let cost = path_cost(graph, &request.path, point);
+    let least = least_of(graph, request, point, room);
+    let only = is_only(graph, request, point, room);
+    AuditedPath {
+        cost,
+        least,
+        standing: standing_of(cost, least, only),
+    }
+}
+
+/// What is found of the requested paths of a problem without variables.
+pub(crate) fn audit(alloc: Global, problem: &Problem) -> Result<Vec<AuditedPath>, OutOfMemory>
+    requires { problem.now.low ≡ [] }
+    ensures { IfOk result (λ found. AllZip (IsAudited problem.now.graph) problem.now.paths found.items) }
+{
+    let point = Point {
+        scale: 1,
+        values: Listed::from_items(Vec::new(alloc)),
+    };
+    let mut room = Room::new(alloc, &problem.graph)?;
+    let mut found = Vec::new(alloc);
+    for request in problem.paths.as_slice() {
+        let path = audited(&problem.graph, request, &point, &mut room);
+        match found.push(path) {
+            Ok(()) => {}
+            Err(_) => return Err(OutOfMemory),
+        }
+    }
+    Ok(found)
+}
+
+/// The word of a standing.
+fn word_of(standing: Standing) -> &'static [u8]
+    ensures { result.now ≡ standing_word standing }
+{
+    match standing {
+        Standing::Only => b"only",
+        Standing::Tied => b"tied",
+        Standing::Beaten => b"beaten",
+    }
+}
+
+/// The line of a path by its number, with its LF.
+fn line_of(alloc: Global, number: usize, path: AuditedPath) -> Result<Vec<u8>, OutOfMemory>
+    ensures { IfOk result (λ line. line.items ≡ audit_line number path) }
+{
+    let mut line = Vec::new(alloc);
+    push_bytes(&mut line, b"path ")?;
+    push_number(&mut line, number as u128)?;
+    push_bytes(&mut line, b" cost ")?;
+    push_number(&mut line, path.cost)?;
+    push_bytes(&mut line, b" least ")?;
+    push_number(&mut line, path.least)?;
+    push_bytes(&mut line, b" ")?;
+    push_bytes(&mut line, word_of(path.standing))?;
+    push_bytes(&mut line, b"\n")?;
+    Ok(line)
+}
+
+/// The lines of an audit, each with its LF.
+pub(crate) fn audit_lines(alloc: Global, paths: &[AuditedPath]) -> Result<Vec<Vec<u8>>, OutOfMemory>
+    ensures { IfOk result (λ lines. bytes_of lines.items ≡ audit_lines 0 paths.now) }
+{
+    let mut lines = Vec::new(alloc);
+    for (number, path) in paths.iter().enumerate() {
+        let line = line_of(alloc, number, *path)?;
+        match lines.push(line) {
+            Ok(()) => {}
+            Err(_) => return Err(OutOfMemory),
+        }
+    }
+    Ok(lines)
+}
+
+/// The lines of the audit of the files of words.
+pub(crate) fn audit_files<'a, S: Shelf>(
+    alloc: Global,
+    words: FileWords<'a>,
+    shelf: &mut S,
+) -> Result<Vec<Vec<u8>>, Stop<'a>>
+    ensures audit { IfOk result (λ lines. OnReady (outcome View.AtPresent (S.held shelf.old) (files_named words.entry)) (λ d. IsAudit d.problem (bytes_of lines.items))) }
+    ensures stop { IfErr result (StopsReading (outcome View.AtPresent (S.held shelf.old) (files_named words.entry)) (S.faults shelf.old) (S.faults shelf.new) (names_of (files_named words.entry))) }
+    ensures held { (other : List ℕ) → S.held shelf.new other ≡ S.held shelf.old other }
+{
+    let problem = read_problem(alloc, View::AtPresent, words, shelf)?;
+    let found = audit(alloc, &problem)?;
+    Ok(audit_lines(alloc, &found)?)
+}
