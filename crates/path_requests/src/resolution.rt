@@ -10,6 +10,7 @@ mod lines;
 mod names;
 mod parts;
 mod paths;
+mod present;
 mod problems;
 mod ranges;
 mod routes;
@@ -17,6 +18,7 @@ mod variables;
 
 use self::lines::resolve_lines;
 use self::names::Names;
+use self::present::{assemble_present, check_present};
 use self::problems::assemble;
 use self::variables::{check_costs, check_ends, items, own_links};
 use crate::Requests;
@@ -110,5 +112,9 @@ pub fn resolve_present(
     ensures made { IfOk result (λ p. (present_fault requests.now lsdb.now ≡ None) × (p ≡ present_problem_of requests.now lsdb.now)) }
     ensures refused { IfErr result (TellsResolution (present_fault requests.now lsdb.now)) }
 {
-    Err(RequestStop::OutOfMemory)
+    let names = Names::new(alloc, lsdb)?;
+    let outline = names.outline(alloc)?;
+    let paths = resolve_lines(alloc, &names, &outline, items(requests))?;
+    check_present(&names, requests)?;
+    Ok(assemble_present(alloc, &names, requests, paths)?)
 }
