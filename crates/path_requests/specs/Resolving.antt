@@ -163,9 +163,13 @@ cost_faults a d l [] = []
 cost_faults a d l (link ∷ links) =
     (if lacks_cost a link (range_of a d link) then LacksCost l ∷ [] else []) ++ cost_faults a d (l + 1) links
 
+-- after all lines: different ends, then too many variables, then links without a cost
+abbrev pub whole_faults : Asked → Database → List ResolutionFault
+whole_faults a d = ends_faults a d a.items ++ variable_faults a d ++ cost_faults a d 0 d.links
+
 -- all faults of requests in a database, in order: those of the lines, then those of the whole
 abbrev pub resolution_faults : Asked → Database → List ResolutionFault
-resolution_faults a d = line_faults d a.items ++ ends_faults a d a.items ++ variable_faults a d ++ cost_faults a d 0 d.links
+resolution_faults a d = line_faults d a.items ++ whole_faults a d
 
 abbrev pub resolution_fault : Asked → Database → Option ResolutionFault
 resolution_fault a d = first_of (resolution_faults a d)

@@ -1,22 +1,30 @@
 //! The problem that requests make of a database.
-ghost use Rattle.std.specs.Prelude.{◌≡◌, ◌≤◌, nat_le, [], None, OnOk, IfOk, IfErr};
+ghost use Rattle.std.specs.Prelude.{◌≡◌, ◌≤◌, nat_le, [], None, List, length, OnOk, IfOk, IfErr};
+ghost use Rattle.std.specs.List.{filter_map};
 ghost use Rattle.cost_base.specs.Lists.{first_of};
-ghost use Rattle.path_requests.specs.Meaning.{problem_of};
-ghost use Rattle.path_requests.specs.Resolving.{fault_unless, resolution_fault, present_fault, present_problem_of, TellsResolution};
+ghost use Rattle.path_requests.specs.Meaning.{owners, request_of, problem_of};
+ghost use Rattle.path_requests.specs.Checked.{AreOwners};
+ghost use Rattle.path_requests.specs.Resolving.{fault_unless, line_faults, whole_faults, outline, resolution_fault, present_fault, present_problem_of, TellsResolution};
 
 mod lines;
 mod names;
 mod parts;
 mod paths;
+mod present;
 mod problems;
 mod ranges;
 mod routes;
 mod variables;
 
+use self::lines::resolve_lines;
+use self::names::Names;
+use self::present::{assemble_present, check_present};
+use self::problems::assemble;
+use self::variables::{check_costs, check_ends, items, own_links};
 use crate::Requests;
 use crate::stop::RequestStop;
 use lsdb_build::Lsdb;
-use path_rows::Problem;
+use path_rows::{Problem, Request};
 use std::alloc::Global;
 
 /// The most variables that a problem has.
@@ -38,6 +46,35 @@ fn check_count(count: usize) -> Result<(), RequestStop>
     Ok(())
 }
 
+/// The links that have a variable of their own; 29, 27 or the first link without a cost where the requests don't
+/// resolve.
+fn check_whole(alloc: Global, names: &Names, requests: &Requests) -> Result<Vec<u32>, RequestStop>
+    ensures made { IfOk result (λ own. AreOwners requests.now names.now own.items) }
+    ensures refused { IfErr result (TellsResolution (first_of (whole_faults requests.now names.now))) }
+{
+    check_ends(names, requests, items(requests))?;
+    let own = own_links(alloc, names, requests)?;
+    check_count(own.len())?;
+    check_costs(names, requests)?;
+    Ok(own)
+}
+
+/// The problem of requests whose lines have no fault, with their paths; the first fault after all lines.
+fn resolve_whole(
+    alloc: Global,
+    names: &Names,
+    requests: &Requests,
+    paths: Vec<Request>,
+) -> Result<Problem, RequestStop>
+    requires lines { line_faults names.now requests.now.items ≡ [] }
+    requires paths { paths.items ≡ filter_map (λ item. request_of names.now (outline names.now) item.what) requests.now.items }
+    ensures made { IfOk result (λ p. (whole_faults requests.now names.now ≡ []) × (p ≡ problem_of requests.now names.now)) }
+    ensures refused { IfErr result (TellsResolution (first_of (whole_faults requests.now names.now))) }
+{
+    let own = check_whole(alloc, names, requests)?;
+    Ok(assemble(alloc, names, requests, &own, paths)?)
+}
+
 /// The problem that requests make of an area's routers and links: free interfaces have variables, and each wanted
 /// path is one of the area's graph (RFC 2328, 16.1), with the edges that its line takes away.
 ///
@@ -54,7 +91,10 @@ pub fn resolve(alloc: Global, requests: &Requests, lsdb: &Lsdb) -> Result<Proble
     ensures made { IfOk result (λ p. (resolution_fault requests.now lsdb.now ≡ None) × (p ≡ problem_of requests.now lsdb.now)) }
     ensures refused { IfErr result (TellsResolution (resolution_fault requests.now lsdb.now)) }
 {
-    Err(RequestStop::OutOfMemory)
+    let names = Names::new(alloc, lsdb)?;
+    let outline = names.outline(alloc)?;
+    let paths = resolve_lines(alloc, &names, &outline, items(requests))?;
+    resolve_whole(alloc, &names, requests, paths)
 }
 
 /// The problem in which every interface is fixed at its present cost, or at the default, whatever the requests free:
@@ -72,5 +112,9 @@ pub fn resolve_present(
     ensures made { IfOk result (λ p. (present_fault requests.now lsdb.now ≡ None) × (p ≡ present_problem_of requests.now lsdb.now)) }
     ensures refused { IfErr result (TellsResolution (present_fault requests.now lsdb.now)) }
 {
-    Err(RequestStop::OutOfMemory)
+    let names = Names::new(alloc, lsdb)?;
+    let outline = names.outline(alloc)?;
+    let paths = resolve_lines(alloc, &names, &outline, items(requests))?;
+    check_present(&names, requests)?;
+    Ok(assemble_present(alloc, &names, requests, paths)?)
 }

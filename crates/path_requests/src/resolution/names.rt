@@ -1,6 +1,7 @@
 //! Looks up routers and linked interfaces by their names.
 ghost use Rattle.std.specs.Prelude.{◌≡◌, ◌≢◌, ℕ, List, ◌<◌, ◌≤◌, [], true, false, length, map, take, position, slice_index_or, All, AllPairs, MatchOption, IfOk, IfErr};
 ghost use Rattle.cost_base.specs.Lists.{first_of};
+ghost use Rattle.area_graph.specs.declared.Price.TheVariants.{Fixed};
 ghost use Rattle.lsdb_build.specs.Graphs.{IsDatabase, IsLinkPrice, graph_at, router_of};
 ghost use Rattle.path_requests.specs.Meaning.{router_number, link_number};
 ghost use Rattle.path_requests.specs.Keys.{link_key};
@@ -81,6 +82,24 @@ fn link_set<'a>(
         set.insert((link.router, link.interface.as_bytes()))?;
     }
     Ok(set)
+}
+
+/// Cost 1, whatever the link.
+fn unit_price(_link: &Linked) -> Price
+    ensures { result ≡ Fixed 1 }
+{
+    Price::Fixed(1)
+}
+
+/// Cost 1 for each link.
+fn ones(alloc: Global, links: &[Linked]) -> Result<Vec<Price>, OutOfMemory>
+    ensures { IfOk result (λ made. made.items ≡ map (λ link. Fixed 1) links.now) }
+{
+    let mut made = Vec::new(alloc);
+    for link in links {
+        made.push(unit_price(link))?;
+    }
+    Ok(made)
 }
 
 impl<'a> Names<'a> {
@@ -206,7 +225,7 @@ impl<'a> Names<'a> {
     pub fn outline(&self, alloc: Global) -> Result<Graph, OutOfMemory>
         ensures { IfOk result (λ graph. graph ≡ outline self.now) }
     {
-        let prices = vec![in alloc; Price::Fixed(1); self.links().len()]?;
+        let prices = ones(alloc, self.links())?;
         self.graph(alloc, prices.as_slice())
     }
 

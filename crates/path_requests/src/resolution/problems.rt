@@ -35,7 +35,7 @@ fn variable_of(names: &Names, requests: &Requests, own: &[u32], number: u32, lin
 }
 
 /// The present cost of a link's interface, or the default, or 0.
-fn present_cost(requests: &Requests, link: &Linked) -> u16
+pub fn present_cost(requests: &Requests, link: &Linked) -> u16
     ensures { result ≡ present_cost requests.now link.now }
 {
     link.cost.unwrap_or(requests.default_cost.unwrap_or(0))

@@ -190,7 +190,7 @@ pub fn high_bounds(
 }
 
 /// Whether a fixed link has no present cost, and there is no default.
-fn lacks_cost(requests: &Requests, link: &Linked, range: Range) -> bool
+pub fn lacks_cost(requests: &Requests, link: &Linked, range: Range) -> bool
     ensures { result ≡ lacks_cost requests.now link.now range }
 {
     match range {
