@@ -21,7 +21,8 @@ use Rattle.path_requests.specs.declared.Wish.{Wish}
 use Rattle.path_requests.specs.declared.Wish.TheVariants.{FreeAll, Free, Fix, Path, SymmetricAll, Symmetric}
 use Rattle.path_requests.specs.declared.Item.{Item}
 use Rattle.path_requests.specs.Meaning.{Asked, Range, AsItIs, range_said, range_of, is_free, is_free_at, owner, owners, ranges, low_of}
-use Rattle.path_requests.specs.Resolving.{says_freedom, present_asked, present_problem_of}
+use Rattle.path_requests.specs.Resolving.{present_problem_of}
+use Rattle.path_requests.proofs.Present.{none_owned}
 use Rattle.designer_command.specs.declared.audit.Standing.{Standing}
 use Rattle.designer_command.specs.declared.audit.Standing.TheVariants.{Only, Tied, Beaten}
 use Rattle.designer_command.specs.declared.audit.AuditedPath.{AuditedPath}
@@ -31,35 +32,8 @@ use Rattle.designer_command.proofs.Pieces.{bytes_more}
 
 -- The present problem has no variable.
 
-no_range : (d : Database) (link : Linked) (items : List Item) → filter_map (λ item. range_said d link item.what) (filter (λ item. not (says_freedom item.what)) items) ≡ []
-no_range d link [] = refl
-no_range d link (item ∷ items) = by_wish (no_range d link items) item.what refl
-  where
-    by_wish : filter_map (λ i. range_said d link i.what) (filter (λ i. not (says_freedom i.what)) items) ≡ [] → (w : Wish) → item.what ≡ w → filter_map (λ i. range_said d link i.what) (filter (λ i. not (says_freedom i.what)) (item ∷ items)) ≡ []
-    by_wish more (FreeAll lo hi) is = rw is more
-    by_wish more (Free router interface lo hi) is = rw is more
-    by_wish more (Fix router interface) is = rw is more
-    by_wish more (Path route without) is = rw is more
-    by_wish more SymmetricAll is = rw is more
-    by_wish more (Symmetric router interface) is = rw is more
-
-fixed : (a : Asked) (d : Database) (link : Linked) → range_of (present_asked a) d link ≡ AsItIs
-fixed a d link = ap (λ (said : List Range). unwrap_or (last_of said) AsItIs) (no_range d link a.items)
-
-none_free : (a : Asked) (d : Database) (ls : List ℕ) → filter (λ l. is_free_at (present_asked a) d l && owner (present_asked a) d l == l) ls ≡ []
-none_free a d [] = refl
-none_free a d (l ∷ ls) = rw (not_free (slice_get d.links l) refl) (none_free a d ls)
-  where
-    not_free : (o : Option Linked) → slice_get d.links l ≡ o → is_free_at (present_asked a) d l ≡ false
-    not_free None is = rw is refl
-    not_free (Some link) is = rw is (ap is_free (fixed a d link))
-
 pub present_low : (a : Asked) (d : Database) → (present_problem_of a d).low ≡ []
-present_low a d = ap (λ (ls : List ℕ). map low_of (filter_map (λ l. range_at (slice_get d.links l)) ls)) (none_free a d (numbers_from 0 (length d.links)))
-  where
-    range_at : Option Linked → Option Range
-    range_at None = None
-    range_at (Some link) = Some (range_of (present_asked a) d link)
+present_low a d = rw (none_owned a d) refl
 
 -- fixed costs fit a problem without variables
 pub fixed_fits : (p : DesignProblem) → IsProblem p → p.low ≡ [] → FitsPoint p.graph (at_costs [])

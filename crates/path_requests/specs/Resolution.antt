@@ -1,17 +1,15 @@
 -- Whether the names of a wanted path are those of a database, and its hops a simple path.
-use Rattle.std.specs.Prelude.{ℕ, List, [], ◌∷◌, ◌==◌, ◌&&◌, nat_le, not, Bool, true, false, Option, Some, None, length, slice_get, slice_index_or}
-use Rattle.std.specs.List.{list_any, list_all}
+use Rattle.std.specs.Prelude.{ℕ, List, [], ◌∷◌, ◌==◌, ◌&&◌, not, Bool, true, false, Option, Some, None, slice_get, slice_index_or}
+use Rattle.std.specs.List.{list_any}
 use Rattle.cost_base.specs.Lists.{same_bytes}
 use Rattle.area_graph.specs.Area.{Area}
 use Rattle.area_graph.specs.Paths.{visited}
 use Rattle.lsdb_build.specs.declared.Far.{Far}
 use Rattle.lsdb_build.specs.declared.Far.TheVariants.{Router as ToRouter, Subnet as ToSubnet}
 use Rattle.lsdb_build.specs.declared.Linked.{Linked}
-use Rattle.lsdb_build.specs.Graphs.{Database, graph_at, router_of}
-use Rattle.path_requests.specs.declared.Wish.{Wish}
-use Rattle.path_requests.specs.declared.Wish.TheVariants.{Path}
+use Rattle.lsdb_build.specs.Graphs.{Database, router_of}
 use Rattle.path_requests.specs.Wishes.{Route}
-use Rattle.path_requests.specs.Meaning.{Asked, is_named, next_name, link_number, router_number, route_edges, owners, prices_from}
+use Rattle.path_requests.specs.Meaning.{is_named, next_name, link_number, router_number, route_edges}
 
 -- a configuration has the name
 abbrev pub knows_router : Database → List ℕ → Bool
@@ -54,13 +52,3 @@ is_loop_free d g route =
 abbrev pub resolves_route : Database → Area → Route → Bool
 resolves_route d g route =
     is_known d route.hops route.last && is_joined d route.hops route.last && is_loop_free d g route
-
-abbrev pub resolves_wish : Database → Area → Wish → Bool
-resolves_wish d g (Path route without) = resolves_route d g route
-resolves_wish d g _ = true
-
--- the paths resolve, where no line takes anything away, and there are at most 1,000 variables
-abbrev pub resolves : Asked → Database → Bool
-resolves a d =
-    list_all (λ item. resolves_wish d (graph_at d (prices_from a d 0 d.links)) item.what) a.items
-    && nat_le (length (owners a d)) 1000
