@@ -1,13 +1,13 @@
 -- The list of taken edges has exactly those that a part takes away.
-use Rattle.std.proofs.Common.{inl, inr, ◌≡◌, ◌≢◌, ◌↔◌, ℕ, zero, suc, ◌+◌, ◌<◌, ◌≤◌, refl, sym, ◌∙◌, ap, subst, List, [], ◌∷◌, ◌++◌, length, map, get_or, arith, Bool, true, false, cond, Option, Some, None}
-use Rattle.std.specs.Prelude.{All, filter, option_to_list, slice_get, slice_index_or, not, ◌&&◌, ◌||◌, ◌==◌}
+use Rattle.std.proofs.Common.{inl, inr, ◌≡◌, ℕ, zero, suc, ◌+◌, ◌<◌, ◌≤◌, refl, sym, ◌∙◌, ap, List, [], ◌∷◌, ◌++◌, length, get_or, arith, Bool, true, false, cond, Option, Some, None}
+use Rattle.std.specs.Prelude.{All, filter, option_to_list, slice_get, slice_index_or, ◌&&◌, ◌||◌, ◌==◌}
 use Rattle.std.specs.List.{list_any}
 use Rattle.std.proofs.lemmas.List.Elements.{All-nil, All-cons, All-weaker}
 use Rattle.std.proofs.lemmas.List.{get_or_default}
-use Rattle.std.proofs.lemmas.Bool.{cases_Bool, cases_eq, eqb-true, eq-eqb, ne_eqb, eqb-false, or_parts, or_from, false≢true}
+use Rattle.std.proofs.lemmas.Bool.{cases_Bool, cases_eq, eq-eqb, ne_eqb, eqb-false, or_parts, or_from, false≢true}
 use Rattle.cost_base.specs.Lists.{numbers_from, Lacks}
 use Rattle.area_graph.specs.Area.{Area, edge_at, edges_out, edges_in}
-use Rattle.area_graph.specs.Paths.{Joins, Avoids}
+use Rattle.area_graph.specs.Paths.{Joins}
 use Rattle.area_graph.specs.Distances.{AreMarks}
 use Rattle.lsdb_build.specs.declared.Far.{Far}
 use Rattle.lsdb_build.specs.declared.Far.TheVariants.{Router as ToRouter, Subnet as ToSubnet}
@@ -16,7 +16,7 @@ use Rattle.lsdb_build.specs.Graphs.{Database}
 use Rattle.path_requests.specs.declared.Part.{Part}
 use Rattle.path_requests.specs.declared.Part.TheVariants.{Router, Interface}
 use Rattle.path_requests.specs.Meaning.{link_number, router_number, link_takes, takes, gone_edges}
-use Rattle.path_requests.specs.Taken.{taken_from, taken_by_link, taken_at, taken_by, taken_by_all}
+use Rattle.path_requests.specs.Taken.{taken_from, taken_at, taken_by, taken_by_all}
 use Rattle.path_requests.proofs.LookUps.{any_agree, filter_twice}
 
 pub filter_head : {X : Type 0} (p : X → Bool) (x : X) (xs : List X) → filter p (x ∷ xs) ≡ filter p (x ∷ []) ++ filter p xs

@@ -1,9 +1,8 @@
 -- The numbers of those that pass a test: how many pass it before them.
-use Rattle.std.proofs.Common.{inl, inr, ◌≡◌, ℕ, zero, suc, ◌+◌, ◌<◌, ◌≤◌, refl, sym, ◌∙◌, ap, List, [], ◌∷◌, length, arith, Bool, true, false, cond}
+use Rattle.std.proofs.Common.{inl, inr, ◌≡◌, ℕ, zero, suc, ◌+◌, ◌<◌, ◌≤◌, refl, sym, ◌∙◌, ap, List, ◌∷◌, length, arith, Bool, true, false, cond}
 use Rattle.std.specs.Prelude.{All, filter, count_by, nat_lt}
 use Rattle.std.proofs.lemmas.List.Elements.{All-nil, All-cons, All-weaker}
 use Rattle.std.proofs.lemmas.Bool.{cases_Bool, lt-ltb, le-ltb}
-use Rattle.std.proofs.lemmas.List.Sums.{sum_by-cons}
 use Rattle.cost_base.specs.Lists.{numbers_from}
 use Rattle.lsdb_build.proofs.Pairs.{count_by-cons}
 

@@ -1,7 +1,7 @@
 -- Which vertices an edge joins doesn't depend on prices, so a wanted path is the same in the outline and in the graph.
-use Rattle.std.proofs.Common.{◌≡◌, ℕ, zero, suc, ◌+◌, ◌<◌, refl, sym, ◌∙◌, ap, List, [], ◌∷◌, ◌++◌, length, map, get_or, arith, Bool, cond, Option, Some, None}
-use Rattle.std.specs.Prelude.{filter, slice_get, unwrap_or, ◌&&◌, ◌||◌, ◌==◌}
-use Rattle.std.specs.List.{filter_map, list_any, cons_option}
+use Rattle.std.proofs.Common.{◌≡◌, ℕ, zero, suc, ◌+◌, refl, ◌∙◌, ap, List, [], ◌∷◌, ◌++◌, length, map, get_or, arith, Option, Some, None}
+use Rattle.std.specs.Prelude.{filter, slice_get, unwrap_or, ◌&&◌, ◌==◌}
+use Rattle.std.specs.List.{filter_map, list_any}
 use Rattle.std.proofs.lemmas.List.{length-map}
 use Rattle.cost_base.specs.Lists.{numbers_from, first_of}
 use Rattle.area_graph.specs.declared.Price.{Price}

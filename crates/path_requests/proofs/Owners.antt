@@ -1,9 +1,9 @@
 -- Where ends don't differ, each free link's variable belongs to a free link.
-use Rattle.std.proofs.Common.{inl, inr, ◌≡◌, ◌≢◌, ℕ, zero, suc, ◌+◌, ◌<◌, ◌≤◌, refl, sym, ◌∙◌, ap, subst, List, [], ◌∷◌, ◌++◌, length, get_or, arith, Bool, true, false, cond, Option, Some, None}
-use Rattle.std.specs.Prelude.{slice_get, count_by, not, nat_lt, if◌then◌else◌, ◌&&◌, ◌||◌, ◌==◌}
+use Rattle.std.proofs.Common.{inl, inr, ◌≡◌, ℕ, ◌+◌, ◌<◌, ◌≤◌, refl, sym, ◌∙◌, ap, subst, List, [], ◌∷◌, length, arith, Bool, true, false, Option, Some, None}
+use Rattle.std.specs.Prelude.{slice_get, count_by, not, nat_lt, if◌then◌else◌, ◌&&◌, ◌==◌}
 use Rattle.std.specs.List.{list_any}
 use Rattle.std.proofs.lemmas.Option.{slice_get_within, get_or_from_slice_get}
-use Rattle.std.proofs.lemmas.Bool.{and_from, and_parts, and_right, or_parts, eq-eqb, ltb-true, le-ltb, false≢true, not-true, cases_Bool}
+use Rattle.std.proofs.lemmas.Bool.{and_from, and_parts, and_right, eq-eqb, ltb-true, le-ltb, false≢true, cases_Bool}
 use Rattle.lsdb_build.specs.declared.Far.{Far}
 use Rattle.lsdb_build.specs.declared.Far.TheVariants.{Router as ToRouter, Subnet as ToSubnet}
 use Rattle.lsdb_build.specs.declared.Linked.{Linked}
@@ -11,7 +11,7 @@ use Rattle.lsdb_build.specs.Graphs.{Database, IsDatabase, HasMate, IsMateOf}
 use Rattle.path_requests.specs.declared.Wish.{Wish}
 use Rattle.path_requests.specs.declared.Wish.TheVariants.{FreeAll, Free, Fix, Path, SymmetricAll, Symmetric}
 use Rattle.path_requests.specs.declared.Item.{Item}
-use Rattle.path_requests.specs.Meaning.{Asked, Range, Within, AsItIs, range_of, is_free, is_free_at, says_symmetric, any_symmetric, is_symmetric, option_at, owner_by_mate, owner_at, owner, own, owners, variable_of, link_number, is_named}
+use Rattle.path_requests.specs.Meaning.{Asked, Range, Within, AsItIs, range_of, is_free, is_free_at, says_symmetric, any_symmetric, is_symmetric, option_at, owner_by_mate, owner_at, owner, own, owners, variable_of}
 use Rattle.path_requests.specs.Resolving.{fault_unless, same_range, ends_differ, ends_differ_at, ties_different, ends_faults}
 use Rattle.path_requests.proofs.Walks.{no_parts, well_from}
 use Rattle.path_requests.proofs.LookUps.{link_number_is, none_there}

@@ -1,22 +1,21 @@
 -- In the present network no link is free.
-use Rattle.std.proofs.Common.{inl, inr, ◌≡◌, ℕ, zero, suc, ◌+◌, ◌<◌, ◌≤◌, refl, sym, ◌∙◌, ap, subst, List, [], ◌∷◌, ◌++◌, length, map, arith, Bool, true, false, cond, Option, Some, None}
-use Rattle.std.specs.Prelude.{All, filter, count_by, slice_get, unwrap_or, not, ◌&&◌, ◌==◌}
+use Rattle.std.proofs.Common.{inl, inr, ◌≡◌, ℕ, ◌+◌, ◌≤◌, refl, sym, ap, List, [], ◌∷◌, length, map, arith, Bool, true, false, cond, Option, Some, None}
+use Rattle.std.specs.Prelude.{All, filter, count_by, slice_get, unwrap_or, not}
 use Rattle.std.specs.List.{filter_map, list_any, cons_option}
 use Rattle.std.proofs.lemmas.List.Elements.{All-nil, All-cons, All-head, All-tail}
 use Rattle.std.proofs.lemmas.List.Sums.{sum_by-cons}
 use Rattle.std.proofs.lemmas.Bool.{cases_Bool, false≢true}
-use Rattle.cost_base.specs.Lists.{last_of, numbers_from}
+use Rattle.cost_base.specs.Lists.{last_of}
 use Rattle.area_graph.specs.declared.Price.{Price}
 use Rattle.area_graph.specs.declared.Price.TheVariants.{Fixed}
 use Rattle.area_graph.specs.Area.{Area}
 use Rattle.lsdb_build.specs.declared.Linked.{Linked}
-use Rattle.lsdb_build.specs.Graphs.{Database, IsDatabase}
-use Rattle.path_rows.specs.declared.problem.Request.{Request}
+use Rattle.lsdb_build.specs.Graphs.{Database}
 use Rattle.path_requests.specs.declared.Wish.{Wish}
 use Rattle.path_requests.specs.declared.Wish.TheVariants.{FreeAll, Free, Fix, Path, SymmetricAll, Symmetric}
 use Rattle.path_requests.specs.declared.Item.{Item}
-use Rattle.path_requests.specs.Meaning.{Asked, IsAsked, KeepsBounds, is_path, is_path_wish, Range, Within, AsItIs, range_said, range_of, is_free, is_free_at, own, owner, owners, present_cost, prices_from, names_from, request_of}
-use Rattle.path_requests.specs.Resolving.{fault_unless, says_freedom, present_asked, wish_faults, line_faults, same_range, ends_differ, ends_differ_at, ties_different, ends_faults}
+use Rattle.path_requests.specs.Meaning.{Asked, IsAsked, KeepsBounds, is_path, Range, AsItIs, range_said, range_of, own, owners, present_cost, prices_from, names_from, request_of}
+use Rattle.path_requests.specs.Resolving.{says_freedom, present_asked, wish_faults, line_faults, ends_differ, ends_differ_at, ties_different, ends_faults}
 use Rattle.path_requests.proofs.Walks.{no_parts}
 use Rattle.path_requests.proofs.LookUps.{none_passing}
 

@@ -1,16 +1,16 @@
 -- Each refusal of a request once, on small databases.
 use Rattle.std.proofs.Common.{◌≡◌, ℕ, refl, List, [], ◌∷◌}
-use Rattle.std.specs.Prelude.{Option, Some, None, codes}
+use Rattle.std.specs.Prelude.{Some, None, codes}
 use Rattle.area_graph.specs.declared.Vertex.TheVariants.{Router as RouterVertex}
-use Rattle.area_graph.specs.declared.Price.TheVariants.{Fixed, Var}
+use Rattle.area_graph.specs.declared.Price.TheVariants.{Fixed}
 use Rattle.lsdb_build.specs.declared.Far.TheVariants.{Router, Subnet}
 use Rattle.lsdb_build.specs.declared.Linked.{Linked}
-use Rattle.lsdb_build.specs.Graphs.{Database, graph_at}
+use Rattle.lsdb_build.specs.Graphs.{Database}
 use Rattle.path_requests.specs.declared.Wish.{Wish}
 use Rattle.path_requests.specs.declared.Wish.TheVariants.{FreeAll, Free, Fix, Path, SymmetricAll, Symmetric}
 use Rattle.path_requests.specs.declared.Part.TheVariants.{Router as RouterPart, Interface as InterfacePart}
 use Rattle.path_requests.specs.declared.Item.{Item}
-use Rattle.path_requests.specs.Meaning.{Asked, problem_of}
+use Rattle.path_requests.specs.Meaning.{Asked}
 use Rattle.path_requests.specs.Resolving.{AtLine, LacksCost, resolution_fault, present_fault, present_problem_of}
 
 abbrev link_to : ℕ → List ℕ → ℕ → ℕ → Linked

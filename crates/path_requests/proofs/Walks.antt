@@ -1,9 +1,9 @@
 -- The faults of a walk: where its words are known and its hops join, it has one exactly where a vertex comes twice.
-use Rattle.std.proofs.Common.{◌≡◌, ◌↔◌, ℕ, ◌+◌, refl, sym, ◌∙◌, ap, subst, List, [], ◌∷◌, ◌++◌, length, map, Bool, true, false, Option, Some}
-use Rattle.std.specs.Prelude.{IsTrue, not, ◌&&◌, ◌==◌, slice_get, if◌then◌else◌}
+use Rattle.std.proofs.Common.{◌≡◌, ◌↔◌, ℕ, ◌+◌, refl, List, [], ◌∷◌, ◌++◌, map, Bool, true, false}
+use Rattle.std.specs.Prelude.{IsTrue, not, ◌&&◌, ◌==◌, if◌then◌else◌}
 use Rattle.std.specs.List.{list_any}
 use Rattle.std.proofs.lemmas.List.{length-map}
-use Rattle.std.proofs.lemmas.Bool.{and_from, and_parts, or_from, ne_eqb, not_from_false}
+use Rattle.std.proofs.lemmas.Bool.{and_from, or_from, ne_eqb, not_from_false}
 use Rattle.cost_base.specs.Lists.{first_of, Lacks, NoneTwice}
 use Rattle.area_graph.specs.declared.Price.{Price}
 use Rattle.area_graph.specs.declared.Price.TheVariants.{Fixed}
@@ -14,9 +14,9 @@ use Rattle.path_requests.specs.declared.stop.RequestStop.{RequestStop}
 use Rattle.path_requests.specs.declared.stop.RequestStop.TheVariants.{Refused, NoCost, OutOfMemory}
 use Rattle.path_requests.specs.declared.resolution.routes.Walk.{Walk}
 use Rattle.path_requests.specs.Wishes.{Route}
-use Rattle.path_requests.specs.Meaning.{next_name, link_number, router_number, route_edges}
-use Rattle.path_requests.specs.Resolution.{knows_router, knows_link, is_known, is_joined, is_none_twice, is_loop_free, resolves_route}
-use Rattle.path_requests.specs.Resolving.{ResolutionFault, AtLine, LacksCost, fault_unless, router_faults, interface_faults, hop_faults, leads_on, broken_faults, walk_faults, outline, TellsResolution}
+use Rattle.path_requests.specs.Meaning.{next_name, router_number, route_edges}
+use Rattle.path_requests.specs.Resolution.{knows_router, knows_link, is_known, is_joined, is_none_twice, is_loop_free}
+use Rattle.path_requests.specs.Resolving.{ResolutionFault, AtLine, fault_unless, router_faults, interface_faults, hop_faults, leads_on, broken_faults, walk_faults, outline, TellsResolution}
 use Rattle.path_requests.specs.Walks.{IsWalk}
 use Rattle.path_requests.proofs.RouteLaws.{route_simple}
 use Rattle.path_requests.proofs.LookUps.{same_test}

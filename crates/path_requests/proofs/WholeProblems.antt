@@ -1,16 +1,14 @@
 -- The problem of requests without a fault keeps what every problem keeps.
-use Rattle.std.proofs.Common.{inl, inr, ◌≡◌, ℕ, zero, suc, ◌+◌, ◌<◌, ◌≤◌, refl, sym, ◌∙◌, ap, subst, List, [], ◌∷◌, ◌++◌, length, map, get_or, arith, Bool, true, false, cond, Option, Some, None}
-use Rattle.std.specs.Prelude.{All, Any, filter, count_by, slice_get, slice_index, slice_index_or, unwrap_or, nat_le, not, if◌then◌else◌, ◌&&◌, ◌||◌, ◌==◌}
+use Rattle.std.proofs.Common.{◌≡◌, ℕ, zero, suc, ◌+◌, ◌<◌, ◌≤◌, refl, sym, ◌∙◌, ap, subst, List, [], ◌∷◌, ◌++◌, length, map, get_or, arith, Bool, true, false, cond, Option, Some, None}
+use Rattle.std.specs.Prelude.{All, Any, count_by, slice_get, slice_index, slice_index_or, unwrap_or, not, if◌then◌else◌, ◌&&◌, ◌==◌}
 use Rattle.std.specs.List.{filter_map, list_any, cons_option}
-use Rattle.std.proofs.lemmas.List.{get_or_default, length-map, get_or-map}
+use Rattle.std.proofs.lemmas.List.{length-map, get_or-map}
 use Rattle.std.proofs.lemmas.List.Elements.{All-nil, All-cons, All-head, All-tail, All-append, All-weaker}
 use Rattle.std.proofs.lemmas.List.Sums.{sum_by-cons}
-use Rattle.std.proofs.lemmas.Option.{slice_get-get_or, slice_get_within, get_or_from_slice_get}
-use Rattle.std.proofs.lemmas.Bool.{and_from, and_parts, or_parts, eqb-true, leb-true, cases_Bool, false≢true}
+use Rattle.std.proofs.lemmas.Option.{slice_get-get_or}
+use Rattle.std.proofs.lemmas.Bool.{and_from, and_parts, or_parts, eqb-true, false≢true}
 use Rattle.cost_base.specs.Words.{IsWord}
-use Rattle.cost_base.specs.Lists.{numbers_from}
 use Rattle.area_graph.specs.declared.Price.{Price}
-use Rattle.area_graph.specs.declared.Price.TheVariants.{Fixed, Var, Zero}
 use Rattle.area_graph.specs.declared.Edge.{Edge}
 use Rattle.area_graph.specs.Area.{Area}
 use Rattle.area_graph.specs.Paths.{Avoids, IsPathOf}
@@ -20,14 +18,14 @@ use Rattle.lsdb_build.specs.Graphs.{Database, IsDatabase, IsLink, graph_at, link
 use Rattle.lsdb_build.proofs.Pairs.{all_at}
 use Rattle.path_rows.specs.declared.problem.VarName.{VarName}
 use Rattle.path_rows.specs.declared.problem.Request.{Request}
-use Rattle.path_rows.specs.Problems.{DesignProblem, IsProblem, TakesAway, ends_of}
+use Rattle.path_rows.specs.Problems.{IsProblem, TakesAway, ends_of}
 use Rattle.path_requests.specs.declared.Part.{Part}
 use Rattle.path_requests.specs.declared.Wish.{Wish}
 use Rattle.path_requests.specs.declared.Wish.TheVariants.{FreeAll, Free, Fix, Path, SymmetricAll, Symmetric}
 use Rattle.path_requests.specs.declared.Item.{Item}
 use Rattle.path_requests.specs.Wishes.{Route}
 use Rattle.path_requests.specs.Meaning.{Asked, KeepsBounds, IsAsked, is_path_wish, is_path, Range, Within, AsItIs, is_named, range_said, range_of, is_free, is_free_at, low_of, high_of, owner, own, owners, variable_of, ranges, price_of, prices_from, names_from, next_name, router_number, route_edges, takes, gone_edges, request_of, problem_of}
-use Rattle.path_requests.specs.Resolution.{is_known, is_joined, is_loop_free, resolves_route}
+use Rattle.path_requests.specs.Resolution.{is_known, is_joined, is_loop_free}
 use Rattle.path_requests.specs.Resolving.{fault_unless, hop_faults, broken_faults, walk_faults, parts_faults, without_faults, is_router_part, is_path_gone, wish_faults, line_faults, ends_faults, outline}
 use Rattle.path_requests.proofs.RouteLaws.{route_simple}
 use Rattle.path_requests.proofs.GoneLaws.{gone_takes}
@@ -35,11 +33,11 @@ use Rattle.path_requests.proofs.ProblemLaws.{subnets_priced}
 use Rattle.path_requests.proofs.ThinProblems.{no_link}
 use Rattle.path_requests.proofs.Walks.{no_parts, well_from, words_known, hops_joined}
 use Rattle.path_requests.proofs.Withouts.{walk_simple}
-use Rattle.path_requests.proofs.Gone.{has, has_kept, lacks_from, joins_within}
+use Rattle.path_requests.proofs.Gone.{has_kept, lacks_from, joins_within}
 use Rattle.path_requests.proofs.Ranges.{range_after, range_is}
-use Rattle.path_requests.proofs.Outline.{SameEnds, as_outline, route_same, gone_same, loop_free_same}
+use Rattle.path_requests.proofs.Outline.{as_outline, route_same, gone_same, loop_free_same}
 use Rattle.path_requests.proofs.Numbering.{passing, numbered, passing_all}
-use Rattle.path_requests.proofs.Owners.{HasOwner, has_owner, variable_is, variable_below}
+use Rattle.path_requests.proofs.Owners.{has_owner, variable_is, variable_below}
 
 -- Ranges
 

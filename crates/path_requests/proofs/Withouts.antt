@@ -1,14 +1,14 @@
 -- The faults of what a path goes without.
-use Rattle.std.proofs.Common.{◌≡◌, ℕ, ◌<◌, refl, sym, ◌∙◌, ap, subst, List, [], ◌++◌, length, Bool, false}
-use Rattle.std.specs.Prelude.{All, slice_index_or, not, ◌&&◌, ◌||◌}
+use Rattle.std.proofs.Common.{◌≡◌, ℕ, refl, sym, ◌∙◌, ap, List, [], ◌++◌, length, Bool, false}
+use Rattle.std.specs.Prelude.{slice_index_or, not, ◌||◌}
 use Rattle.std.specs.List.{list_any}
 use Rattle.area_graph.specs.Distances.{AreMarks}
 use Rattle.lsdb_build.specs.Graphs.{Database, IsDatabase}
 use Rattle.path_requests.specs.declared.Part.{Part}
 use Rattle.path_requests.specs.declared.resolution.routes.Walk.{Walk}
 use Rattle.path_requests.specs.Wishes.{Route}
-use Rattle.path_requests.specs.Meaning.{next_name, router_number, route_edges, takes}
-use Rattle.path_requests.specs.Resolution.{is_known, is_joined, is_loop_free}
+use Rattle.path_requests.specs.Meaning.{next_name, router_number, route_edges}
+use Rattle.path_requests.specs.Resolution.{is_loop_free}
 use Rattle.path_requests.specs.Resolving.{fault_unless, hop_faults, broken_faults, walk_faults, parts_faults, without_faults, is_router_part, is_path_gone, outline}
 use Rattle.path_requests.specs.Walks.{IsWalk}
 use Rattle.path_requests.specs.Taken.{taken_by_all}

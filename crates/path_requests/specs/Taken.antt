@@ -1,5 +1,5 @@
 -- The edges that parts take away, as a list in which one may come twice.
-use Rattle.std.specs.Prelude.{◌≡◌, ℕ, ◌+◌, List, [], ◌∷◌, ◌++◌, ◌==◌, Option, Some, None, filter, length, slice_get, option_to_list}
+use Rattle.std.specs.Prelude.{ℕ, ◌+◌, List, [], ◌∷◌, ◌++◌, ◌==◌, Option, Some, None, filter, length, slice_get, option_to_list}
 use Rattle.area_graph.specs.Area.{Area, edge_at, edges_out, edges_in}
 use Rattle.lsdb_build.specs.declared.Far.{Far}
 use Rattle.lsdb_build.specs.declared.Far.TheVariants.{Router as ToRouter, Subnet as ToSubnet}

@@ -3,7 +3,6 @@ use Rattle.std.specs.Prelude.{◌==◌, ◌&&◌}
 use Rattle.std.proofs.lemmas.List.{length-map, get_or-map}
 use Rattle.std.proofs.lemmas.Bool.{and_parts, eqb-true}
 use Rattle.cost_base.specs.Lists.{same_bytes}
-use Rattle.lsdb_build.specs.declared.Linked.{Linked}
 use Rattle.path_requests.specs.Keys.{link_key}
 use Rattle.path_requests.proofs.LookUps.{keys_step}
 use Rattle.path_requests.proofs.RouteLaws.{same_bytes-true}

@@ -1,4 +1,4 @@
-use Rattle.std.proofs.Common.{◌∙◌, ap, sym, ◌++◌, ◌∷◌, [], ℕ, List, ◌+◌, ◌-◌, length, false, append_assoc}
+use Rattle.std.proofs.Common.{◌∙◌, ap, sym, ◌++◌, ℕ, List, ◌+◌, ◌-◌, length, false, append_assoc}
 use Rattle.std.specs.Prelude.{filter, slice_index_or}
 use Rattle.cost_base.specs.Lists.{numbers_from}
 use Rattle.lsdb_build.proofs.GraphLaws.{numbers_step}

@@ -1,4 +1,4 @@
-use Rattle.std.proofs.Common.{◌≡◌, ◌∙◌, ap, sym, subst, List, ℕ, length, Bool, false}
+use Rattle.std.proofs.Common.{◌∙◌, ap, subst, List, ℕ, length, Bool, false}
 use Rattle.std.specs.Prelude.{filter, not, slice_index_or, ◌||◌}
 use Rattle.std.specs.List.{list_any}
 use Rattle.cost_base.specs.Lists.{first_of, numbers_from}

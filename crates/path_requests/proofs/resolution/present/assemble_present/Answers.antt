@@ -1,4 +1,4 @@
-use Rattle.std.proofs.Common.{◌≡◌, ◌∙◌, ap, sym, subst, arith, List, ℕ, [], length, map}
+use Rattle.std.proofs.Common.{◌∙◌, ap, sym, subst, arith, List, ℕ, length, map}
 use Rattle.std.specs.Prelude.{All, slice_get}
 use Rattle.std.specs.List.{filter_map}
 use Rattle.area_graph.specs.declared.Price.{Price}

@@ -1,9 +1,9 @@
-use Rattle.std.proofs.Common.{◌≡◌, ◌↔◌, ◌∙◌, ap, sym, subst, List, ℕ, []}
+use Rattle.std.proofs.Common.{◌≡◌, ◌↔◌, ◌∙◌, ap, sym, subst, []}
 use Rattle.std.specs.Prelude.{IsTrue}
 use Rattle.cost_base.specs.Lists.{first_of}
 use Rattle.area_graph.specs.Area.{Area}
 use Rattle.area_graph.specs.Paths.{IsSimple}
-use Rattle.path_requests.specs.Resolving.{fault_unless, hop_faults, broken_faults, walk_faults}
+use Rattle.path_requests.specs.Resolving.{fault_unless, hop_faults, broken_faults}
 use Rattle.path_requests.proofs.Walks.{walk_faults_are}
 use Rattle.path_requests.proofs.resolution.routes.resolve_walk.Goals as goal
 

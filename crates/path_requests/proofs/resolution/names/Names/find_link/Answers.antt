@@ -1,4 +1,4 @@
-use Rattle.std.proofs.Common.{◌≡◌, ◌∙◌, Bor, List, ℕ, map, ap, sym, subst}
+use Rattle.std.proofs.Common.{◌∙◌, Bor, List, ℕ, map, ap, sym, subst}
 use Rattle.std.specs.Prelude.{◌==◌, ◌&&◌, position}
 use Rattle.std.specs.List.{list_any}
 use Rattle.cost_base.specs.Lists.{same_bytes}

@@ -1,4 +1,4 @@
-use Rattle.std.proofs.Common.{◌≡◌, ◌∙◌, Bor, List, ℕ, ap, sym, subst}
+use Rattle.std.proofs.Common.{◌∙◌, Bor, List, ℕ, ap, sym, subst}
 use Rattle.lsdb_build.specs.Graphs.{Database, IsDatabase}
 use Rattle.path_requests.proofs.LookUps.{router_placed, router_found}
 use Rattle.path_requests.proofs.resolution.names.Names.find_router.Goals as goal
