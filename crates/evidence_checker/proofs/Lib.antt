@@ -1,0 +1,5 @@
+pub mod TermLaws
+pub mod Sizes
+pub mod SumLaws
+pub mod PartLaws
+pub mod StackLaws

@@ -1,3 +1,5 @@
 pub mod Refusals
 pub mod Tests
 pub mod Laws
+pub mod Terms
+pub mod Stack

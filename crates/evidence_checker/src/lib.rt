@@ -2,7 +2,11 @@
 #![tactic(auto)]
 
 mod checker;
+mod open_boxes;
+mod products;
 mod stop;
+mod sums;
+mod terms;
 
 pub use checker::check;
 pub use stop::{Accepted, CheckStop};

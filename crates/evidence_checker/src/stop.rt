@@ -14,10 +14,7 @@ pub enum Accepted {
 pub enum CheckStop {
     /// The number of the first test that is met, 40 to 53, and the first place where it is met: a variable, a request, a
     /// row or a line of the tree, each counted from 0, and 0 for a test of the answer as a whole.
-    Refused {
-        number: u8,
-        place: u64,
-    },
+    Refused { number: u8, place: u64 },
     /// Memory ran out. It says nothing of the answer.
     OutOfMemory,
 }
