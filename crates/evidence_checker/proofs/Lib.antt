@@ -3,3 +3,5 @@ pub mod Sizes
 pub mod SumLaws
 pub mod PartLaws
 pub mod StackLaws
+pub mod LineLaws
+pub mod WalkLaws

@@ -3,3 +3,4 @@ pub mod Tests
 pub mod Laws
 pub mod Terms
 pub mod Stack
+pub mod Routes

@@ -2,11 +2,14 @@
 #![tactic(auto)]
 
 mod checker;
+mod lines;
 mod open_boxes;
 mod products;
+mod rows;
 mod stop;
 mod sums;
 mod terms;
+mod tree;
 
 pub use checker::check;
 pub use stop::{Accepted, CheckStop};

@@ -1,4 +1,5 @@
 //! What a check answers.
+use cost_base::OutOfMemory;
 
 /// What was accepted.
 #[derive(Clone, Copy, Debug, PartialEq, Eq)]
@@ -17,4 +18,15 @@ pub enum CheckStop {
     Refused { number: u8, place: u64 },
     /// Memory ran out. It says nothing of the answer.
     OutOfMemory,
+}
+
+impl From<OutOfMemory> for CheckStop {
+    ghost use Rattle.std.specs.Prelude.{◌≡◌};
+    ghost use Rattle.evidence_checker.specs.declared.stop.CheckStop.TheVariants.{OutOfMemory as NoMemory};
+
+    ghost from_gives = { λ _ stop. stop ≡ NoMemory };
+
+    fn from(_stop: OutOfMemory) -> CheckStop {
+        CheckStop::OutOfMemory
+    }
 }

@@ -1,5 +1,5 @@
 //! Weighted sums of forms, and whether they are negative over a whole box.
-ghost use Rattle.std.specs.Prelude.{◌≡◌, ◌↔◌, ℕ, ◌+◌, ◌*◌, ◌^◌, ◌<◌, ◌≤◌, ℤ, pos, ◌+ℤ◌, ◌*ℤ◌, ◌<ℤ◌, nat_abs, length, map, slice_index_or, All, IsTrue, sum_by};
+ghost use Rattle.std.specs.Prelude.{◌≡◌, ◌↔◌, ℕ, ◌+◌, ◌*◌, ◌^◌, ◌<◌, ◌≤◌, ℤ, pos, ◌+ℤ◌, ◌*ℤ◌, ◌<ℤ◌, nat_abs, length, map, slice_index_or, All, Any, IsTrue, MatchBool, sum_by};
 ghost use Rattle.path_rows.specs.Boxes.{upper_sum, greatest};
 ghost use Rattle.path_rows.specs.Forms.{weighted};
 ghost use Rattle.evidence_checker.specs.Terms.{coefficient_at, dense, IsSmallTerms};
@@ -26,9 +26,14 @@ pub(crate) fn sum_is_small(parts: &[(u64, u128)]) -> bool
 
 /// Whether each row is one of so many.
 pub(crate) fn rows_are_known(parts: &[(u64, u128)], count: usize) -> bool
-    ensures { IsTrue result ↔ All (λ part. part.0 < count) parts.now }
+    ensures { MatchBool result (All (λ part. part.0 < count) parts.now) (Any (λ part. count ≤ part.0) parts.now) }
 {
-    parts.iter().all(|part| (part.0 as usize) < count)
+    for part in parts {
+        if count <= part.0 as usize {
+            return false;
+        }
+    }
+    true
 }
 
 /// Adds the terms, each times the multiplier, to the sums of their variables.
