@@ -5,3 +5,4 @@ pub mod PartLaws
 pub mod StackLaws
 pub mod LineLaws
 pub mod WalkLaws
+pub mod RowLaws

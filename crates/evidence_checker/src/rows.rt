@@ -1,5 +1,5 @@
 //! The tests of rows, and their forms.
-ghost use Rattle.std.specs.Prelude.{◌≡◌, ◌↔◌, ℕ, [], ◌∷◌, length, map, slice_get, All, IsTrue, IfOk, IfErr, MatchOption};
+ghost use Rattle.std.specs.Prelude.{◌≡◌, ◌↔◌, ℕ, [], ◌∷◌, length, map, slice_get, All, IsTrue, ◌++◌, IfOk, IfErr, OnOk, MatchOption};
 ghost use Rattle.cost_base.specs.Order.{FirstOf};
 ghost use Rattle.area_graph.specs.Paths.{IsPathOf};
 ghost use Rattle.path_rows.specs.Problems.{ends_of};
@@ -86,6 +86,16 @@ fn terms_of_row(alloc: Global, problem: &Problem, row: &Row) -> Result<Terms, Ou
     terms_of(alloc, &form)
 }
 
+/// One form more.
+fn push_terms(forms: &mut Vec<Terms>, terms: Terms) -> Result<(), OutOfMemory>
+    ensures { OnOk result (forms.new.items ≡ forms.old.items ++ terms ∷ []) }
+{
+    match forms.push(terms) {
+        Ok(()) => Ok(()),
+        Err(_) => Err(OutOfMemory),
+    }
+}
+
 /// The forms of the rows, each by its terms, made once. The rows are tested in order.
 pub(crate) fn forms_of(
     alloc: Global,
@@ -104,9 +114,7 @@ pub(crate) fn forms_of(
             return Err(CheckStop::Refused { number, place });
         }
         let terms = terms_of_row(alloc, problem, row)?;
-        if forms.push(terms).is_err() {
-            return Err(CheckStop::OutOfMemory);
-        }
+        push_terms(&mut forms, terms)?;
     }
     Ok(forms)
 }
