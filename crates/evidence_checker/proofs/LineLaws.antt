@@ -1,6 +1,6 @@
 -- The tests of a line of a tree: the first that is met, and none at a sound line.
 use Rattle.std.proofs.Common.{◌≡◌, ℕ, suc, ◌+◌, ◌-◌, ◌*◌, ◌^◌, ◌<◌, ◌≤◌, refl, sym, ◌∙◌, ap, subst, List, [], ◌∷◌, length, map, arith, inl, inr, get_or}
-use Rattle.std.specs.Prelude.{Option, None, Some, MatchOption, ◌⊎◌, ℤ, pos, negsuc, ◌+ℤ◌, ◌*ℤ◌, ◌<ℤ◌, ◌≤ℤ◌, All, Any, sum_by, false, true, slice_index, slice_set}
+use Rattle.std.specs.Prelude.{IsTrue, Option, None, Some, MatchOption, ◌⊎◌, ℤ, pos, negsuc, ◌+ℤ◌, ◌*ℤ◌, ◌<ℤ◌, ◌≤ℤ◌, All, Any, sum_by, false, true, slice_index, slice_set}
 use Rattle.std.proofs.lemmas.Int.{ints}
 use Rattle.std.proofs.lemmas.List.{set-get_or, set-set}
 use Rattle.cost_base.specs.Order.{FirstOf, NoneOf}
@@ -103,3 +103,6 @@ fault_moved forms entry r n m ls hs low high counts lows highs tells =
     subst (λ (xs : List ℕ). TellsFault m forms low xs entry r) highs
     (subst (λ (xs : List ℕ). TellsFault m forms xs hs entry r) lows
     (subst (λ (k : ℕ). TellsFault k forms ls hs entry r) counts tells))
+
+pub false_true : IsTrue false → ⊥
+false_true e = cc

@@ -1,5 +1,5 @@
 -- Refusals of an answer: the number of a test, and the place where it is met.
-use Rattle.std.specs.Prelude.{◌≡◌, ℕ, ◌+◌, ◌<◌, List, [], ◌∷◌, ◌⊎◌}
+use Rattle.std.specs.Prelude.{◌≡◌, ℕ, ◌+◌, ◌<◌, List, [], ◌∷◌, ◌⊎◌, Option, Some, None}
 use Rattle.cost_base.specs.Order.{FirstOf, NoneOf}
 use Rattle.evidence_checker.specs.declared.stop.CheckStop.{CheckStop}
 use Rattle.evidence_checker.specs.declared.stop.CheckStop.TheVariants.{Refused, OutOfMemory}
@@ -15,6 +15,11 @@ OnWhole number Met f = (f.number ≡ number) × (f.place ≡ 0) × Met
 -- a test of numbered things is met at a place, and at none before
 abbrev pub AtFirst : ℕ → (ℕ → Type 0) → Fault → Type 0
 AtFirst number Met f = (f.number ≡ number) × Met f.place × ((k : ℕ) → k < f.place → Met k → ⊥)
+
+-- the first place at which a test is met, if any
+abbrev pub IsFirst : (ℕ → Type 0) → Option ℕ → Type 0
+IsFirst Met None = (k : ℕ) → Met k → ⊥
+IsFirst Met (Some place) = Met place × ((k : ℕ) → k < place → Met k → ⊥)
 
 -- a test of one item of a list is met
 abbrev pub OnItem : ℕ → Type 0 → ℕ → Type 0

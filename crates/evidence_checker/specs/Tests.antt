@@ -83,8 +83,8 @@ abbrev pub costs_given : DesignProblem → List CostLine → List ℕ
 costs_given p lines = written (replicate (length p.low) 0) p.vars lines
 
 -- 45: the variable's cost is outside its bounds
-abbrev pub IsOutside : DesignProblem → List ℕ → ℕ → Type 0
-IsOutside p w var = (var < length p.low) × ((slice_index w var < slice_index p.low var) ⊎ (slice_index p.high var < slice_index w var))
+abbrev pub IsOutside : List ℕ → List ℕ → List ℕ → ℕ → Type 0
+IsOutside low high w var = (var < length low) × ((slice_index w var < slice_index low var) ⊎ (slice_index high var < slice_index w var))
 
 -- 47: the claim, the number before the lines and the greatest cost aren't all equal
 abbrev pub HasWrongGreatest : ℕ → ℕ → List ℕ → Type 0
@@ -106,7 +106,7 @@ abbrev pub cost_tests : DesignProblem → Verdict → Option Costs → Floor →
 cost_tests p (Optimal k) (Some costs) floor =
     OnWhole 50 (NamesPlaces p.vars costs.lines → ⊥)
     ∷ AtFirst 53 (HasUnequalEnds p.vars costs.lines)
-    ∷ AtFirst 45 (IsOutside p (costs_given p costs.lines))
+    ∷ AtFirst 45 (IsOutside p.low p.high (costs_given p costs.lines))
     ∷ OnWhole 47 (HasWrongGreatest k costs.greatest (costs_given p costs.lines))
     ∷ AtFirst 46 (IsNotOnly p (costs_given p costs.lines))
     ∷ OnWhole 52 (IsFalseFloor p k floor)

@@ -2,10 +2,12 @@
 #![tactic(auto)]
 
 mod checker;
+mod costs;
 mod lines;
 mod open_boxes;
 mod products;
 mod rows;
+mod shape;
 mod stop;
 mod sums;
 mod terms;
