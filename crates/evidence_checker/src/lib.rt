@@ -5,6 +5,7 @@ mod checker;
 mod costs;
 mod lines;
 mod open_boxes;
+mod paths;
 mod products;
 mod rows;
 mod shape;
