@@ -1,13 +1,16 @@
 -- A tree that is gone through line by line, with the box of the next line and those that wait behind it.
 use Rattle.std.proofs.Common.{◌≡◌, ℕ, suc, ◌+◌, refl, sym, ◌∙◌, ap, subst, List, [], ◌∷◌, ◌++◌, length, drop, get_or, add-one, drop-cons, ◌<◌, arith, inl, inr}
-use Rattle.std.specs.Prelude.{false}
+use Rattle.std.specs.Prelude.{false, map, Result, IfErr}
+use Rattle.evidence_checker.specs.declared.stop.CheckStop.{CheckStop}
+use Rattle.evidence_checker.specs.declared.terms.Terms.{Terms}
+use Rattle.evidence_checker.specs.Terms.{dense}
 use Rattle.cost_base.specs.Order.{FirstOf}
 use Rattle.path_rows.specs.declared.form.Form.{Form}
 use Rattle.path_rows.specs.declared.form.CostBox.{CostBox}
 use Rattle.path_rows.specs.declared.tree.Entry.{Entry}
 use Rattle.path_rows.specs.declared.tree.Entry.TheVariants.{Tighten, Split, Halve, Refute, Undone}
 use Rattle.path_rows.specs.Trees.{Sound, SoundAt, IsClosed, WholeTrees, subboxes, subtree_count, is_undone}
-use Rattle.evidence_checker.specs.Refusals.{Fault}
+use Rattle.evidence_checker.specs.Refusals.{Fault, StopsBy}
 use Rattle.evidence_checker.specs.Tests.{line_tests, AtFirstLine}
 use Rattle.evidence_checker.proofs.LineLaws.{sound_meets_none}
 
@@ -62,3 +65,13 @@ pub line_read : (entries : List Entry) (k : ℕ) (entry : Entry) → k < length 
 line_read entries k entry k_in e =
     let split : drop k entries ≡ get_or entries k entry ∷ drop (k + 1) entries = rw (add-one, drop-cons entries k entry) refl in
     split ∙ ap (λ (x : Entry). x ∷ drop (k + 1) entries) (sym e)
+
+-- what a tree's first line with a test is, at a box by its ends
+abbrev pub StopsTree : List Terms → List ℕ → List ℕ → List Entry → CheckStop → Type 0
+StopsTree forms low high tree = StopsBy (AtFirstLine (map (dense (length low)) forms) (record { low = low; high = high } ∷ []) 0 tree ∷ [])
+
+pub stop_moved : {T : Type 0} (r : Result T CheckStop) (forms : List Terms) (ls hs low high : List ℕ) (tree whole : List Entry) → ls ≡ low → hs ≡ high → tree ≡ whole → IfErr r (StopsTree forms ls hs tree) → IfErr r (StopsTree forms low high whole)
+stop_moved r forms ls hs low high tree whole lows highs trees stops =
+    subst (λ (es : List Entry). IfErr r (StopsTree forms low high es)) trees
+    (subst (λ (xs : List ℕ). IfErr r (StopsTree forms low xs tree)) highs
+    (subst (λ (xs : List ℕ). IfErr r (StopsTree forms xs hs tree)) lows stops))

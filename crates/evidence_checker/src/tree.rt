@@ -1,5 +1,6 @@
 //! The lines of a tree, gone through in order.
-ghost use Rattle.std.specs.Prelude.{◌≡◌, ℕ, [], ◌∷◌, length, map, replicate, All, IfOk, IfErr, pos};
+ghost use Rattle.std.specs.Prelude.{◌≡◌, ℕ, [], ◌∷◌, length, map, min, All, IfOk, IfErr, pos};
+ghost use Rattle.path_rows.specs.Boxes.{capped};
 ghost use Rattle.path_rows.specs.Trees.{IsSoundTree, IsClosed, IsWholeTree};
 ghost use Rattle.evidence_checker.specs.Refusals.{StopsBy};
 ghost use Rattle.evidence_checker.specs.Terms.{dense, IsSmallTerms};
@@ -9,7 +10,7 @@ use crate::CheckStop;
 use crate::open_boxes::OpenBoxes;
 use crate::terms::Terms;
 use cost_base::OutOfMemory;
-use path_rows::Entry;
+use path_rows::{CapTree, Entry};
 use std::alloc::Global;
 
 /// Room for the sums of so many variables.
@@ -52,4 +53,44 @@ pub(crate) fn check_tree(
         }
     }
     Ok(())
+}
+
+/// The lower bounds of a problem.
+fn lower_bounds(alloc: Global, low: &[u16]) -> Result<Vec<u16>, OutOfMemory>
+    ensures { IfOk result (λ bounds. bounds.items ≡ low.now) }
+{
+    match low.to_vec(alloc) {
+        Ok(bounds) => Ok(bounds),
+        Err(_) => Err(OutOfMemory),
+    }
+}
+
+/// The upper bounds of a problem, each cut to the cap.
+fn upper_bounds(alloc: Global, high: &[u16], cap: u16) -> Result<Vec<u16>, OutOfMemory>
+    ensures { IfOk result (λ bounds. bounds.items ≡ map (λ h. min h cap) high.now) }
+{
+    high.iter()
+        .map(|bound| (*bound).min(cap))
+        .collect(alloc)
+        .map_err(|_| OutOfMemory)
+}
+
+/// Whether a tree is closed and sound over the box at its cap.
+pub(crate) fn check_cap_tree(
+    alloc: Global,
+    low: &[u16],
+    high: &[u16],
+    forms: &[Terms],
+    proof: &CapTree,
+) -> Result<(), CheckStop>
+    requires count { length low.now ≡ length high.now }
+    requires forms { All (IsSmallTerms (length low.now)) forms.now }
+    ensures sound { IfOk result (λ _.
+        IsSoundTree (map (dense (length low.now)) forms.now) (capped (record { low = low.now; high = high.now }) proof.now.cap) proof.now.tree × IsClosed proof.now.tree) }
+    ensures first { IfErr result (StopsBy
+        (AtFirstLine (map (dense (length low.now)) forms.now) (capped (record { low = low.now; high = high.now }) proof.now.cap ∷ []) 0 proof.now.tree ∷ [])) }
+{
+    let low = lower_bounds(alloc, low)?;
+    let high = upper_bounds(alloc, high, proof.cap)?;
+    check_tree(alloc, forms, low, high, proof.tree.as_slice())
 }
