@@ -1,17 +1,16 @@
 -- The tests of a line of a tree: the first that is met, and none at a sound line.
-use Rattle.std.proofs.Common.{◌≡◌, ℕ, suc, ◌+◌, ◌-◌, ◌*◌, ◌^◌, ◌<◌, ◌≤◌, refl, sym, ◌∙◌, ap, subst, List, [], ◌∷◌, length, map, arith, inl, inr, get_or}
-use Rattle.std.specs.Prelude.{IsTrue, Option, None, Some, MatchOption, ◌⊎◌, ℤ, pos, negsuc, ◌+ℤ◌, ◌*ℤ◌, ◌<ℤ◌, ◌≤ℤ◌, All, Any, sum_by, false, true, slice_index, slice_set}
+use Rattle.std.proofs.Common.{◌≡◌, ℕ, ◌^◌, ◌<◌, ◌≤◌, refl, sym, ◌∙◌, ap, subst, List, [], ◌∷◌, length, map, arith, inl, inr, get_or}
+use Rattle.std.specs.Prelude.{IsTrue, Option, None, Some, MatchOption, ◌⊎◌, ℤ, pos, negsuc, ◌+ℤ◌, ◌*ℤ◌, ◌≤ℤ◌, All, Any, sum_by, false, true, slice_set}
 use Rattle.std.proofs.lemmas.Int.{ints}
 use Rattle.std.proofs.lemmas.List.{set-get_or, set-set}
 use Rattle.cost_base.specs.Order.{FirstOf, NoneOf}
 use Rattle.path_rows.specs.declared.form.Form.{Form}
 use Rattle.path_rows.specs.declared.form.CostBox.{CostBox}
-use Rattle.path_rows.specs.declared.tree.Side.{Side}
 use Rattle.path_rows.specs.declared.tree.Entry.{Entry}
 use Rattle.path_rows.specs.declared.tree.Entry.TheVariants.{Tighten, Split, Halve, Refute, Undone}
 use Rattle.path_rows.specs.Boxes.{greatest, upper_sum, Refutes}
 use Rattle.path_rows.specs.Forms.{weighted, added, form_at}
-use Rattle.path_rows.specs.Trees.{SoundAt, TightensAt, CutsAt, is_undone}
+use Rattle.path_rows.specs.Trees.{SoundAt, is_undone}
 use Rattle.evidence_checker.specs.declared.terms.Terms.{Terms}
 use Rattle.evidence_checker.specs.Terms.{dense}
 use Rattle.evidence_checker.specs.Tests.{line_tests}

@@ -10,7 +10,7 @@ use Rattle.path_rows.specs.declared.form.Row.{Row}
 use Rattle.path_rows.specs.declared.problem.Request.{Request}
 use Rattle.path_rows.specs.Problems.{DesignProblem}
 use Rattle.path_rows.specs.Rows.{IsRow, IsRivalOf, IsRouteOf, path_edges}
-use Rattle.evidence_checker.specs.Refusals.{Fault, AtFirstItem, OnItem}
+use Rattle.evidence_checker.specs.Refusals.{Fault, AtFirstItem}
 use Rattle.evidence_checker.specs.Tests.{row_tests}
 
 rival_is_route : (g : Area) (r : Option Request) (es : List ℕ) → IsRivalOf g r es → IsRouteOf g r es

@@ -1,11 +1,10 @@
 -- Forms by their terms: what each variable's terms add up to.
-use Rattle.std.proofs.Common.{◌≡◌, ℕ, zero, suc, ◌+◌, ◌<◌, ◌≤◌, refl, sym, ◌∙◌, ap, List, [], ◌∷◌, ◌++◌, length, get_or, cond, eqb, arith, Bool}
+use Rattle.std.proofs.Common.{◌≡◌, ℕ, ◌+◌, ◌<◌, ◌≤◌, sym, ◌∙◌, ap, List, [], ◌∷◌, ◌++◌, length, get_or, cond, eqb, arith, Bool}
 use native.Mathlib.Decide.{ℕ_discrete}
-use Rattle.std.specs.Prelude.{ℤ, pos, ◌+ℤ◌, map}
+use Rattle.std.specs.Prelude.{ℤ, pos, ◌+ℤ◌}
 use Rattle.std.proofs.lemmas.Int.{ints}
 use Rattle.std.proofs.lemmas.Bool.{ne_eqb, eq-eqb}
-use lib.IntN.{+ℤ_assoc, +ℤ_idl, +ℤ_idr}
-use Rattle.cost_base.specs.Lists.{numbers_from}
+use lib.IntN.{+ℤ_assoc}
 use Rattle.path_rows.specs.declared.form.Form.{Form}
 use Rattle.path_rows.proofs.Tallies.{tabulated}
 use Rattle.evidence_checker.specs.declared.terms.Terms.{Terms}

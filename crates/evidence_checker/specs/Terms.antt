@@ -1,5 +1,5 @@
 -- Forms by their terms.
-use Rattle.std.specs.Prelude.{◌≡◌, ℕ, ◌==◌, ◌^◌, ◌<◌, List, [], ◌∷◌, ℤ, pos, ◌+ℤ◌, nat_abs, map, All, sum_by, if◌then◌else◌}
+use Rattle.std.specs.Prelude.{ℕ, ◌==◌, ◌^◌, ◌<◌, List, [], ◌∷◌, ℤ, pos, ◌+ℤ◌, nat_abs, map, All, sum_by, if◌then◌else◌}
 use Rattle.cost_base.specs.Lists.{numbers_from}
 use Rattle.path_rows.specs.declared.form.Form.{Form}
 use Rattle.path_rows.specs.Forms.{IsSmallForm}

@@ -1,5 +1,5 @@
 -- The tests of a checker of answers, in their order, each with its number.
-use Rattle.std.specs.Prelude.{◌≡◌, ℕ, ◌+◌, ◌*◌, ◌^◌, ◌<◌, ◌≤◌, ◌⊎◌, List, [], ◌∷◌, ◌++◌, pos, ◌≤ℤ◌, length, replicate, slice_index, slice_set, slice_get, All, Any, Option, None, Some, sum_by}
+use Rattle.std.specs.Prelude.{◌≡◌, ℕ, ◌+◌, ◌^◌, ◌<◌, ◌≤◌, ◌⊎◌, List, [], ◌∷◌, ◌++◌, pos, ◌≤ℤ◌, length, replicate, slice_index, slice_set, slice_get, All, Any, Option, None, Some, sum_by}
 use Rattle.std.specs.List.{AllZip}
 use Rattle.cost_base.specs.Order.{FirstOf, NoneOf}
 use Rattle.area_graph.specs.Costs.{at_costs, IsOnlyCheapest}

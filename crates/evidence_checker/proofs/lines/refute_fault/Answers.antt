@@ -1,5 +1,5 @@
-use Rattle.std.proofs.Common.{ℕ, ◌<◌, ◌≤◌, length, map, subst, sym, inl, arith, refl}
-use Rattle.std.specs.Prelude.{Any, sum_by}
+use Rattle.std.proofs.Common.{ℕ, ◌≤◌, length, map, subst, sym, inl, refl}
+use Rattle.std.specs.Prelude.{Any}
 use Rattle.std.proofs.lemmas.List.{length-map}
 use Rattle.evidence_checker.specs.Terms.{dense}
 use Rattle.evidence_checker.proofs.LineLaws.{nothing_refuted}

@@ -1,4 +1,4 @@
-use Rattle.std.proofs.Common.{ℕ, length, map, subst, refl, get_or}
+use Rattle.std.proofs.Common.{length, map, subst, refl, get_or}
 use Rattle.std.specs.Prelude.{ℤ, pos, ◌<ℤ◌, IsTrue, slice_set}
 use Rattle.evidence_checker.specs.Terms.{dense}
 use Rattle.evidence_checker.proofs.LineLaws.{single_greatest, put_back}

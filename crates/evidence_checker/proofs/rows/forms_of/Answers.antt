@@ -1,4 +1,4 @@
-use Rattle.std.proofs.Common.{◌≡◌, ℕ, length, inl, subst, sym}
+use Rattle.std.proofs.Common.{length, inl, subst, sym}
 use Rattle.std.specs.Prelude.{All, List}
 use Rattle.std.proofs.lemmas.List.Elements.{All-push}
 use Rattle.path_rows.specs.Rows.{IsRow, form_of_row}

@@ -1,7 +1,6 @@
 use Rattle.std.proofs.Common.{◌≡◌, ℕ, ◌<◌, length, map, take, get_or}
 use Rattle.std.specs.Prelude.{All}
 use Rattle.path_rows.specs.declared.form.Row.{Row}
-use Rattle.path_rows.specs.contracts.problem.Problem.{the_view}
 use Rattle.path_rows.specs.Rows.{IsRow, form_of_row}
 use Rattle.evidence_checker.specs.Terms.{dense, IsSmallTerms}
 use Rattle.evidence_checker.proofs.RowLaws.{FirstIsLeft}

@@ -1,9 +1,8 @@
-use Rattle.std.proofs.Common.{◌≡◌, ℕ, ◌+◌, ◌*◌, ◌^◌, ◌<◌, ◌≤◌, List, sym, ◌∙◌, ap, subst, get_or, length, map, rules, SFits, w64, to_z, of_z, arith}
+use Rattle.std.proofs.Common.{◌≡◌, ℕ, ◌*◌, ◌^◌, ◌<◌, ◌≤◌, List, sym, ◌∙◌, ap, get_or, length, map, rules, SFits, w64, to_z, of_z, arith}
 use Rattle.std.specs.Int.{w128}
 use Rattle.std.specs.Prelude.{ℤ, pos, ◌+ℤ◌, ◌*ℤ◌, nat_abs, sum_by}
 use Rattle.std.proofs.lemmas.Int.{to_z-of_z}
 use Rattle.path_rows.specs.declared.form.Form.{Form}
-use Rattle.path_rows.specs.Forms.{form_at}
 use Rattle.evidence_checker.specs.Terms.{coefficient_at, dense}
 use Rattle.evidence_checker.proofs.PartLaws.{constant_more, coefficient_more, coefficient_is, size_of_part, room_for, constant_small, coefficient_small, small_at, form_read}
 use Rattle.evidence_checker.proofs.sums.add_parts.Goals as goal

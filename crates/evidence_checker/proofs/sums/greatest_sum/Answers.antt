@@ -1,4 +1,4 @@
-use Rattle.std.proofs.Common.{arith, get_or, ap, rules, SFits, to_z, of_z}
+use Rattle.std.proofs.Common.{arith, get_or, ap, rules, SFits}
 use Rattle.std.specs.Int.{w128}
 use Rattle.std.specs.Prelude.{ℤ, pos, nat_abs}
 use Rattle.std.proofs.lemmas.Int.{ints, to_z-of_z}

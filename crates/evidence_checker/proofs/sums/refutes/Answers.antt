@@ -1,10 +1,9 @@
-use Rattle.std.proofs.Common.{◌≡◌, ℕ, ◌+◌, ◌*◌, ◌^◌, ◌<◌, ◌∙◌, ap, sym, subst, length, map, rules, SFits, to_z, of_z, refl, get_or}
+use Rattle.std.proofs.Common.{ℕ, ◌+◌, ◌*◌, ◌^◌, ◌<◌, ◌∙◌, ap, sym, subst, length, map, rules, SFits, get_or}
 use Rattle.std.specs.Int.{w128}
 use Rattle.std.specs.Prelude.{ℤ, nat_abs, sum_by}
 use Rattle.std.proofs.lemmas.Int.{to_z-of_z}
 use Rattle.path_rows.specs.Boxes.{greatest}
 use Rattle.path_rows.specs.Forms.{weighted}
-use Rattle.evidence_checker.specs.declared.terms.Terms.{Terms}
 use Rattle.evidence_checker.specs.Terms.{dense, IsSmallTerms}
 use Rattle.evidence_checker.proofs.Sizes.{negative_iff}
 use Rattle.evidence_checker.proofs.PartLaws.{made_fits, made_greatest}

@@ -1,4 +1,4 @@
-use Rattle.std.proofs.Common.{sym, ◌∙◌, ap, w64}
+use Rattle.std.proofs.Common.{◌∙◌, ap, w64}
 use Rattle.std.specs.Prelude.{ℤ, ◌∷◌, [], ◌++◌}
 use Rattle.std.proofs.lemmas.Int.{to_z-of_z}
 use Rattle.evidence_checker.specs.Terms.{coefficient_at}

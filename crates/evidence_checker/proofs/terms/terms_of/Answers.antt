@@ -1,4 +1,4 @@
-use Rattle.std.proofs.Common.{sym, ◌∙◌, ap, rules, refl, SFits, w64, length, subst, arith, ℕ, ◌<◌, get_or, to_z, of_z}
+use Rattle.std.proofs.Common.{ap, rules, refl, SFits, w64, length, subst, arith, ◌<◌, get_or, to_z, of_z}
 use Rattle.std.specs.Prelude.{ℤ, List, pos, nat_abs}
 use Rattle.std.proofs.lemmas.List.Sums.{sum_by_more}
 use Rattle.std.proofs.lemmas.Int.{to_z-of_z}

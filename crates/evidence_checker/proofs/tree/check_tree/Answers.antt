@@ -1,9 +1,9 @@
-use Rattle.std.proofs.Common.{◌≡◌, ℕ, ◌+◌, ◌<◌, sym, ◌∙◌, ap, subst, List, ◌∷◌, [], length, map, drop, inl, refl, arith}
-use Rattle.std.specs.Prelude.{Option, None, Some}
+use Rattle.std.proofs.Common.{◌+◌, sym, ◌∙◌, ap, subst, List, ◌∷◌, [], length, map, drop, inl, refl}
+use Rattle.std.specs.Prelude.{None, Some}
 use Rattle.path_rows.specs.declared.form.Form.{Form}
 use Rattle.path_rows.specs.declared.form.CostBox.{CostBox}
 use Rattle.path_rows.specs.declared.tree.Entry.{Entry}
-use Rattle.path_rows.specs.Trees.{SoundAt, subboxes}
+use Rattle.path_rows.specs.Trees.{SoundAt}
 use Rattle.evidence_checker.specs.Stack.{present, behind}
 use Rattle.evidence_checker.specs.Terms.{dense}
 use Rattle.evidence_checker.proofs.LineLaws.{fault_moved}

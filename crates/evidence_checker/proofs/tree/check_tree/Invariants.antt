@@ -1,5 +1,4 @@
-use Rattle.std.proofs.Common.{◌≡◌, List, [], ◌∷◌, length, map, drop}
-use Rattle.path_rows.specs.declared.form.CostBox.{CostBox}
+use Rattle.std.proofs.Common.{◌≡◌, [], ◌∷◌, length, map, drop}
 use Rattle.evidence_checker.specs.Stack.{present, behind, IsStack}
 use Rattle.evidence_checker.specs.Terms.{dense}
 use Rattle.evidence_checker.proofs.WalkLaws.{Walks}

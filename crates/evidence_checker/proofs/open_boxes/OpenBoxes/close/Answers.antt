@@ -1,10 +1,10 @@
-use Rattle.std.proofs.Common.{◌≡◌, ℕ, ◌+◌, ◌<◌, length, length-set, arith, sym, ◌∙◌, ap, reverse, List, ◌++◌, ◌∷◌, []}
+use Rattle.std.proofs.Common.{◌+◌, ◌<◌, length, length-set, arith, sym, ◌∙◌, ap, reverse, List, ◌∷◌}
 use Rattle.std.proofs.lemmas.Grind.{get_or_default_zero}
 use Rattle.path_rows.specs.declared.form.CostBox.{CostBox}
 use Rattle.path_rows.specs.Boxes.{with_high, with_low}
 use Rattle.evidence_checker.specs.declared.open_boxes.Change.{Change}
-use Rattle.evidence_checker.specs.declared.open_boxes.Change.TheVariants.{Low, High, Second}
-use Rattle.evidence_checker.specs.Stack.{present, waiting, IsStack, IsChange}
+use Rattle.evidence_checker.specs.declared.open_boxes.Change.TheVariants.{Second}
+use Rattle.evidence_checker.specs.Stack.{present, waiting}
 use Rattle.evidence_checker.proofs.StackLaws.{waiting_pushed, low_pushed, popped_changes, popped_change, pushed_changes}
 use Rattle.evidence_checker.proofs.open_boxes.OpenBoxes.close.Goals as goal
 

@@ -1,4 +1,4 @@
-use Rattle.std.proofs.Common.{ap, length, List}
+use Rattle.std.proofs.Common.{ap, length}
 use Rattle.std.specs.Prelude.{ℤ}
 use Rattle.evidence_checker.proofs.LineLaws.{fault_moved}
 use Rattle.evidence_checker.proofs.open_boxes.OpenBoxes.fault.Goals as goal
