@@ -1,3 +1,4 @@
+pub mod Choices
 pub mod TermLaws
 pub mod Sizes
 pub mod SumLaws
@@ -6,3 +7,4 @@ pub mod StackLaws
 pub mod LineLaws
 pub mod WalkLaws
 pub mod RowLaws
+pub mod CostLaws

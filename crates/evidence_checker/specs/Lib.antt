@@ -4,3 +4,4 @@ pub mod Laws
 pub mod Terms
 pub mod Stack
 pub mod Routes
+pub mod Costs

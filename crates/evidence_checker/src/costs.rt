@@ -1,10 +1,11 @@
 //! The tests of the costs and the floor of an optimal answer.
-ghost use Rattle.std.specs.Prelude.{◌≡◌, ◌↔◌, ◌⊎◌, ℕ, ◌^◌, ◌<◌, ◌≤◌, MatchBool, max, fold, length, replicate, All, IsTrue, IfOk, MatchOption};
+ghost use Rattle.std.specs.Prelude.{◌≡◌, ◌↔◌, ◌⊎◌, ℕ, ◌^◌, ◌<◌, ◌≤◌, MatchBool, max, fold, length, replicate, slice_index, All, IsTrue, IfOk, MatchOption};
 ghost use Rattle.area_graph.specs.Costs.{at_costs, IsOnlyCheapest, FitsPoint};
 ghost use Rattle.path_rows.specs.Problems.{ends_of};
 ghost use Rattle.path_rows.specs.Rows.{greatest_cost};
 ghost use Rattle.evidence_checker.specs.Refusals.{IsFirst};
-ghost use Rattle.evidence_checker.specs.Tests.{NamesPlaces, written, IsOutside};
+ghost use Rattle.evidence_checker.specs.Costs.{lesser_of};
+ghost use Rattle.evidence_checker.specs.Tests.{NamesPlaces, HasUnequalEnds, written, IsOutside};
 
 use cost_base::OutOfMemory;
 use path_rows::{CostLine, VarName};
@@ -63,6 +64,40 @@ pub(crate) fn costs_given(
         costs[name.var as usize] = lines[index].cost;
     }
     Ok(costs)
+}
+
+/// Whether a line gives its variable another cost than it has.
+fn is_off(name: &VarName, line: &CostLine, costs: &[u16]) -> bool
+    requires { name.now.var < length costs.now }
+    ensures { MatchBool result (line.now.cost ≡ slice_index costs.now name.now.var → ⊥) (line.now.cost ≡ slice_index costs.now name.now.var) }
+{
+    line.cost != costs[name.var as usize]
+}
+
+/// The lesser of a variable and the least so far.
+fn lesser(least: Option<u32>, var: u32) -> u32
+    ensures { result ≡ lesser_of least var }
+{
+    match least {
+        Some(least) => least.min(var),
+        None => var,
+    }
+}
+
+/// The first variable that has two lines of different costs, where the costs are those that the lines give.
+pub(crate) fn first_unequal(names: &[VarName], lines: &[CostLine], costs: &[u16]) -> Option<u32>
+    requires counts { length names.now ≡ length lines.now }
+    requires known { All (λ name. name.var < length costs.now) names.now }
+    requires given { costs.now ≡ written (replicate (length costs.now) 0) names.now lines.now }
+    ensures { IsFirst (HasUnequalEnds names.now lines.now) result }
+{
+    let mut least = None;
+    for (index, name) in names.iter().enumerate() {
+        if is_off(name, &lines[index], costs) {
+            least = Some(lesser(least, name.var));
+        }
+    }
+    least
 }
 
 /// Whether a cost is outside a range.
