@@ -2,13 +2,16 @@
 use Rattle.std.proofs.Common.{◌≡◌, ℕ, zero, suc, ◌+◌, ◌<◌, ◌≤◌, refl, sym, ◌∙◌, ap, subst, List, [], ◌∷◌, length, get_or, drop, replicate, arith, inl, inr, length-set, get_or-set_other, add-one, drop-cons}
 use Rattle.std.specs.Prelude.{slice_index, slice_set, ◌⊎◌, Option, Some, None, All, Any}
 use Rattle.std.specs.List.{AllZip}
+use Rattle.std.proofs.lemmas.List.{length-replicate}
 use native.Mathlib.Decide.{ℕ_discrete}
 use Rattle.std.proofs.lemmas.Grind.{get_or-set_at, same_number_lists}
 use Rattle.std.proofs.lemmas.List.Elements.{All-tail}
 use Rattle.path_rows.specs.declared.answer.CostLine.{CostLine}
 use Rattle.path_rows.specs.declared.problem.VarName.{VarName}
+use Rattle.path_rows.specs.Answers.{Names}
+use Rattle.path_rows.specs.Problems.{DesignProblem}
 use Rattle.evidence_checker.specs.Refusals.{IsFirst}
-use Rattle.evidence_checker.specs.Tests.{GivesCost, HasUnequalEnds, NamesPlaces, written}
+use Rattle.evidence_checker.specs.Tests.{GivesCost, HasUnequalEnds, NamesPlaces, written, costs_given}
 use Rattle.evidence_checker.specs.Costs.{lesser_of}
 
 -- a write keeps how many costs there are
@@ -202,3 +205,69 @@ first_of_least n costs names lines k (Some least) known is past so_far = (
 
 pub off_ends : (n : ℕ) (costs : List ℕ) (names : List VarName) (lines : List CostLine) (k : ℕ) (least : Option ℕ) → All (λ name. name.var < length costs) names → costs ≡ written (replicate n 0) names lines → length names ≤ k → LeastOff costs names lines k least → IsFirst (HasUnequalEnds names lines) least
 off_ends = first_of_least
+
+-- there are as many costs as variables
+pub given_count : (n : ℕ) (costs : List ℕ) (names : List VarName) (lines : List CostLine) → costs ≡ written (replicate n 0) names lines → length costs ≡ n
+given_count n costs names lines is = ap length is ∙ length-written (replicate n 0) names lines ∙ length-replicate {A = ℕ} n 0
+
+pub known_names : (n : ℕ) (xs names : List VarName) (costs : List ℕ) → xs ≡ names → length costs ≡ n → All (λ name. name.var < n) names → All (λ name. name.var < length costs) xs
+known_names n xs names costs same count known = subst (λ (ns : List VarName). All (λ name. name.var < length costs) ns) (sym same) (subst (λ (m : ℕ). All (λ name. name.var < m) names) (sym count) known)
+
+pub given_moved : (n : ℕ) (xs names : List VarName) (lines : List CostLine) (costs : List ℕ) → xs ≡ names → length costs ≡ n → costs ≡ written (replicate n 0) names lines → costs ≡ written (replicate (length costs) 0) xs lines
+given_moved n xs names lines costs same count is =
+    is ∙ ap (λ (m : ℕ). written (replicate m 0) names lines) (sym count) ∙ ap (λ (ns : List VarName). written (replicate (length costs) 0) ns lines) (sym same)
+
+-- where no variable has unequal ends, each line gives the cost of its variable
+names_given : (w : List ℕ) (names : List VarName) (lines : List CostLine) → NamesPlaces names lines → ((var : ℕ) → IsOff w names lines var → ⊥) → AllZip (λ name line. (line.router ≡ name.router) × (line.interface ≡ name.interface) × (line.cost ≡ slice_index w name.var)) names lines
+names_given w [] [] named none = tt
+names_given w [] (line ∷ lines) named none = named
+names_given w (name ∷ names) [] named none = named
+names_given w (name ∷ names) (line ∷ lines) named none = (
+  (
+    named.0.0,
+    named.0.1,
+    elim (ℕ_discrete line.cost (slice_index w name.var)) [ yes same ↦ same | no other ↦ absurd (none name.var (line.cost, inl (refl, refl), other)) ],
+  ),
+  names_given w names lines named.1 (λ var off. none var (off.0, inr off.1, off.2)),
+)
+
+pub ends_equal : (p : DesignProblem) (xs : List VarName) (lines : List CostLine) (costs : List ℕ) → xs ≡ p.vars → All (λ name. name.var < length p.low) p.vars → NamesPlaces p.vars lines → costs ≡ costs_given p lines → IsFirst (HasUnequalEnds xs lines) None → Names p lines costs
+ends_equal p xs lines costs same known named is none =
+    let count = given_count (length p.low) costs p.vars lines is in
+    names_given costs p.vars lines named
+    (λ var off. none var (subst (λ (ns : List VarName). HasUnequalEnds ns lines var) (sym same) (off_unequal (length p.low) costs p.vars lines var (known_names (length p.low) p.vars p.vars costs refl count known) is off)))
+
+-- a cost that a line gives is that of the variable
+given_is : (w : List ℕ) (names : List VarName) (lines : List CostLine) (var c : ℕ) → AllZip (λ name line. (line.router ≡ name.router) × (line.interface ≡ name.interface) × (line.cost ≡ slice_index w name.var)) names lines → GivesCost names lines var c → c ≡ slice_index w var
+given_is w [] lines var c names_lines given = absurd given
+given_is w (name ∷ names) [] var c names_lines given = absurd given
+given_is w (name ∷ names) (line ∷ lines) var c names_lines given =
+    elim given [
+      | inl here ↦ sym here.1 ∙ names_lines.0.2 ∙ ap (λ (v : ℕ). slice_index w v) here.0
+      | inr there ↦ given_is w names lines var c names_lines.1 there
+    ]
+
+pub names_equal : (p : DesignProblem) (lines : List CostLine) (w : List ℕ) (var : ℕ) → Names p lines w → HasUnequalEnds p.vars lines var → ⊥
+names_equal p lines w var names_lines unequal =
+    unequal.4 (given_is w p.vars lines var unequal.0 names_lines unequal.2 ∙ sym (given_is w p.vars lines var unequal.1 names_lines unequal.3))
+
+line_of : (w : List ℕ) (k : ℕ) (names : List VarName) (lines : List CostLine) (name : VarName) → AllZip (λ name line. (line.router ≡ name.router) × (line.interface ≡ name.interface) × (line.cost ≡ slice_index w name.var)) names lines → k < length names → get_or names k name ≡ name → (c : ℕ) × GivesCost names lines name.var c
+line_of w k [] lines name names_lines k_in is = absurd (omega arith)
+line_of w k (x ∷ names) [] name names_lines k_in is = absurd names_lines
+line_of w zero (x ∷ names) (line ∷ lines) name names_lines k_in is = (line.cost, inl (ap (λ (n : VarName). n.var) is, refl))
+line_of w (suc k) (x ∷ names) (line ∷ lines) name names_lines k_in is =
+    let rest = line_of w k names lines name names_lines.1 (omega arith) is in (rest.0, inr rest.1)
+
+-- lines that give each variable one cost give those costs
+pub names_written : (p : DesignProblem) (lines : List CostLine) (w : List ℕ) → ((k : ℕ) → k < length p.low → Any (λ name. name.var ≡ k) p.vars) → length p.low ≡ length w → Names p lines w → costs_given p lines ≡ w
+names_written p lines w each_named count names_lines =
+    let n = length p.low in
+    let long : length (costs_given p lines) ≡ n = length-written (replicate n 0) p.vars lines ∙ length-replicate {A = ℕ} n 0 in
+    same_number_lists (costs_given p lines) w (long ∙ count)
+    (λ k k_in.
+    let is_var : k < n = omega (arith, long) in
+    let name = each_named k is_var in
+    let line = line_of w name.0 p.vars lines name.1 names_lines name.2 name.3 in
+    let given : GivesCost p.vars lines k line.0 = subst (λ (v : ℕ). GivesCost p.vars lines v line.0) name.4 line.1 in
+    given_is w p.vars lines k (slice_index (costs_given p lines) k) names_lines
+    (written_of_line (replicate n 0) p.vars lines k line.0 (let e : k < length (replicate n 0) = omega (arith, length-replicate {A = ℕ} n 0) in e) given))

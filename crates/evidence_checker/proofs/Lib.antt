@@ -8,3 +8,5 @@ pub mod LineLaws
 pub mod WalkLaws
 pub mod RowLaws
 pub mod CostLaws
+pub mod StopLaws
+pub mod CostTests

@@ -2,6 +2,7 @@
 #![tactic(auto)]
 
 mod checker;
+mod cost_tests;
 mod costs;
 mod lines;
 mod open_boxes;

@@ -6,6 +6,7 @@ ghost use Rattle.evidence_checker.specs.Laws.{IsAcceptedAs};
 ghost use Rattle.evidence_checker.specs.Refusals.{OnWhole, StopsBy};
 ghost use Rattle.evidence_checker.specs.Tests.{ClaimsNothing, ShapeOfClaim, ShapeOfLeast, ShapeOfNone, IsFalseFloor};
 
+use crate::costs::greatest_of;
 use crate::{Accepted, CheckStop};
 use path_rows::{CapTree, Costs, Floor, Problem, Verdict};
 
@@ -47,7 +48,36 @@ fn shows_least(problem: &Problem, greatest: u16, floor: Floor, proof: Option<&Ca
     }
 }
 
-/// Whether a floor is true: its variable's lower bound is the greatest cost, or there is no variable.
+/// Whether a proof stands at the greatest upper bound, and no floor.
+fn shows_none(problem: &Problem, floor: Floor, proof: Option<&CapTree>) -> bool
+    ensures { IsTrue result ↔ ShapeOfNone problem.now floor (option_copied proof.entry) }
+{
+    match (floor, proof) {
+        (Floor::Absent, Some(proof)) => proof.cap == greatest_of(problem.high.as_slice()),
+        (Floor::Absent, None) | (Floor::Empty | Floor::Var(_), _) => false,
+    }
+}
+
+/// Whether the parts stand that a verdict needs, and no others.
+fn fits_claim(
+    problem: &Problem,
+    verdict: Verdict,
+    costs: Option<&Costs>,
+    floor: Floor,
+    proof: Option<&CapTree>,
+) -> bool
+    ensures { IsTrue result ↔ ShapeOfClaim problem.now verdict (option_copied costs.entry) floor (option_copied proof.entry) }
+{
+    match (verdict, costs) {
+        (Verdict::Optimal(greatest), Some(_)) => shows_least(problem, greatest, floor, proof),
+        (Verdict::Impossible, None) => shows_none(problem, floor, proof),
+        (Verdict::Optimal(_), None) | (Verdict::Impossible, Some(_)) | (Verdict::Budget(_), _) => {
+            false
+        }
+    }
+}
+
+/// Whether a floor is false: its variable has another lower bound than the greatest cost, or there is a variable after all.
 pub(crate) fn is_false_floor(problem: &Problem, greatest: u16, floor: Floor) -> bool
     ensures { IsTrue result ↔ IsFalseFloor problem.now greatest floor }
 {
