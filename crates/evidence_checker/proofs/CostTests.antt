@@ -1,6 +1,6 @@
 -- The tests of an optimal answer's costs, in their order: those that are passed, and the first that is met.
 use Rattle.std.proofs.Common.{◌≡◌, ℕ, sym, subst, List, [], ◌∷◌, arith, inl, inr}
-use Rattle.std.specs.Prelude.{Some, All, Result, Ok, Err, IfErr, IsErrAnd}
+use Rattle.std.specs.Prelude.{Some, All, Result, IfErr, IsErrAnd}
 use Rattle.cost_base.specs.Order.{NoneOf}
 use Rattle.path_rows.specs.declared.answer.Verdict.TheVariants.{Optimal}
 use Rattle.path_rows.specs.declared.answer.Costs.{Costs}
@@ -16,7 +16,7 @@ use Rattle.evidence_checker.specs.Costs.{IsOnlyAt}
 use Rattle.evidence_checker.specs.Refusals.{Fault, OnWhole, AtFirst, StopsBy}
 use Rattle.evidence_checker.specs.Tests.{NamesPlaces, HasUnequalEnds, IsOutside, HasWrongGreatest, IsNotOnly, IsFalseFloor, costs_given, cost_tests}
 use Rattle.evidence_checker.proofs.CostLaws.{names_equal}
-use Rattle.evidence_checker.proofs.StopLaws.{only_test}
+use Rattle.evidence_checker.proofs.StopLaws.{only_test, err_tells}
 
 -- the tests, at the costs
 abbrev pub TestsAt : DesignProblem → ℕ → ℕ → List CostLine → Floor → List ℕ → List (Fault → Type 0)
@@ -100,5 +100,4 @@ passes p k printed lines floor w named names_lines within same only true_floor =
 
 -- a refusal that is handed on
 pub err_stops : {T : Type 0} (r : Result T CheckStop) (s : CheckStop) (ts : List (Fault → Type 0)) → IsErrAnd r (λ e. e ≡ s) → StopsBy ts s → IfErr r (StopsBy ts)
-err_stops (Ok x) s ts is stops = absurd is
-err_stops (Err e) s ts is stops = subst (StopsBy ts) (sym is) stops
+err_stops r s ts is stops = err_tells r s (StopsBy ts) is stops

@@ -10,3 +10,4 @@ pub mod RowLaws
 pub mod CostLaws
 pub mod StopLaws
 pub mod CostTests
+pub mod AnswerLaws

@@ -1,6 +1,6 @@
 -- Refusals by one of several tests.
 use Rattle.std.proofs.Common.{◌≡◌, ℕ, ◌<◌, refl, sym, subst, List, [], ◌∷◌, ◌++◌, inl, inr}
-use Rattle.std.specs.Prelude.{Some}
+use Rattle.std.specs.Prelude.{Some, Result, Ok, Err, IfErr, IsErrAnd}
 use Rattle.cost_base.specs.Order.{FirstOf, NoneOf}
 use Rattle.evidence_checker.specs.declared.stop.CheckStop.{CheckStop}
 use Rattle.evidence_checker.specs.declared.stop.CheckStop.TheVariants.{Refused, OutOfMemory}
@@ -36,9 +36,14 @@ none_left_right [] us none others = others
 none_left_right (t ∷ ts) us none others = (none.0, none_left_right ts us none.1 others)
 
 -- where no test is met, none is the first
-none_first : (ts : List (Fault → Type 0)) (f : Fault) → NoneOf ts → FirstOf ts f → ⊥
+pub none_first : {F : Type 0} (ts : List (F → Type 0)) (f : F) → NoneOf ts → FirstOf ts f → ⊥
 none_first [] f none first = first
 none_first (t ∷ ts) f none first = elim first [ inl here ↦ none.0 f here | inr later ↦ none_first ts f none.1 later.1 ]
 
 pub none_refused : (ts : List (Fault → Type 0)) (number place : ℕ) → NoneOf ts → StopsBy ts (Refused number place) → ⊥
 none_refused ts number place none stops = none_first ts (record { number = number; place = place }) none stops
+
+-- what is known of a stop that is handed on
+pub err_tells : {T : Type 0} (r : Result T CheckStop) (s : CheckStop) (P : CheckStop → Type 0) → IsErrAnd r (λ e. e ≡ s) → P s → IfErr r P
+err_tells (Ok x) s P is tells = absurd is
+err_tells (Err e) s P is tells = subst P (sym is) tells

@@ -2,7 +2,6 @@
 ghost use Rattle.std.specs.Prelude.{◌≡◌, ℕ, ◌≤◌, [], ◌∷◌, length, All, IfOk, IfErr};
 ghost use Rattle.path_rows.specs.Answers.{Names, GivesCosts};
 ghost use Rattle.path_rows.specs.Boxes.{IsInBox};
-ghost use Rattle.path_rows.specs.Problems.{IsProblem};
 ghost use Rattle.path_rows.specs.Rows.{box_of, greatest_cost};
 ghost use Rattle.path_rows.specs.declared.answer.Verdict.TheVariants.{Optimal};
 ghost use Rattle.evidence_checker.specs.Costs.{IsOnlyAt};
@@ -12,9 +11,10 @@ ghost use Rattle.evidence_checker.specs.Tests.{NamesPlaces, HasUnequalEnds, IsOu
 use crate::CheckStop;
 use crate::costs::{costs_given, first_outside, first_unequal, greatest_of, names_places};
 use crate::paths::first_not_only;
+use crate::problem_parts::{high_of, keeps, low_of, names_of};
 use crate::shape::is_false_floor;
 use cost_base::OutOfMemory;
-use path_rows::{CostLine, Costs, Floor, Problem, VarName};
+use path_rows::{CostLine, Costs, Floor, Problem};
 use std::alloc::Global;
 
 /// The test of the places that the lines name.
@@ -29,34 +29,6 @@ const WRONG_GREATEST: u8 = 47;
 const NOT_ONLY: u8 = 46;
 /// The test of a floor.
 const FALSE_FLOOR: u8 = 52;
-
-/// What the type of a problem keeps.
-fn keeps(problem: &Problem)
-    ensures { IsProblem problem.now }
-{
-    let _ = &problem.graph;
-}
-
-/// The free interfaces.
-fn names_of(problem: &Problem) -> &[VarName]
-    ensures { result.now ≡ problem.now.vars }
-{
-    problem.vars.as_slice()
-}
-
-/// The lower bounds.
-fn low_of(problem: &Problem) -> &[u16]
-    ensures { result.now ≡ problem.now.low }
-{
-    problem.low.as_slice()
-}
-
-/// The upper bounds.
-fn high_of(problem: &Problem) -> &[u16]
-    ensures { result.now ≡ problem.now.high }
-{
-    problem.high.as_slice()
-}
 
 /// Tests that the lines name the free interfaces, each once, in their order.
 fn check_places(problem: &Problem, lines: &[CostLine]) -> Result<(), CheckStop>

@@ -7,6 +7,7 @@ mod costs;
 mod lines;
 mod open_boxes;
 mod paths;
+mod problem_parts;
 mod products;
 mod rows;
 mod shape;

@@ -59,7 +59,7 @@ fn shows_none(problem: &Problem, floor: Floor, proof: Option<&CapTree>) -> bool
 }
 
 /// Whether the parts stand that a verdict needs, and no others.
-fn fits_claim(
+pub(crate) fn fits_claim(
     problem: &Problem,
     verdict: Verdict,
     costs: Option<&Costs>,
