@@ -11,3 +11,4 @@ pub mod CostLaws
 pub mod StopLaws
 pub mod CostTests
 pub mod AnswerLaws
+pub mod LoneRouter

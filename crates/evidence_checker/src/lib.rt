@@ -18,3 +18,6 @@ mod tree;
 
 pub use checker::check;
 pub use stop::{Accepted, CheckStop};
+
+#[cfg(test)]
+mod tests;
