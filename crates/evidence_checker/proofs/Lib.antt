@@ -1,0 +1,14 @@
+pub mod Choices
+pub mod TermLaws
+pub mod Sizes
+pub mod SumLaws
+pub mod PartLaws
+pub mod StackLaws
+pub mod LineLaws
+pub mod WalkLaws
+pub mod RowLaws
+pub mod CostLaws
+pub mod StopLaws
+pub mod CostTests
+pub mod AnswerLaws
+pub mod LoneRouter

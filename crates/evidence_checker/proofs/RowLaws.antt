@@ -1,0 +1,67 @@
+-- Rows that are gone through in order.
+use Rattle.std.proofs.Common.{◌≡◌, ℕ, ◌+◌, ◌<◌, refl, sym, ◌∙◌, ap, subst, List, [], ◌∷◌, length, drop, get_or, add-one, drop-cons, inl, inr, map, take, ◌++◌, below_more}
+use Rattle.std.specs.Prelude.{slice_get, Option, Some, None, MatchOption}
+use Rattle.std.proofs.lemmas.List.{take_more, map-append, get_or_default}
+use Rattle.path_rows.specs.declared.form.Form.{Form}
+use Rattle.evidence_checker.specs.declared.terms.Terms.{Terms}
+use Rattle.cost_base.specs.Order.{FirstOf, NoneOf}
+use Rattle.area_graph.specs.Area.{Area}
+use Rattle.path_rows.specs.declared.form.Row.{Row}
+use Rattle.path_rows.specs.declared.problem.Request.{Request}
+use Rattle.path_rows.specs.Problems.{DesignProblem}
+use Rattle.path_rows.specs.Rows.{IsRow, IsRivalOf, IsRouteOf, path_edges}
+use Rattle.evidence_checker.specs.Refusals.{Fault, AtFirstItem}
+use Rattle.evidence_checker.specs.Tests.{row_tests}
+
+rival_is_route : (g : Area) (r : Option Request) (es : List ℕ) → IsRivalOf g r es → IsRouteOf g r es
+rival_is_route g None es rival = rival
+rival_is_route g (Some r) es rival = rival.0
+
+rival_is_other : (g : Area) (r : Option Request) (es : List ℕ) → IsRivalOf g r es → es ≡ path_edges r → ⊥
+rival_is_other g None es rival same = rival
+rival_is_other g (Some r) es rival same = rival.1 same
+
+-- a row meets no test
+pub row_meets_none : (p : DesignProblem) (row : Row) → IsRow p row → NoneOf (row_tests p row)
+row_meets_none p row is_row = (
+  λ n met. met.1 (rival_is_route p.graph (slice_get p.paths row.request) row.rival.edges is_row),
+  (λ n met. rival_is_other p.graph (slice_get p.paths row.request) row.rival.edges is_row met.1, tt),
+)
+
+row_read : (rows : List Row) (k : ℕ) (row : Row) → k < length rows → row ≡ get_or rows k row → drop k rows ≡ row ∷ drop (k + 1) rows
+row_read rows k row k_in e =
+    let split : drop k rows ≡ get_or rows k row ∷ drop (k + 1) rows = rw (add-one, drop-cons rows k row) refl in
+    split ∙ ap (λ (x : Row). x ∷ drop (k + 1) rows) (sym e)
+
+-- the first faulty row of all, by the rows that are left
+abbrev pub FirstIsLeft : DesignProblem → List Row → ℕ → Type 0
+FirstIsLeft p rows k = (f : Fault) → AtFirstItem (row_tests p) k (drop k rows) f → AtFirstItem (row_tests p) 0 rows f
+
+pub first_goes_on : (p : DesignProblem) (rows : List Row) (k : ℕ) (row : Row) → k < length rows → row ≡ get_or rows k row → IsRow p row → FirstIsLeft p rows k → FirstIsLeft p rows (k + 1)
+first_goes_on p rows k row k_in e is_row left f met =
+    left f (subst (λ (xs : List Row). AtFirstItem (row_tests p) k xs f) (sym (row_read rows k row k_in e)) (inr (row_meets_none p row is_row, met)))
+
+pub first_is_here : (p : DesignProblem) (rows : List Row) (k number : ℕ) (row : Row) → k < length rows → row ≡ get_or rows k row → FirstOf (row_tests p row) number → FirstIsLeft p rows k → AtFirstItem (row_tests p) 0 rows (record { number = number; place = k })
+first_is_here p rows k number row k_in e met left =
+    let f : Fault = record { number = number; place = k } in
+    left f (subst (λ (xs : List Row). AtFirstItem (row_tests p) k xs f) (sym (row_read rows k row k_in e)) (inl (refl, met)))
+
+-- one form more
+pub forms_more : (f : Terms → Form) (g : Row → Form) (ts us : List Terms) (t : Terms) (rows : List Row) (k : ℕ) (row : Row) → us ≡ ts ++ t ∷ [] → f t ≡ g row → k < length rows → row ≡ get_or rows k row → map f ts ≡ map g (take k rows) → map f us ≡ map g (take (k + 1) rows)
+forms_more f g ts us t rows k row e same k_in is before =
+    ap (map f) e ∙ map-append f ts (t ∷ [])
+    ∙ ap (λ (fs : List Form). fs ++ f t ∷ []) before
+    ∙ ap (λ (x : Form). map g (take k rows) ++ x ∷ []) (same ∙ ap g is)
+    ∙ sym (ap (map g) (take_more rows k row k_in) ∙ map-append g (take k rows) (get_or rows k row ∷ []))
+
+pub rows_more : (p : DesignProblem) (rows : List Row) (k : ℕ) (row : Row) → k < length rows → row ≡ get_or rows k row → IsRow p row → ((j : ℕ) (d : Row) → j < k → IsRow p (get_or rows j d)) → (j : ℕ) (d : Row) → j < k + 1 → IsRow p (get_or rows j d)
+rows_more p rows k row k_in is is_row before j d j_in =
+    below_more (λ (i : ℕ). (e : Row) → IsRow p (get_or rows i e)) k (λ i i_in e. before i e i_in)
+    (λ e. subst (IsRow p) (is ∙ get_or_default rows k row e k_in) is_row) j j_in d
+
+-- what the first test says, where it is known whether there is one
+pub at_none : (A : Type 0) (B : ℕ → Type 0) (o : Option ℕ) → o ≡ None → MatchOption o A B → A
+at_none A B o e h = let P : Option ℕ → Type 0 = λ x. MatchOption x A B in subst P e h
+
+pub at_some : (A : Type 0) (B : ℕ → Type 0) (o : Option ℕ) (n : ℕ) → o ≡ Some n → MatchOption o A B → B n
+at_some A B o n e h = let P : Option ℕ → Type 0 = λ x. MatchOption x A B in subst P e h

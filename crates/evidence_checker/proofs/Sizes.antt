@@ -1,0 +1,70 @@
+-- Sizes of whole numbers, and what fits 128 bits with a sign.
+use Rattle.std.proofs.Common.{◌≡◌, ℕ, suc, ◌+◌, ◌*◌, ◌^◌, ◌<◌, ◌≤◌, refl, sym, ◌∙◌, ap, subst, arith, SFits, w64, to_z, of_z}
+use Rattle.std.specs.Int.{w128}
+use lib.Signed.{lt_z}
+use Rattle.std.specs.Prelude.{ℤ, pos, negsuc, ◌+ℤ◌, ◌*ℤ◌, ◌<ℤ◌, nat_abs, IsTrue}
+use Rattle.std.proofs.Math.Nat.{mul-le-mul_left}
+use Rattle.std.proofs.Math.Facts.{sfits_widen}
+use Rattle.std.proofs.lemmas.Int.{ints, to_z_pos, to_z-of_z}
+use Rattle.path_rows.specs.Boxes.{upper}
+
+pub fits_size : (z : ℤ) → nat_abs z < 2 ^ 127 → SFits w128 z
+fits_size (pos n) size = omega (arith, ints)
+fits_size (negsuc n) size = omega (arith, ints)
+
+-- the size of a sum is at most the sum of the sizes
+pub sum_size : (a b : ℤ) → nat_abs (a +ℤ b) ≤ nat_abs a + nat_abs b
+sum_size a b = omega (arith, ints)
+
+pub product_size : (m : ℕ) (c : ℤ) → nat_abs (pos m *ℤ c) ≡ m * nat_abs c
+product_size m (pos n) = refl
+product_size m (negsuc n) = omega (arith, ints)
+
+-- a term is within its coefficient's size, times the most that an end can be
+pub upper_size : (c : ℤ) (l h : ℕ) → l ≤ 65535 → h ≤ 65535 → nat_abs (upper c l h) ≤ nat_abs c * 65535
+upper_size (pos c) l h low high = omega (arith, ints, mul-le-mul_left c high)
+upper_size (negsuc c) l h low high = omega (arith, ints, mul-le-mul_left (suc c) low)
+
+-- a product that fits, as it is computed
+pub product_is : (m : ℕ) (f r : ℤ) → m < 2 ^ 100 → SFits w64 f → r ≡ to_z w64 (of_z w64 f) → (to_z w128 m *ℤ to_z w128 (of_z w128 r)) ≡ (pos m *ℤ f)
+product_is m f r small fits e =
+    ap (λ (z : ℤ). z *ℤ to_z w128 (of_z w128 r)) (to_z_pos w128 m (omega arith))
+    ∙ ap (λ (z : ℤ). pos m *ℤ to_z w128 (of_z w128 z)) (e ∙ to_z-of_z w64 f fits)
+    ∙ ap (λ (z : ℤ). pos m *ℤ z) (to_z-of_z w128 f (sfits_widen tt fits))
+
+pub product_fits : (a m : ℕ) (f : ℤ) → a + m * nat_abs f < 2 ^ 127 → SFits w128 (pos m *ℤ f)
+product_fits a m f size = fits_size (pos m *ℤ f) (omega (arith, product_size m f))
+
+-- and its sum with a number
+pub sum_is : (a p q : ℤ) → SFits w128 a → p ≡ q → SFits w128 q → (to_z w128 (of_z w128 a) +ℤ to_z w128 (of_z w128 p)) ≡ (a +ℤ q)
+sum_is a p q first e second =
+    ap (λ (z : ℤ). z +ℤ to_z w128 (of_z w128 p)) (to_z-of_z w128 a first)
+    ∙ ap (λ (z : ℤ). a +ℤ to_z w128 (of_z w128 z)) e
+    ∙ ap (λ (z : ℤ). a +ℤ z) (to_z-of_z w128 q second)
+
+pub sum_fits : (a : ℤ) (m : ℕ) (f : ℤ) → nat_abs a + m * nat_abs f < 2 ^ 127 → SFits w128 (a +ℤ (pos m *ℤ f))
+sum_fits a m f size = fits_size (a +ℤ (pos m *ℤ f)) (omega (arith, sum_size a (pos m *ℤ f), product_size m f))
+
+negative_size : (c : ℕ) (l : ℕ) → l ≤ 65535 → suc c * 65535 < 2 ^ 127 → SFits w128 (negsuc c *ℤ pos l)
+negative_size c l low size = fits_size (negsuc c *ℤ pos l) (omega (arith, ints, mul-le-mul_left (suc c) low))
+
+-- the term of a negative coefficient, as it is computed
+pub negative_is : (c r : ℤ) (l h : ℕ) → c <ℤ pos 0 → SFits w128 c → r ≡ pos l → l ≤ 65535 → nat_abs c * 65535 < 2 ^ 127 → to_z w128 (of_z w128 (to_z w128 (of_z w128 c) *ℤ to_z w128 (of_z w128 r))) ≡ upper c l h
+negative_is (pos c) r l h negative fits e low size = absurd (omega (arith, ints))
+negative_is (negsuc c) r l h negative fits e low size =
+    let small : SFits w128 (pos l) = fits_size (pos l) (omega (arith, ints)) in
+    let product : (to_z w128 (of_z w128 (negsuc c)) *ℤ to_z w128 (of_z w128 r)) ≡ (negsuc c *ℤ pos l) =
+    ap (λ (z : ℤ). z *ℤ to_z w128 (of_z w128 r)) (to_z-of_z w128 (negsuc c) fits)
+    ∙ ap (λ (z : ℤ). negsuc c *ℤ to_z w128 (of_z w128 z)) e
+    ∙ ap (λ (z : ℤ). negsuc c *ℤ z) (to_z-of_z w128 (pos l) small) in
+    ap (λ (z : ℤ). to_z w128 (of_z w128 z)) product ∙ to_z-of_z w128 (negsuc c *ℤ pos l) (negative_size c l low size)
+
+-- whether a number that was computed is negative
+below_zero : (z : ℤ) → IsTrue (lt_z z (pos 0)) → z <ℤ pos 0
+below_zero z h = grind (arith, ints)
+
+zero_above : (z : ℤ) → z <ℤ pos 0 → IsTrue (lt_z z (pos 0))
+zero_above z h = grind (arith, ints)
+
+pub negative_iff : (x g : ℤ) → x ≡ g → (IsTrue (lt_z x (pos 0)) → g <ℤ pos 0) × (g <ℤ pos 0 → IsTrue (lt_z x (pos 0)))
+negative_iff x g e = (λ h. subst (λ (z : ℤ). z <ℤ pos 0) e (below_zero x h), λ h. zero_above x (subst (λ (z : ℤ). z <ℤ pos 0) (sym e) h))

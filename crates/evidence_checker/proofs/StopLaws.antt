@@ -1,0 +1,49 @@
+-- Refusals by one of several tests.
+use Rattle.std.proofs.Common.{◌≡◌, ℕ, ◌<◌, refl, sym, subst, List, [], ◌∷◌, ◌++◌, inl, inr}
+use Rattle.std.specs.Prelude.{Some, Result, Ok, Err, IfErr, IsErrAnd}
+use Rattle.cost_base.specs.Order.{FirstOf, NoneOf}
+use Rattle.evidence_checker.specs.declared.stop.CheckStop.{CheckStop}
+use Rattle.evidence_checker.specs.declared.stop.CheckStop.TheVariants.{Refused, OutOfMemory}
+use Rattle.evidence_checker.specs.Refusals.{Fault, AtFirst, IsFirst, StopsBy}
+
+-- the refusal at the first place
+pub stop_at : (Met : ℕ → Type 0) (number var place : ℕ) → place ≡ var → IsFirst Met (Some var) → FirstOf (AtFirst number Met ∷ []) (record { number = number; place = place })
+stop_at Met number var place e first = inl (refl, subst Met (sym e) first.0, λ k before. first.1 k (subst (λ (n : ℕ). k < n) e before))
+
+-- one test alone
+pub only_test : (t : Fault → Type 0) (f : Fault) → FirstOf (t ∷ []) f → t f
+only_test t f first = elim first [ inl here ↦ here | inr none ↦ absurd none.1 ]
+
+-- the tests of several parts, one after another
+first_left : (ts us : List (Fault → Type 0)) (f : Fault) → FirstOf ts f → FirstOf (ts ++ us) f
+first_left [] us f first = absurd first
+first_left (t ∷ ts) us f first = elim first [ inl here ↦ inl here | inr later ↦ inr (later.0, first_left ts us f later.1) ]
+
+first_right : (ts us : List (Fault → Type 0)) (f : Fault) → NoneOf ts → FirstOf us f → FirstOf (ts ++ us) f
+first_right [] us f none first = first
+first_right (t ∷ ts) us f none first = inr (none.0, first_right ts us f none.1 first)
+
+pub stop_left : (ts us : List (Fault → Type 0)) (s : CheckStop) → StopsBy ts s → StopsBy (ts ++ us) s
+stop_left ts us (Refused number place) stops = first_left ts us (record { number = number; place = place }) stops
+stop_left ts us OutOfMemory stops = tt
+
+pub stop_right : (ts us : List (Fault → Type 0)) (s : CheckStop) → NoneOf ts → StopsBy us s → StopsBy (ts ++ us) s
+stop_right ts us (Refused number place) none stops = first_right ts us (record { number = number; place = place }) none stops
+stop_right ts us OutOfMemory none stops = tt
+
+pub none_left_right : (ts us : List (Fault → Type 0)) → NoneOf ts → NoneOf us → NoneOf (ts ++ us)
+none_left_right [] us none others = others
+none_left_right (t ∷ ts) us none others = (none.0, none_left_right ts us none.1 others)
+
+-- where no test is met, none is the first
+pub none_first : {F : Type 0} (ts : List (F → Type 0)) (f : F) → NoneOf ts → FirstOf ts f → ⊥
+none_first [] f none first = first
+none_first (t ∷ ts) f none first = elim first [ inl here ↦ none.0 f here | inr later ↦ none_first ts f none.1 later.1 ]
+
+pub none_refused : (ts : List (Fault → Type 0)) (number place : ℕ) → NoneOf ts → StopsBy ts (Refused number place) → ⊥
+none_refused ts number place none stops = none_first ts (record { number = number; place = place }) none stops
+
+-- what is known of a stop that is handed on
+pub err_tells : {T : Type 0} (r : Result T CheckStop) (s : CheckStop) (P : CheckStop → Type 0) → IsErrAnd r (λ e. e ≡ s) → P s → IfErr r P
+err_tells (Ok x) s P is tells = absurd is
+err_tells (Err e) s P is tells = subst P (sym is) tells

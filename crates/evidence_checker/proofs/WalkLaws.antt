@@ -1,0 +1,77 @@
+-- A tree that is gone through line by line, with the box of the next line and those that wait behind it.
+use Rattle.std.proofs.Common.{◌≡◌, ℕ, suc, ◌+◌, refl, sym, ◌∙◌, ap, subst, List, [], ◌∷◌, ◌++◌, length, drop, get_or, add-one, drop-cons, ◌<◌, arith, inl, inr}
+use Rattle.std.specs.Prelude.{false, map, Result, IfErr}
+use Rattle.evidence_checker.specs.declared.stop.CheckStop.{CheckStop}
+use Rattle.evidence_checker.specs.declared.terms.Terms.{Terms}
+use Rattle.evidence_checker.specs.Terms.{dense}
+use Rattle.cost_base.specs.Order.{FirstOf}
+use Rattle.path_rows.specs.declared.form.Form.{Form}
+use Rattle.path_rows.specs.declared.form.CostBox.{CostBox}
+use Rattle.path_rows.specs.declared.tree.Entry.{Entry}
+use Rattle.path_rows.specs.declared.tree.Entry.TheVariants.{Tighten, Split, Halve, Refute, Undone}
+use Rattle.path_rows.specs.Trees.{Sound, SoundAt, IsClosed, WholeTrees, subboxes, subtree_count, is_undone}
+use Rattle.evidence_checker.specs.Refusals.{Fault, StopsBy}
+use Rattle.evidence_checker.specs.Tests.{line_tests, AtFirstLine}
+use Rattle.evidence_checker.proofs.LineLaws.{sound_meets_none}
+
+-- what is left tells of the whole tree: where it is sound, and its first line that meets a test
+pub record Walks (forms : List Form) (start : List CostBox) (whole : List Entry) (box : CostBox) (boxes : List CostBox) (place : ℕ) (rest : List Entry) : Type 0 where
+  pub sound : Sound forms (box ∷ boxes) rest → Sound forms start whole
+  pub closed : IsClosed rest → IsClosed whole
+  pub first : (f : Fault) → AtFirstLine forms (box ∷ boxes) place rest f → AtFirstLine forms start 0 whole f
+  pub trees : WholeTrees (suc (length boxes)) rest
+
+pub walk_begins : (forms : List Form) (box : CostBox) (whole : List Entry) → WholeTrees 1 whole → Walks forms (box ∷ []) whole box [] 0 whole
+walk_begins forms box whole trees = record { sound = λ s. s; closed = λ c. c; first = λ f met. met; trees = trees }
+
+subbox_count : (box : CostBox) (entry : Entry) (boxes : List CostBox) → length (subboxes box entry ++ boxes) ≡ subtree_count entry + length boxes
+subbox_count box (Tighten var side value row) boxes = omega arith
+subbox_count box (Split var value) boxes = omega arith
+subbox_count box (Halve var value wide) boxes = omega arith
+subbox_count box (Refute parts) boxes = omega arith
+subbox_count box Undone boxes = omega arith
+
+-- a line that is sound at its box, and the next box
+pub walk_goes_on : (forms : List Form) (start : List CostBox) (whole : List Entry) (box : CostBox) (boxes : List CostBox) (place : ℕ) (entry : Entry) (rest : List Entry) (next : CostBox) (others : List CostBox) → Walks forms start whole box boxes place (entry ∷ rest) → SoundAt forms box entry → is_undone entry ≡ false → subboxes box entry ++ boxes ≡ next ∷ others → Walks forms start whole next others (place + 1) rest
+walk_goes_on forms start whole box boxes place entry rest next others walks here closed e = record {
+  sound = λ s. walks.sound (here, subst (λ (bs : List CostBox). Sound forms bs rest) (sym e) s);
+  closed = λ c. walks.closed (closed, c);
+  first = λ f met. walks.first f (inr (sound_meets_none forms box entry here closed, subst (λ (bs : List CostBox). AtFirstLine forms bs (place + 1) rest f) (sym e) met));
+  trees = subst (λ (n : ℕ). WholeTrees n rest) (sym (subbox_count box entry boxes) ∙ ap length e) walks.trees;
+}
+
+nothing_left : (rest : List Entry) → WholeTrees 0 rest → rest ≡ []
+nothing_left [] trees = refl
+nothing_left (entry ∷ rest) trees = absurd trees
+
+-- the last line
+pub walk_ends : (forms : List Form) (start : List CostBox) (whole : List Entry) (box : CostBox) (boxes : List CostBox) (place : ℕ) (entry : Entry) (rest : List Entry) → Walks forms start whole box boxes place (entry ∷ rest) → SoundAt forms box entry → is_undone entry ≡ false → subboxes box entry ++ boxes ≡ [] → Sound forms start whole × IsClosed whole
+walk_ends forms start whole box boxes place entry rest walks here closed e =
+    let last = nothing_left rest (subst (λ (n : ℕ). WholeTrees n rest) (sym (subbox_count box entry boxes) ∙ ap length e) walks.trees) in (
+      walks.sound (here, subst (λ (bs : List CostBox). Sound forms bs rest) (sym e) (subst (λ (es : List Entry). Sound forms [] es) (sym last) tt)),
+      walks.closed (closed, subst IsClosed (sym last) tt),
+    )
+
+-- a line that meets a test
+pub walk_stops : (forms : List Form) (start : List CostBox) (whole : List Entry) (box : CostBox) (boxes : List CostBox) (place : ℕ) (entry : Entry) (rest : List Entry) (number : ℕ) → Walks forms start whole box boxes place (entry ∷ rest) → FirstOf (line_tests forms box entry) number → AtFirstLine forms start 0 whole (record { number = number; place = place })
+walk_stops forms start whole box boxes place entry rest number walks met = walks.first (record { number = number; place = place }) (inl (refl, met))
+
+-- a box is open while lines are left
+pub walk_goes : (forms : List Form) (start : List CostBox) (whole : List Entry) (box : CostBox) (boxes : List CostBox) (place : ℕ) → Walks forms start whole box boxes place [] → ⊥
+walk_goes forms start whole box boxes place walks = walks.trees
+
+-- the line that was read, and those after it
+pub line_read : (entries : List Entry) (k : ℕ) (entry : Entry) → k < length entries → entry ≡ get_or entries k entry → drop k entries ≡ entry ∷ drop (k + 1) entries
+line_read entries k entry k_in e =
+    let split : drop k entries ≡ get_or entries k entry ∷ drop (k + 1) entries = rw (add-one, drop-cons entries k entry) refl in
+    split ∙ ap (λ (x : Entry). x ∷ drop (k + 1) entries) (sym e)
+
+-- what a tree's first line with a test is, at a box by its ends
+abbrev pub StopsTree : List Terms → List ℕ → List ℕ → List Entry → CheckStop → Type 0
+StopsTree forms low high tree = StopsBy (AtFirstLine (map (dense (length low)) forms) (record { low = low; high = high } ∷ []) 0 tree ∷ [])
+
+pub stop_moved : {T : Type 0} (r : Result T CheckStop) (forms : List Terms) (ls hs low high : List ℕ) (tree whole : List Entry) → ls ≡ low → hs ≡ high → tree ≡ whole → IfErr r (StopsTree forms ls hs tree) → IfErr r (StopsTree forms low high whole)
+stop_moved r forms ls hs low high tree whole lows highs trees stops =
+    subst (λ (es : List Entry). IfErr r (StopsTree forms low high es)) trees
+    (subst (λ (xs : List ℕ). IfErr r (StopsTree forms low xs tree)) highs
+    (subst (λ (xs : List ℕ). IfErr r (StopsTree forms xs hs tree)) lows stops))

@@ -1,0 +1,24 @@
+-- What is told of costs on the way to a verdict.
+use Rattle.std.specs.Prelude.{ℕ, ◌<◌, min, List, length, All, Option, Some, None}
+use Rattle.area_graph.specs.Area.{Area}
+use Rattle.area_graph.specs.Costs.{at_costs, IsOnlyCheapest}
+use Rattle.path_rows.specs.declared.problem.Request.{Request}
+use Rattle.path_rows.specs.Problems.{ends_of, request_at}
+
+-- the lesser of a variable and the least so far, if any
+abbrev pub lesser_of : Option ℕ → ℕ → ℕ
+lesser_of None var = var
+lesser_of (Some least) var = min least var
+
+-- the request's path is only cheapest at the costs
+abbrev pub IsOnlyAt : Area → List ℕ → Request → Type 0
+IsOnlyAt g w r = IsOnlyCheapest g (at_costs w) (ends_of r) r.path.edges
+
+-- the path of the request with this number isn't
+abbrev pub IsNotOnlyAt : Area → List Request → List ℕ → ℕ → Type 0
+IsNotOnlyAt g paths w request = (request < length paths) × (IsOnlyAt g w (request_at paths request) → ⊥)
+
+-- the first request whose path isn't only cheapest; where there is none, each path is
+abbrev pub IsFirstTied : Area → List Request → List ℕ → Option ℕ → Type 0
+IsFirstTied g paths w None = All (IsOnlyAt g w) paths
+IsFirstTied g paths w (Some first) = IsNotOnlyAt g paths w first × ((k : ℕ) → k < first → IsNotOnlyAt g paths w k → ⊥)

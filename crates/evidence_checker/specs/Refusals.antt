@@ -1,0 +1,37 @@
+-- Refusals of an answer: the number of a test, and the place where it is met.
+use Rattle.std.specs.Prelude.{◌≡◌, ℕ, ◌+◌, ◌<◌, List, [], ◌∷◌, ◌⊎◌, Option, Some, None}
+use Rattle.cost_base.specs.Order.{FirstOf, NoneOf}
+use Rattle.evidence_checker.specs.declared.stop.CheckStop.{CheckStop}
+use Rattle.evidence_checker.specs.declared.stop.CheckStop.TheVariants.{Refused, OutOfMemory}
+
+pub record Fault : Type 0 where
+  pub number : ℕ
+  pub place : ℕ
+
+-- a test of the answer as a whole is met
+abbrev pub OnWhole : ℕ → Type 0 → Fault → Type 0
+OnWhole number Met f = (f.number ≡ number) × (f.place ≡ 0) × Met
+
+-- a test of numbered things is met at a place, and at none before
+abbrev pub AtFirst : ℕ → (ℕ → Type 0) → Fault → Type 0
+AtFirst number Met f = (f.number ≡ number) × Met f.place × ((k : ℕ) → k < f.place → Met k → ⊥)
+
+-- the first place at which a test is met, if any
+abbrev pub IsFirst : (ℕ → Type 0) → Option ℕ → Type 0
+IsFirst Met None = (k : ℕ) → Met k → ⊥
+IsFirst Met (Some place) = Met place × ((k : ℕ) → k < place → Met k → ⊥)
+
+-- a test of one item of a list is met
+abbrev pub OnItem : ℕ → Type 0 → ℕ → Type 0
+OnItem number Met n = (n ≡ number) × Met
+
+-- the first item of a list that meets one of its tests, and the first of the tests that it meets
+abbrev pub AtFirstItem : {X : Type 0} → (X → List (ℕ → Type 0)) → ℕ → List X → Fault → Type 0
+AtFirstItem tests place [] f = ⊥
+AtFirstItem tests place (x ∷ xs) f =
+    ((f.place ≡ place) × FirstOf (tests x) f.number) ⊎ (NoneOf (tests x) × AtFirstItem tests (place + 1) xs f)
+
+-- a refusal is the first of the tests that is met; want of memory says nothing
+abbrev pub StopsBy : List (Fault → Type 0) → CheckStop → Type 0
+StopsBy tests (Refused number place) = FirstOf tests (record { number = number; place = place })
+StopsBy tests OutOfMemory = Unit {0}

@@ -1,0 +1,185 @@
+-- The tests of a checker of answers, in their order, each with its number.
+use Rattle.std.specs.Prelude.{◌≡◌, ℕ, ◌+◌, ◌^◌, ◌<◌, ◌≤◌, ◌⊎◌, List, [], ◌∷◌, ◌++◌, pos, ◌≤ℤ◌, length, replicate, slice_index, slice_set, slice_get, All, Any, Option, None, Some, sum_by}
+use Rattle.std.specs.List.{AllZip}
+use Rattle.cost_base.specs.Order.{FirstOf, NoneOf}
+use Rattle.area_graph.specs.Costs.{at_costs, IsOnlyCheapest}
+use Rattle.path_rows.specs.declared.answer.Verdict.{Verdict}
+use Rattle.path_rows.specs.declared.answer.Verdict.TheVariants.{Optimal, Impossible, Budget}
+use Rattle.path_rows.specs.declared.answer.Costs.{Costs}
+use Rattle.path_rows.specs.declared.answer.CostLine.{CostLine}
+use Rattle.path_rows.specs.declared.answer.Floor.{Floor}
+use Rattle.path_rows.specs.declared.answer.Floor.TheVariants.{Absent, Empty, Var}
+use Rattle.path_rows.specs.declared.answer.CapTree.{CapTree}
+use Rattle.path_rows.specs.declared.form.Form.{Form}
+use Rattle.path_rows.specs.declared.form.CostBox.{CostBox}
+use Rattle.path_rows.specs.declared.form.Row.{Row}
+use Rattle.path_rows.specs.declared.problem.VarName.{VarName}
+use Rattle.path_rows.specs.declared.tree.Entry.{Entry}
+use Rattle.path_rows.specs.declared.tree.Entry.TheVariants.{Tighten, Split, Halve, Refute, Undone}
+use Rattle.path_rows.specs.Problems.{DesignProblem, ends_of, request_at}
+use Rattle.path_rows.specs.Boxes.{capped, greatest}
+use Rattle.path_rows.specs.Forms.{weighted}
+use Rattle.path_rows.specs.Trees.{TightensAt, CutsAt, subboxes}
+use Rattle.path_rows.specs.Rows.{HasRoute, path_edges, box_of, forms_of_rows, greatest_cost}
+use Rattle.path_rows.specs.Answers.{AnswerParts, greatest_bound}
+use Rattle.evidence_checker.specs.Refusals.{Fault, OnWhole, AtFirst, OnItem, AtFirstItem}
+
+-- 49: the verdict claims nothing
+abbrev pub ClaimsNothing : Verdict → Type 0
+ClaimsNothing (Optimal k) = ⊥
+ClaimsNothing Impossible = ⊥
+ClaimsNothing (Budget cap) = Unit {0}
+
+-- exactly one of floor and proof stands; a proof is at the cap below k, and no lower bound is above that cap
+abbrev pub ShapeOfLeast : DesignProblem → ℕ → Floor → Option CapTree → Type 0
+ShapeOfLeast p k Absent (Some proof) = (proof.cap + 1 ≡ k) × All (λ low. low ≤ proof.cap) p.low
+ShapeOfLeast p k Absent None = ⊥
+ShapeOfLeast p k Empty None = Unit {0}
+ShapeOfLeast p k Empty (Some proof) = ⊥
+ShapeOfLeast p k (Var v) None = Unit {0}
+ShapeOfLeast p k (Var v) (Some proof) = ⊥
+
+-- a proof stands at the greatest upper bound, and no floor
+abbrev pub ShapeOfNone : DesignProblem → Floor → Option CapTree → Type 0
+ShapeOfNone p Absent (Some proof) = proof.cap ≡ greatest_bound p
+ShapeOfNone p Absent None = ⊥
+ShapeOfNone p Empty proof = ⊥
+ShapeOfNone p (Var v) proof = ⊥
+
+-- the parts that a verdict needs, and no others
+abbrev pub ShapeOfClaim : DesignProblem → Verdict → Option Costs → Floor → Option CapTree → Type 0
+ShapeOfClaim p (Optimal k) (Some costs) floor proof = ShapeOfLeast p k floor proof
+ShapeOfClaim p (Optimal k) None floor proof = ⊥
+ShapeOfClaim p Impossible None floor proof = ShapeOfNone p floor proof
+ShapeOfClaim p Impossible (Some costs) floor proof = ⊥
+ShapeOfClaim p (Budget cap) costs floor proof = ⊥
+
+-- 51: the answer lacks the shape of its verdict, or an unfinished tree stands
+abbrev pub HasWrongShape : DesignProblem → AnswerParts → Type 0
+HasWrongShape p a = ShapeOfClaim p a.verdict a.costs a.floor a.proof × (a.unfinished ≡ None) → ⊥
+
+-- 50: the cost lines don't name the free interfaces, each once, in order
+abbrev pub NamesPlaces : List VarName → List CostLine → Type 0
+NamesPlaces names lines = AllZip (λ name line. (line.router ≡ name.router) × (line.interface ≡ name.interface)) names lines
+
+-- a line gives the variable this cost
+abbrev pub GivesCost : List VarName → List CostLine → ℕ → ℕ → Type 0
+GivesCost [] lines var cost = ⊥
+GivesCost (name ∷ names) [] var cost = ⊥
+GivesCost (name ∷ names) (line ∷ lines) var cost = ((name.var ≡ var) × (line.cost ≡ cost)) ⊎ GivesCost names lines var cost
+
+-- 53: two lines of the variable have different costs
+abbrev pub HasUnequalEnds : List VarName → List CostLine → ℕ → Type 0
+HasUnequalEnds names lines var = (c : ℕ) × (d : ℕ) × GivesCost names lines var c × GivesCost names lines var d × (c ≡ d → ⊥)
+
+-- the costs, each line's written at its variable
+abbrev pub written : List ℕ → List VarName → List CostLine → List ℕ
+written costs [] lines = costs
+written costs (name ∷ names) [] = costs
+written costs (name ∷ names) (line ∷ lines) = written (slice_set costs name.var line.cost) names lines
+
+-- the costs that the lines give the variables
+abbrev pub costs_given : DesignProblem → List CostLine → List ℕ
+costs_given p lines = written (replicate (length p.low) 0) p.vars lines
+
+-- 45: the variable's cost is outside its bounds
+abbrev pub IsOutside : List ℕ → List ℕ → List ℕ → ℕ → Type 0
+IsOutside low high w var = (var < length low) × ((slice_index w var < slice_index low var) ⊎ (slice_index high var < slice_index w var))
+
+-- 47: the claim, the number before the lines and the greatest cost aren't all equal
+abbrev pub HasWrongGreatest : ℕ → ℕ → List ℕ → Type 0
+HasWrongGreatest k printed w = (printed ≡ k) × (greatest_cost w ≡ k) → ⊥
+
+-- 46: the request's path isn't the only cheapest among the simple paths of the request
+abbrev pub IsNotOnly : DesignProblem → List ℕ → ℕ → Type 0
+IsNotOnly p w request =
+    (request < length p.paths) × (IsOnlyCheapest p.graph (at_costs w) (ends_of (request_at p.paths request)) (request_at p.paths request).path.edges → ⊥)
+
+-- 52: the floor is no variable whose lower bound is k, or says that there is no variable where there is one
+abbrev pub IsFalseFloor : DesignProblem → ℕ → Floor → Type 0
+IsFalseFloor p k Absent = ⊥
+IsFalseFloor p k Empty = length p.low ≡ 0 → ⊥
+IsFalseFloor p k (Var v) = (v < length p.low) × (slice_index p.low v ≡ k) → ⊥
+
+-- the tests of the costs and the floor of an optimal answer; an impossible one has nothing to speak of
+abbrev pub cost_tests : DesignProblem → Verdict → Option Costs → Floor → List (Fault → Type 0)
+cost_tests p (Optimal k) (Some costs) floor =
+    OnWhole 50 (NamesPlaces p.vars costs.lines → ⊥)
+    ∷ AtFirst 53 (HasUnequalEnds p.vars costs.lines)
+    ∷ AtFirst 45 (IsOutside p.low p.high (costs_given p costs.lines))
+    ∷ OnWhole 47 (HasWrongGreatest k costs.greatest (costs_given p costs.lines))
+    ∷ AtFirst 46 (IsNotOnly p (costs_given p costs.lines))
+    ∷ OnWhole 52 (IsFalseFloor p k floor)
+    ∷ []
+cost_tests p (Optimal k) None floor = []
+cost_tests p Impossible costs floor = []
+cost_tests p (Budget cap) costs floor = []
+
+-- of a row: 40, its number is no request's, or its edges aren't a simple path of that request; 41, its path is the requested one
+abbrev pub row_tests : DesignProblem → Row → List (ℕ → Type 0)
+row_tests p row =
+    OnItem 40 (HasRoute p row → ⊥)
+    ∷ OnItem 41 (row.rival.edges ≡ path_edges (slice_get p.paths row.request))
+    ∷ []
+
+-- 48: the sum of a Refute's multipliers is 2^100 or more
+abbrev pub HasGreatSum : Entry → Type 0
+HasGreatSum (Tighten var side value row) = ⊥
+HasGreatSum (Split var value) = ⊥
+HasGreatSum (Halve var value wide) = ⊥
+HasGreatSum (Refute parts) = 2 ^ 100 ≤ sum_by (λ part. part.1) parts
+HasGreatSum Undone = ⊥
+
+-- 43: a Refute names a row out of range, or its weighted sum isn't negative at its greatest over the box
+abbrev pub RefutesNothing : List Form → CostBox → Entry → Type 0
+RefutesNothing forms box (Tighten var side value row) = ⊥
+RefutesNothing forms box (Split var value) = ⊥
+RefutesNothing forms box (Halve var value wide) = ⊥
+RefutesNothing forms box (Refute parts) = Any (λ part. length forms ≤ part.0) parts ⊎ (pos 0 ≤ℤ greatest (weighted forms parts) box)
+RefutesNothing forms box Undone = ⊥
+
+-- 42: a Tighten, a Split or a Halve is no sound step at the box
+abbrev pub IsWeakStep : List Form → CostBox → Entry → Type 0
+IsWeakStep forms box (Tighten var side value row) = TightensAt forms box side var value row → ⊥
+IsWeakStep forms box (Split var value) = CutsAt box var value → ⊥
+IsWeakStep forms box (Halve var value wide) = CutsAt box var value → ⊥
+IsWeakStep forms box (Refute parts) = ⊥
+IsWeakStep forms box Undone = ⊥
+
+-- 44: nothing is said of the box
+abbrev pub IsOpenLeaf : Entry → Type 0
+IsOpenLeaf (Tighten var side value row) = ⊥
+IsOpenLeaf (Split var value) = ⊥
+IsOpenLeaf (Halve var value wide) = ⊥
+IsOpenLeaf (Refute parts) = ⊥
+IsOpenLeaf Undone = Unit {0}
+
+-- of a line of a tree, at its box
+abbrev pub line_tests : List Form → CostBox → Entry → List (ℕ → Type 0)
+line_tests forms box entry =
+    OnItem 48 (HasGreatSum entry)
+    ∷ OnItem 43 (RefutesNothing forms box entry)
+    ∷ OnItem 42 (IsWeakStep forms box entry)
+    ∷ OnItem 44 (IsOpenLeaf entry)
+    ∷ []
+
+-- the first line of a tree that meets a test, where each next line speaks of the first box that is still open
+abbrev pub AtFirstLine : List Form → List CostBox → ℕ → List Entry → Fault → Type 0
+AtFirstLine forms [] place entries f = ⊥
+AtFirstLine forms (box ∷ boxes) place [] f = ⊥
+AtFirstLine forms (box ∷ boxes) place (entry ∷ entries) f =
+    ((f.place ≡ place) × FirstOf (line_tests forms box entry) f.number)
+    ⊎ (NoneOf (line_tests forms box entry) × AtFirstLine forms (subboxes box entry ++ boxes) (place + 1) entries f)
+
+abbrev pub proof_tests : DesignProblem → List Row → Option CapTree → List (Fault → Type 0)
+proof_tests p rows None = []
+proof_tests p rows (Some proof) = AtFirstLine (forms_of_rows p rows) (capped (box_of p) proof.cap ∷ []) 0 proof.tree ∷ []
+
+-- all tests, in their order
+abbrev pub tests : DesignProblem → AnswerParts → List (Fault → Type 0)
+tests p a =
+    OnWhole 49 (ClaimsNothing a.verdict)
+    ∷ OnWhole 51 (HasWrongShape p a)
+    ∷ cost_tests p a.verdict a.costs a.floor
+    ++ AtFirstItem (row_tests p) 0 a.rows
+    ∷ proof_tests p a.rows a.proof

@@ -1,0 +1,111 @@
+//! The checker.
+ghost use Rattle.std.specs.Prelude.{◌≡◌, [], ◌∷◌, All, IfOk, IfErr};
+ghost use Rattle.std.specs.Option.{option_copied};
+ghost use Rattle.path_rows.specs.Answers.{IsValid};
+ghost use Rattle.path_rows.specs.ProblemLaws.{IsTrueVerdict};
+ghost use Rattle.path_rows.specs.Rows.{IsRow};
+ghost use Rattle.evidence_checker.specs.Laws.{IsAcceptedAs, RefusesInvalid, CostsHold, ProofHolds};
+ghost use Rattle.evidence_checker.specs.Refusals.{OnWhole, AtFirstItem, StopsBy};
+ghost use Rattle.evidence_checker.specs.Tests.{ShapeOfClaim, HasWrongShape, cost_tests, row_tests, proof_tests, tests};
+
+use crate::cost_tests::check_costs;
+use crate::problem_parts::{high_of, keeps, low_of};
+use crate::rows::forms_of;
+use crate::shape::{claimed, fits_claim};
+use crate::tree::check_cap_tree;
+use crate::{Accepted, CheckStop};
+use path_rows::{Answer, CapTree, Costs, Floor, Problem, Row, Verdict};
+use std::alloc::Global;
+
+/// The test of an answer's shape.
+const WRONG_SHAPE: u8 = 51;
+
+/// Tests that an answer has the parts that its verdict needs, and no others.
+fn check_shape(problem: &Problem, answer: &Answer) -> Result<(), CheckStop>
+    ensures shape { IfOk result (λ _.
+        ShapeOfClaim problem.now answer.now.verdict answer.now.costs answer.now.floor answer.now.proof × (answer.now.unfinished ≡ None)) }
+    ensures first { IfErr result (StopsBy (OnWhole 51 (HasWrongShape problem.now answer.now) ∷ [])) }
+{
+    let costs = answer.costs.as_ref();
+    let proof = answer.proof.as_ref();
+    if fits_claim(problem, answer.verdict, costs, answer.floor, proof)
+        && answer.unfinished.is_none()
+    {
+        return Ok(());
+    }
+    Err(CheckStop::Refused {
+        number: WRONG_SHAPE,
+        place: 0,
+    })
+}
+
+/// Tests the costs and the floor of an optimal answer.
+fn check_claim(
+    alloc: Global,
+    problem: &Problem,
+    verdict: Verdict,
+    costs: Option<&Costs>,
+    floor: Floor,
+) -> Result<(), CheckStop>
+    ensures holds { IfOk result (λ _. CostsHold problem.now verdict (option_copied costs.entry) floor) }
+    ensures first { IfErr result (StopsBy (cost_tests problem.now verdict (option_copied costs.entry) floor)) }
+{
+    match (verdict, costs) {
+        (Verdict::Optimal(greatest), Some(costs)) => {
+            check_costs(alloc, problem, greatest, costs, floor)
+        }
+        (Verdict::Optimal(_), None) | (Verdict::Impossible | Verdict::Budget(_), _) => Ok(()),
+    }
+}
+
+/// Tests the rows, and then the proof over their forms.
+fn check_evidence(
+    alloc: Global,
+    problem: &Problem,
+    rows: &[Row],
+    proof: Option<&CapTree>,
+) -> Result<(), CheckStop>
+    ensures rows { IfOk result (λ _. All (IsRow problem.now) rows.now) }
+    ensures holds { IfOk result (λ _. ProofHolds problem.now rows.now (option_copied proof.entry)) }
+    ensures first { IfErr result (StopsBy
+        (AtFirstItem (row_tests problem.now) 0 rows.now ∷ proof_tests problem.now rows.now (option_copied proof.entry))) }
+{
+    keeps(problem);
+    let forms = forms_of(alloc, problem, rows)?;
+    match proof {
+        Some(proof) => check_cap_tree(
+            alloc,
+            low_of(problem),
+            high_of(problem),
+            forms.as_slice(),
+            proof,
+        ),
+        None => Ok(()),
+    }
+}
+
+/// Checks the evidence of an answer to a problem. An answer is accepted exactly where it is valid; else it is refused by
+/// the first of the tests that is met.
+///
+/// # Errors
+///
+/// `Refused` with the number and the place of the first test that is met, in this order: 49 the verdict claims nothing,
+/// 51 wrong shape, 50 wrong places, 53 unequal ends, 45 out of bounds, 47 wrong greatest cost, 46 not the only cheapest
+/// path, 52 false floor; for each row 40 no path of its request and 41 no rival; for each line of the tree 48 too great
+/// multipliers, 43 nothing refuted, 42 a weak step and 44 an open leaf. `OutOfMemory` where memory ran out.
+pub fn check(alloc: Global, problem: &Problem, answer: &Answer) -> Result<Accepted, CheckStop>
+    ensures valid { IfOk result (λ _. IsValid problem.now answer.now) }
+    ensures claimed { IfOk result (IsAcceptedAs answer.now.verdict) }
+    ensures true_claim { IfOk result (λ _. IsTrueVerdict problem.now answer.now.verdict answer.now.costs) }
+    ensures first { IfErr result (StopsBy (tests problem.now answer.now)) }
+    ensures invalid { IfErr result (RefusesInvalid problem.now answer.now) }
+{
+    keeps(problem);
+    let accepted = claimed(answer.verdict)?;
+    check_shape(problem, answer)?;
+    let costs = answer.costs.as_ref();
+    check_claim(alloc, problem, answer.verdict, costs, answer.floor)?;
+    let rows = answer.rows.as_slice();
+    check_evidence(alloc, problem, rows, answer.proof.as_ref())?;
+    Ok(accepted)
+}

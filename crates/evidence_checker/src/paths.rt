@@ -1,0 +1,69 @@
+//! The test of the requested paths.
+ghost use Rattle.std.specs.Prelude.{◌≡◌, ◌↔◌, ℕ, All, IsTrue, IfOk, IfNone};
+ghost use Rattle.area_graph.specs.Costs.{at_costs, IsOnlyCheapest, FitsPoint};
+ghost use Rattle.area_graph.specs.Paths.{IsPathOf};
+ghost use Rattle.path_rows.specs.Problems.{ends_of};
+ghost use Rattle.evidence_checker.specs.Costs.{IsFirstTied};
+
+use area_graph::{Graph, Point, is_only_cheapest};
+use cost_base::{Listed, OutOfMemory};
+use path_rows::Request;
+use std::alloc::Global;
+
+/// Costs as a point of scale 1.
+fn point_of(alloc: Global, costs: &[u16]) -> Result<Point, OutOfMemory>
+    ensures { IfOk result (λ point. point ≡ at_costs costs.now) }
+{
+    let mut values = Vec::new(alloc);
+    for cost in costs {
+        match values.push(u128::from(*cost)) {
+            Ok(()) => {}
+            Err(_) => return Err(OutOfMemory),
+        }
+    }
+    Ok(Point {
+        scale: 1,
+        values: Listed::from_items(values),
+    })
+}
+
+/// Whether the request's path is the only cheapest among the simple paths of the request.
+fn is_only(
+    alloc: Global,
+    graph: &Graph,
+    point: &Point,
+    request: &Request,
+) -> Result<bool, OutOfMemory>
+    requires fits { FitsPoint graph.now point.now }
+    requires path { IsPathOf graph.now (ends_of request.now) request.now.path.edges }
+    ensures { IfOk result (λ yes. IsTrue yes ↔ IsOnlyCheapest graph.now point.now (ends_of request.now) request.now.path.edges) }
+{
+    is_only_cheapest(
+        alloc,
+        graph,
+        point,
+        &request.path,
+        request.end,
+        request.gone.as_slice(),
+    )
+}
+
+/// The first request whose path isn't the only cheapest among the simple paths of the request.
+pub(crate) fn first_not_only(
+    alloc: Global,
+    graph: &Graph,
+    paths: &[Request],
+    costs: &[u16],
+) -> Result<Option<u64>, OutOfMemory>
+    requires fits { FitsPoint graph.now (at_costs costs.now) }
+    requires paths { All (λ r. IsPathOf graph.now (ends_of r) r.path.edges) paths.now }
+    ensures { IfOk result (λ first. IsFirstTied graph.now paths.now costs.now first) }
+{
+    let point = point_of(alloc, costs)?;
+    for (index, request) in paths.iter().enumerate() {
+        if !is_only(alloc, graph, &point, request)? {
+            return Ok(Some(index as u64));
+        }
+    }
+    Ok(None)
+}

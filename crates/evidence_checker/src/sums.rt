@@ -1,0 +1,107 @@
+//! Weighted sums of forms, and whether they are negative over a whole box.
+ghost use Rattle.std.specs.Prelude.{◌≡◌, ◌↔◌, ℕ, ◌+◌, ◌*◌, ◌^◌, ◌<◌, ◌≤◌, ℤ, pos, ◌+ℤ◌, ◌*ℤ◌, ◌<ℤ◌, nat_abs, length, map, slice_index_or, All, Any, IsTrue, MatchBool, sum_by};
+ghost use Rattle.path_rows.specs.Boxes.{upper_sum, greatest};
+ghost use Rattle.path_rows.specs.Forms.{weighted};
+ghost use Rattle.evidence_checker.specs.Terms.{coefficient_at, dense, IsSmallTerms};
+
+use crate::products::{greatest_term, plus_product};
+use crate::terms::Terms;
+
+/// The sum of a Refute's multipliers is below this.
+const MOST: u128 = 1 << 100;
+
+/// Whether the sum of the multipliers is below 2^100.
+pub(crate) fn sum_is_small(parts: &[(u64, u128)]) -> bool
+    ensures { IsTrue result ↔ (sum_by (λ part. part.1) parts.now < 2 ^ 100) }
+{
+    let mut room = MOST;
+    for part in parts {
+        if room <= part.1 {
+            return false;
+        }
+        room -= part.1;
+    }
+    true
+}
+
+/// Whether each row is one of so many.
+pub(crate) fn rows_are_known(parts: &[(u64, u128)], count: usize) -> bool
+    ensures { MatchBool result (All (λ part. part.0 < count) parts.now) (Any (λ part. count ≤ part.0) parts.now) }
+{
+    for part in parts {
+        if count <= part.0 as usize {
+            return false;
+        }
+    }
+    true
+}
+
+/// Adds the terms, each times the multiplier, to the sums of their variables.
+fn add_terms(sums: &mut [i128], multiplier: u128, terms: &[(usize, i64)])
+    requires known { All (λ t. t.0 < length sums.old) terms.now }
+    requires multiplier { multiplier < 2 ^ 100 }
+    requires room { (i : ℕ) → i < length sums.old →
+        nat_abs (slice_index_or sums.old i (pos 0)) + multiplier * sum_by (λ t. nat_abs t.1) terms.now < 2 ^ 127 }
+    ensures { (i : ℕ) → i < length sums.old →
+        slice_index_or sums.new i (pos 0) ≡ (slice_index_or sums.old i (pos 0) +ℤ (pos multiplier *ℤ coefficient_at terms.now i)) }
+{
+    for term in terms {
+        sums[term.0] = plus_product(sums[term.0], multiplier, term.1);
+    }
+}
+
+/// The greatest value of a sum over a box, by its constant and coefficients.
+fn greatest_sum(constant: i128, coefficients: &[i128], low: &[u16], high: &[u16]) -> i128
+    requires low { length coefficients.now ≡ length low.now }
+    requires high { length coefficients.now ≡ length high.now }
+    requires size { nat_abs constant + 65535 * sum_by nat_abs coefficients.now < 2 ^ 127 }
+    ensures { result ≡ (constant +ℤ upper_sum coefficients.now low.now high.now) }
+{
+    let mut sum = constant;
+    for i in 0..coefficients.len() {
+        sum += greatest_term(coefficients[i], low[i], high[i]);
+    }
+    sum
+}
+
+/// Adds up the forms of some rows, each times its multiplier: their coefficients into `sums`, which are 0 before, and
+/// the constant as the answer.
+fn add_parts(forms: &[Terms], parts: &[(u64, u128)], sums: &mut [i128]) -> i128
+    requires forms { All (IsSmallTerms (length sums.old)) forms.now }
+    requires rows { All (λ part. part.0 < length forms.now) parts.now }
+    requires sum { sum_by (λ part. part.1) parts.now < 2 ^ 100 }
+    requires empty { (i : ℕ) → slice_index_or sums.old i (pos 0) ≡ pos 0 }
+    ensures constant { result ≡ (weighted (map (dense (length sums.old)) forms.now) parts.now).constant }
+    ensures coefficients { (i : ℕ) → i < length sums.old →
+        slice_index_or sums.new i (pos 0) ≡ slice_index_or (weighted (map (dense (length sums.old)) forms.now) parts.now).coefficients i (pos 0) }
+{
+    let mut constant = 0i128;
+    for part in parts {
+        let form = &forms[part.0 as usize];
+        constant = plus_product(constant, part.1, form.constant);
+        add_terms(sums, part.1, &form.items);
+    }
+    constant
+}
+
+/// Whether the weighted sum of the forms is negative at its greatest over the box. The sums are room for a number for
+/// each variable.
+pub(crate) fn refutes(
+    forms: &[Terms],
+    parts: &[(u64, u128)],
+    low: &[u16],
+    high: &[u16],
+    sums: &mut [i128],
+) -> bool
+    requires low { length sums.old ≡ length low.now }
+    requires high { length sums.old ≡ length high.now }
+    requires forms { All (IsSmallTerms (length sums.old)) forms.now }
+    requires rows { All (λ part. part.0 < length forms.now) parts.now }
+    requires sum { sum_by (λ part. part.1) parts.now < 2 ^ 100 }
+    ensures { IsTrue result ↔
+        (greatest (weighted (map (dense (length sums.old)) forms.now) parts.now) (record { low = low.now; high = high.now }) <ℤ pos 0) }
+{
+    sums.fill(0);
+    let constant = add_parts(forms, parts, sums);
+    greatest_sum(constant, sums, low, high) < 0
+}
