@@ -1,30 +1,23 @@
 -- How requested paths stand at present costs.
-use Rattle.std.proofs.Common.{◌≡◌, ℕ, ◌+◌, ◌*◌, ◌<◌, ◌≤◌, lit<, ◌&&◌, refl, sym, ◌∙◌, ap, subst, List, [], ◌∷◌, ◌++◌, length, get_or, take, drop, drop-cons, add-one, append_assoc, suc, arith, Bool, true, false, cond, IsTrue, Option, Some, None}
-use Rattle.std.specs.Prelude.{◌↔◌, ◌==◌, Any, All, slice_get, filter, not, unwrap_or, map, MatchOption, Vec}
+use Rattle.std.proofs.Common.{◌≡◌, ℕ, ◌+◌, ◌*◌, ◌<◌, ◌≤◌, lit<, refl, sym, ◌∙◌, ap, subst, List, [], ◌∷◌, ◌++◌, length, get_or, take, drop, drop-cons, add-one, append_assoc, arith, Bool, true, false, cond, IsTrue}
+use Rattle.std.specs.Prelude.{◌↔◌, ◌==◌, All, Vec}
 use Rattle.std.specs.declared.alloc.Global.{Global}
-use Rattle.std.specs.List.{filter_map, AllZip}
+use Rattle.std.specs.List.{AllZip}
 use Rattle.std.proofs.lemmas.Bool.{false≢true, eqb-true, eqb-false}
 use Rattle.std.proofs.lemmas.List.{take_more}
 use Rattle.std.proofs.lemmas.List.Elements.{All-nil}
 use Rattle.designer_command.proofs.CornerLaws.{zip_push}
-use Rattle.cost_base.specs.Lists.{numbers_from, last_of}
-use Rattle.area_graph.specs.declared.Point.{Point}
 use Rattle.area_graph.specs.Area.{Area}
 use Rattle.area_graph.specs.Paths.{IsPathOf}
 use Rattle.area_graph.specs.Costs.{FitsPoint, IsPriced, IsOnlyCheapest, at_costs, cost}
-use Rattle.spf_ties.specs.Distances.{IsLeast, IsLeastCost}
-use Rattle.lsdb_build.specs.declared.Linked.{Linked}
+use Rattle.spf_ties.specs.Distances.{IsLeast}
 use Rattle.lsdb_build.specs.Graphs.{Database}
 use Rattle.path_rows.specs.declared.problem.Request.{Request}
 use Rattle.path_rows.specs.Problems.{DesignProblem, IsProblem, ends_of}
-use Rattle.path_requests.specs.declared.Wish.{Wish}
-use Rattle.path_requests.specs.declared.Wish.TheVariants.{FreeAll, Free, Fix, Path, SymmetricAll, Symmetric}
-use Rattle.path_requests.specs.declared.Item.{Item}
-use Rattle.path_requests.specs.Meaning.{Asked, Range, AsItIs, range_said, range_of, is_free, is_free_at, owner, owners, ranges, low_of}
+use Rattle.path_requests.specs.Meaning.{Asked}
 use Rattle.path_requests.specs.Resolving.{present_problem_of}
 use Rattle.path_requests.proofs.Present.{none_owned}
-use Rattle.designer_command.specs.declared.audit.Standing.{Standing}
-use Rattle.designer_command.specs.declared.audit.Standing.TheVariants.{Only, Tied, Beaten}
+use Rattle.designer_command.specs.declared.audit.Standing.TheVariants.{Tied, Beaten}
 use Rattle.designer_command.specs.declared.audit.AuditedPath.{AuditedPath}
 use Rattle.designer_command.specs.Texts.{bytes_of}
 use Rattle.designer_command.specs.Audits.{StandsAs, standing_by, IsAudited, audit_line, audit_lines}

@@ -1,6 +1,5 @@
 -- The text of a valid answer with best costs prints, for well-formed input, costs that are what was asked for.
-use Rattle.std.proofs.Common.{◌≡◌, ℕ, ◌≤◌, refl, sym, subst, List, [], get_or, Some}
-use Rattle.std.specs.Prelude.{All, slice_index}
+use Rattle.std.proofs.Common.{◌≡◌, ℕ, refl, sym, subst, List, [], get_or, Some}
 use Rattle.area_graph.specs.Area.{Area}
 use Rattle.area_graph.specs.Costs.{IsOnlyCheapest, at_costs}
 use Rattle.lsdb_build.specs.Graphs.{IsDatabase}

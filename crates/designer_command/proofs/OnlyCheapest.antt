@@ -1,11 +1,11 @@
 -- At whole costs a path is only cheapest where no rival costs less than it and one more.
-use Rattle.std.proofs.Common.{◌≡◌, ℕ, ◌+◌, ◌<◌, refl, List, arith, Bool, true, false, IsTrue}
+use Rattle.std.proofs.Common.{◌≡◌, ℕ, refl, List, arith, Bool, true, false, IsTrue}
 use Rattle.std.specs.Prelude.{◌↔◌, MatchBool, not}
 use Rattle.std.proofs.lemmas.Bool.{false≢true}
 use Rattle.area_graph.specs.declared.Point.{Point}
 use Rattle.area_graph.specs.Area.{Area}
 use Rattle.area_graph.specs.Paths.{Ends, IsPathOf}
-use Rattle.area_graph.specs.Costs.{IsOnlyCheapest, LeadsBy, cost}
+use Rattle.area_graph.specs.Costs.{IsOnlyCheapest, LeadsBy}
 use Rattle.rival_separation.specs.Rivals.{IsCheapest}
 
 pub only_by_rival : (g : Area) (p : Point) (ends : Ends) (wanted rival : List ℕ) (found : Bool) → p.scale ≡ 1 → IsPathOf g ends wanted →

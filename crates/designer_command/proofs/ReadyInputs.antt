@@ -1,6 +1,5 @@
 -- What is known of well-formed input whose interfaces are free as requested.
-use Rattle.std.proofs.Common.{◌≡◌, ℕ, refl, sym, subst, List, Option, Some, None}
-use Rattle.interface_model.specs.Records.{Router}
+use Rattle.std.proofs.Common.{◌≡◌, ℕ, refl, subst, List, Option, Some, None}
 use Rattle.lsdb_build.specs.Graphs.{Database}
 use Rattle.lsdb_build.specs.Topology.{TopologyFault, topology_fault, database_of}
 use Rattle.path_rows.specs.Problems.{DesignProblem}

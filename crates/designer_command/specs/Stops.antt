@@ -1,5 +1,5 @@
 -- What ends a command before its own work, and when.
-use Rattle.std.specs.Prelude.{◌≡◌, ℕ, ◌<◌, List, ◌∷◌, Option, Result, Ok, Err, Contains, ◌⊎◌, string_bytes, String}
+use Rattle.std.specs.Prelude.{◌≡◌, ℕ, ◌<◌, List, Option, Result, Ok, Err, Contains, ◌⊎◌, string_bytes, String}
 use Rattle.std.specs.Borrow.{Bor}
 use Rattle.std.specs.declared.alloc.Global.{Global}
 use Rattle.cost_base.specs.declared.ShelfStop.{ShelfStop}
@@ -21,7 +21,7 @@ use Rattle.designer_command.specs.declared.stop.Stop.{Stop}
 use Rattle.designer_command.specs.declared.stop.Stop.TheVariants.{Refused, ReadFault, OutOfMemory}
 use Rattle.designer_command.specs.declared.reading.FileWords.{FileWords}
 use Rattle.designer_command.specs.Inputs.{InputFiles}
-use Rattle.designer_command.specs.Outcomes.{Reading, OnReady, OnRefused, fault_number, file_of, resolution_refusal}
+use Rattle.designer_command.specs.Outcomes.{Reading, OnRefused, fault_number, file_of, resolution_refusal}
 use Rattle.designer_command.specs.Texts.{Refusal, refused_line, read_fault_line}
 
 -- the files that words name

@@ -1,6 +1,5 @@
 -- The next path is audited at a point of the problem's graph.
-use Rattle.std.proofs.Common.{◌≡◌, ◌∙◌, ap, sym, subst, ℕ, ◌<◌, List, [], length, rules}
-use Rattle.area_graph.specs.declared.Point.{Point}
+use Rattle.std.proofs.Common.{subst, ◌<◌, length, rules}
 use Rattle.spf_ties.specs.Distances.{IsRoomFor}
 use Rattle.path_rows.specs.Problems.{DesignProblem}
 use Rattle.designer_command.specs.Audits.{IsAudited}

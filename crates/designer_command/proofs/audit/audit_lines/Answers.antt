@@ -1,8 +1,5 @@
 -- The line of the next path is put behind the others.
-use Rattle.std.proofs.Common.{◌≡◌, ◌∙◌, ap, sym, ℕ, ◌+◌, ◌<◌, ◌++◌, List, drop, length, rules, append_assoc, get_or, drop-cons, add-one, suc}
-use Rattle.designer_command.specs.declared.audit.AuditedPath.{AuditedPath}
-use Rattle.designer_command.specs.Texts.{bytes_of}
-use Rattle.designer_command.specs.Audits.{audit_line, audit_lines}
+use Rattle.std.proofs.Common.{◌<◌, length, rules}
 use Rattle.designer_command.proofs.Audits.{audit_turn}
 use Rattle.designer_command.proofs.audit.audit_lines.Goals as goal
 

@@ -1,5 +1,5 @@
 -- What was read, made and resolved so far says what the files of the job say.
-use Rattle.std.proofs.Common.{◌≡◌, sym, subst, string_bytes}
+use Rattle.std.proofs.Common.{◌≡◌, sym, subst}
 use Rattle.std.proofs.lemmas.Result.{err_from_is_err_and, IfOk-weaker, IfErr-weaker}
 use Rattle.lsdb_build.specs.Graphs.{Database, IsDatabase}
 use Rattle.path_requests.specs.Meaning.{Asked}

@@ -1,5 +1,5 @@
 -- The present problem has no variable.
-use Rattle.std.proofs.Common.{◌≡◌, ◌∙◌, ap, List, ℕ}
+use Rattle.std.proofs.Common.{◌∙◌, ap}
 use Rattle.path_rows.specs.Problems.{DesignProblem}
 use Rattle.designer_command.proofs.Audits.{present_low}
 use Rattle.designer_command.proofs.problem.resolution_at_present.Goals as goal
