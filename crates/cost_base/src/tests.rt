@@ -28,8 +28,10 @@ fn three_files(alloc: Global) -> Result<Vec<(Name, Name)>, OutOfMemory> {
 fn names_and_lists_keep_what_they_are_made_of(rt: HostRuntime) -> Result<(), Fail> {
     let alloc = rt.alloc();
     assert_eq!(rt; name(alloc, "R1")?.as_bytes(), b"R1".as_slice());
-    let numbers = Listed::from_items([7u32, 9].to_vec(alloc)?);
+    let mut numbers = Listed::from_items([7u32, 9].to_vec(alloc)?);
     assert_eq!(rt; numbers.as_slice(), [7u32, 9].as_slice());
+    numbers.set(1, 8);
+    assert_eq!(rt; numbers.as_slice(), [7u32, 8].as_slice());
     Ok(())
 }
 
