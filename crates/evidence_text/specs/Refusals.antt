@@ -3,6 +3,8 @@ use Rattle.std.specs.Prelude.{◌≡◌, ◌≢◌, ℕ, ◌+◌, ◌≤◌, ◌
 use Rattle.text_lines.specs.Lines.{IsOneLine}
 use Rattle.evidence_text.specs.Grammar.{Place, AfterEnd, Next}
 use Rattle.evidence_text.specs.Lines.{text_of}
+use Rattle.evidence_text.specs.declared.read_whole.AnswerStop.{AnswerStop}
+use Rattle.evidence_text.specs.declared.read_whole.AnswerStop.TheVariants.{Refused, OutOfMemory}
 
 -- a line is lawful at a place, and leads to the next one: it is in the grammar there, and has at most 65,536 bytes
 pub record Leads (place : Place) (line : List ℕ) (next : Place) : Type 0 where
@@ -48,3 +50,8 @@ pub record IsRead (from : Place) (before : ℕ) (bytes : List ℕ) (lines : List
   pub lead : LeadOn from lines to
   pub parts : bytes ≡ text_of lines ++ left
   pub count : after ≡ before + length lines
+
+-- a stop of a reader that begins at a place: a refusal is the text's own, and want of memory says nothing
+abbrev pub IsStop : Place → ℕ → List ℕ → AnswerStop → Type 0
+IsStop from before bytes (Refused number line) = IsRefused from before bytes number line
+IsStop from before bytes OutOfMemory = Unit {0}

@@ -1,0 +1,39 @@
+//! Reading the text of an answer.
+ghost use Rattle.std.specs.Prelude.{◌≡◌, ℕ, ◌+◌, ◌-◌, ◌^◌, ◌<◌, List, All, IfOk, IfErr, length};
+ghost use Rattle.path_rows.specs.declared.form.Row.{Row};
+ghost use Rattle.path_rows.specs.Text.{text};
+ghost use Rattle.evidence_text.specs.Refusals.{IsStop};
+ghost use Rattle.evidence_text.specs.Grammar.{AtHead};
+
+use path_rows::Answer;
+use std::alloc::Global;
+
+/// Why a text wasn't read as an answer.
+#[derive(Clone, Copy, Debug, PartialEq, Eq)]
+pub enum AnswerStop {
+    /// The text is refused: 30 where a line is off the grammar, 31 where the text ends before its `end` line, 32 where
+    /// something stands behind that.
+    Refused {
+        /// 30 to 32.
+        number: u8,
+        /// The line, counted from 1.
+        line: u32,
+    },
+    /// Want of memory.
+    OutOfMemory,
+}
+
+/// The answer whose text this is. Its rows' rivals start at 0, since a text says no start.
+///
+/// # Errors
+///
+/// - `Refused` where the text is no answer's, with the first line that is at fault.
+/// - `OutOfMemory` where a growth was refused.
+pub fn read_answer(alloc: Global, bytes: &[u8]) -> Result<Answer, AnswerStop>
+    requires { length bytes.now < 2 ^ 32 - 1 }
+    ensures read { IfOk result (λ answer. bytes.now ≡ text answer) }
+    ensures starts { IfOk result (λ answer. All (λ row. row.rival.start ≡ 0) answer.rows) }
+    ensures stopped { IfErr result (IsStop AtHead 0 bytes.now) }
+{
+    Err(AnswerStop::OutOfMemory)
+}
