@@ -3,5 +3,7 @@
 
 mod deviation;
 mod rival;
+#[cfg(test)]
+mod tests;
 
 pub use rival::{Rival, cheapest_rival, find_rival};

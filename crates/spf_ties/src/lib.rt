@@ -3,6 +3,8 @@
 
 mod heap;
 mod next_hops;
+#[cfg(test)]
+mod path_tests;
 mod room;
 mod search;
 #[cfg(test)]

@@ -74,14 +74,21 @@ fn point_of(rt: &impl Abort, alloc: Global, graph: &Graph, costs: &[u128]) -> Re
     Ok(point)
 }
 
-fn room_of(alloc: Global, graph: &Graph) -> Result<Room, Fail>
+pub(crate) fn room_of(alloc: Global, graph: &Graph) -> Result<Room, Fail>
     ensures { IfOk result (λ room. IsRoomFor graph.now room) }
 {
     Ok(Room::new(alloc, graph)?)
 }
 
 /// Finds the distances to a vertex without the edges of `gone`.
-fn find(rt: &impl Abort, room: &mut Room, graph: &Graph, point: &Point, target: u32, gone: &[u32])
+pub(crate) fn find(
+    rt: &impl Abort,
+    room: &mut Room,
+    graph: &Graph,
+    point: &Point,
+    target: u32,
+    gone: &[u32],
+)
     requires room { IsRoomFor graph.now room.old }
     requires fits { FitsPoint graph.now point.now }
     ensures { IsRoomFor graph.now room.new }
@@ -94,7 +101,7 @@ fn find(rt: &impl Abort, room: &mut Room, graph: &Graph, point: &Point, target: 
     }
 }
 
-fn distance_of(rt: &impl Abort, room: &Room, graph: &Graph, vertex: u32) -> Option<u128>
+pub(crate) fn distance_of(rt: &impl Abort, room: &Room, graph: &Graph, vertex: u32) -> Option<u128>
     requires { IsRoomFor graph.now room.now }
 {
     assert!(rt; (vertex as usize) < graph.vertices().len());
@@ -102,7 +109,7 @@ fn distance_of(rt: &impl Abort, room: &Room, graph: &Graph, vertex: u32) -> Opti
 }
 
 /// Whether the next hops of a vertex are these edges.
-fn has_hops(
+pub(crate) fn has_hops(
     rt: &impl Abort,
     alloc: Global,
     room: &Room,
