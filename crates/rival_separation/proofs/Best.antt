@@ -1,11 +1,12 @@
 -- The best of the offers that were seen.
-use Rattle.std.proofs.Common.{◌≡◌, ◌≢◌, ℕ, zero, suc, eqb, eq-eqb, ◌+◌, ◌<◌, ◌≤◌, refl, sym, ◌∙◌, ap, subst, List, [], ◌∷◌, All, Option, Some, None, inl, inr, ◌⊎◌, arith, MatchOption, length, get_or}
+use Rattle.std.proofs.Common.{◌≡◌, ◌≢◌, ℕ, ◌+◌, ◌<◌, ◌≤◌, refl, sym, ◌∙◌, ap, subst, List, [], ◌∷◌, Option, Some, None, inl, inr, ◌⊎◌, arith, MatchOption, get_or}
 use native.Mathlib.Decide.{ℕ_discrete}
 use Rattle.cost_base.specs.Lists.{Lacks}
 use Rattle.area_graph.specs.declared.Point.{Point}
 use Rattle.area_graph.specs.Area.{Area, edge_at, edges_out}
-use Rattle.area_graph.proofs.Numbers.{kept_all}
-use Rattle.spf_ties.specs.Distances.{Findings, distance_at}
+use Rattle.area_graph.proofs.Numbers.{out_all}
+use Rattle.spf_ties.specs.Distances.{Findings}
+use Rattle.spf_ties.proofs.Searching.{all_lacks}
 use Rattle.rival_separation.specs.declared.deviation.Deviation.{Deviation}
 use Rattle.rival_separation.specs.Offers.{IsBest, Offers}
 
@@ -13,7 +14,7 @@ use Rattle.rival_separation.specs.Offers.{IsBest, Offers}
 abbrev pub SeenBut : ℕ → List ℕ → ℕ → ℕ → Type 0
 SeenBut place todo earlier e = (earlier < place) ⊎ ((earlier ≡ place) × Lacks todo e)
 
-some_same : (x y : ℕ) → Some x ≡ Some y → x ≡ y
+pub some_same : (x y : ℕ) → Some x ≡ Some y → x ≡ y
 some_same x y h = cc
 
 -- an edge at a place makes one offer
@@ -82,11 +83,6 @@ best_with g p gone room path place n cost todo (Some first) result is offer bett
       )
 ]
 
-all_lacks : (xs : List ℕ) (x : ℕ) → Lacks xs x → (i d : ℕ) → i < length xs → x ≢ get_or xs i d
-all_lacks [] x lacks i d within = absurd (omega arith)
-all_lacks (y ∷ ys) x lacks zero d within = lacks.0
-all_lacks (y ∷ ys) x lacks (suc i) d within = all_lacks ys x lacks.1 i d (omega arith)
-
 -- at the start of a place each of its edges is to be looked at
 pub best_begins : (g : Area) (p : Point) (gone : List ℕ) (room : Findings) (path : List ℕ) (place : ℕ) (best : Option Deviation) → IsBest g p gone room path (λ earlier e. earlier < place) best → IsBest g p gone room path (SeenBut place (edges_out g (edge_at g (get_or path place 0)).from)) best
 best_begins g p gone room path place best is =
@@ -98,8 +94,7 @@ best_begins g p gone room path place best is =
     lacked : (k e total : ℕ) → k ≡ place → Lacks (edges_out g (edge_at g (get_or path place 0)).from) e → Offers g p gone room path k e total → ⊥
     lacked k e total same lacks offer =
         let v = (edge_at g (get_or path place 0)).from in
-        kept_all (λ y. e ≢ y) (λ i. eqb (edge_at g i).from v) 0 (length g.edges) (all_lacks (edges_out g v) e lacks) e (omega arith) (let known = offer.known in omega arith)
-        (eq-eqb (edge_at g e).from v (offer.from ∙ ap (λ (i : ℕ). (edge_at g (get_or path i 0)).from) same)) refl
+        out_all (λ y. e ≢ y) g v (all_lacks (edges_out g v) e lacks) e offer.known (offer.from ∙ ap (λ (i : ℕ). (edge_at g (get_or path i 0)).from) same) refl
 
 -- at its end the place was seen
 pub best_ends : (g : Area) (p : Point) (gone : List ℕ) (room : Findings) (path : List ℕ) (place : ℕ) (best : Option Deviation) → IsBest g p gone room path (SeenBut place []) best → IsBest g p gone room path (λ earlier e. earlier < place + 1) best

@@ -1,23 +1,22 @@
 -- Offers, deviations and the way along tight edges.
-use Rattle.std.proofs.Common.{◌≡◌, ◌≢◌, ℕ, zero, suc, ◌+◌, ◌*◌, ◌^◌, ◌<◌, ◌≤◌, refl, sym, ◌∙◌, ap, subst, List, [], ◌∷◌, ◌++◌, All, length, get_or, take, Option, Some, None, Bool, true, false, eqb, inl, inr, ◌⊎◌, arith, append_assoc, length-append}
+use Rattle.std.proofs.Common.{◌≡◌, ◌≢◌, ℕ, zero, suc, ◌+◌, ◌*◌, ◌^◌, ◌<◌, ◌≤◌, refl, sym, ◌∙◌, ap, subst, List, [], ◌∷◌, ◌++◌, All, length, get_or, take, Option, Some, None, true, false, inl, inr, arith, append_assoc, length-append}
 use Rattle.std.proofs.Math.Seq.{take-append_seam}
 use Rattle.std.proofs.lemmas.Bool.{eqb-true}
 use Rattle.std.proofs.lemmas.List.Sums.{sum_by-cons, sum_by-append}
-use native.Mathlib.Decide.{ℕ_discrete}
 use Rattle.cost_base.specs.Lists.{Lacks, NoneTwice}
 use Rattle.area_graph.specs.declared.Point.{Point}
 use Rattle.area_graph.specs.Area.{Area, edge_at, edges_out, no_edge, FitsGraph, FitsEdge, HasMetrics}
 use Rattle.area_graph.specs.Paths.{Ends, IsPathOf, Joins, Avoids, visited}
 use Rattle.area_graph.specs.Costs.{cost, price_at, FitsPoint, LeadsBy}
 use Rattle.area_graph.proofs.Walks.{simple_in_walk}
-use Rattle.area_graph.proofs.Deviations.{Deviates, Leaves, deviation_joins, deviation_differs, least_deviation_simple, rival_deviates}
+use Rattle.area_graph.proofs.Deviations.{Deviates, deviation_joins, deviation_differs, least_deviation_simple, rival_deviates}
 use Rattle.area_graph.proofs.Numbers.{out_all}
 use Rattle.area_graph.proofs.Bounds.{cost_below}
 use Rattle.spf_ties.specs.Distances.{AreTight, Findings, IsLeast, IsLeastCost, adds_up, distance_at, is_tight}
 use Rattle.path_rows.proofs.PathBounds.{simple-short}
-use Rattle.rival_separation.specs.declared.deviation.Deviation.{Deviation}
-use Rattle.rival_separation.specs.Rivals.{Completes, IsCheapest, IsFound, IsRival}
-use Rattle.rival_separation.specs.Offers.{IsBest, Offers}
+use Rattle.rival_separation.specs.Rivals.{Completes, IsCheapest, IsFound}
+use Rattle.rival_separation.specs.Offers.{Offers}
+use Rattle.rival_separation.proofs.Best.{some_same}
 
 -- the element at which two lists are joined
 get_seam : (xs : List ℕ) (y : ℕ) (ys : List ℕ) → get_or (xs ++ y ∷ ys) (length xs) 0 ≡ y
@@ -171,9 +170,6 @@ sums_of (Some x) None price h = absurd (clash h)
     clash : false ≡ true → ⊥
     clash h = cc
 sums_of (Some x) (Some y) price h = record { x = x; y = y; from_is = refl; to_is = refl; adds = eqb-true x (price + y) h }
-
-some_same : (x y : ℕ) → Some x ≡ Some y → x ≡ y
-some_same x y h = cc
 
 -- a tight edge and a path of least cost from its end are a path
 along_tight : (g : Area) (p : Point) (ends : Ends) (room : Findings) (v f x y : ℕ) (rest : List ℕ) → FitsGraph g → FitsPoint g p → IsFound g p ends room → v < length g.vertices → f < length g.edges → (edge_at g f).from ≡ v → Lacks ends.gone f → distance_at room v ≡ Some x → x ≡ price_at p (edge_at g f).price + y → IsPathOf g (record { start = (edge_at g f).to; end = ends.end; gone = ends.gone }) rest → cost g p rest ≡ y → IsPathOf g (record { start = v; end = ends.end; gone = ends.gone }) (f ∷ rest)

@@ -1,6 +1,6 @@
 -- The steps of a search for least costs.
-use Rattle.std.proofs.Common.{◌≡◌, ◌≢◌, ℕ, zero, suc, ◌+◌, ◌*◌, ◌^◌, ◌<◌, ◌≤◌, refl, sym, ◌∙◌, ap, subst, List, [], ◌∷◌, All, length, get_or, set, replicate, filter, Bool, true, false, not, cond, eqb, eq-eqb, count_by, inl, inr, ◌⊎◌, arith, get_or-set_same, get_or-set_other, length-set, IsPermutation, Contains}
-use Rattle.std.proofs.lemmas.Bool.{cases_lt, eqb-true, ne_eqb}
+use Rattle.std.proofs.Common.{◌≡◌, ◌≢◌, ℕ, zero, suc, ◌+◌, ◌<◌, ◌≤◌, refl, sym, ◌∙◌, ap, subst, List, [], ◌∷◌, All, length, get_or, set, replicate, Bool, true, false, not, cond, eqb, eq-eqb, count_by, inl, inr, ◌⊎◌, arith, get_or-set_same, get_or-set_other, length-set, IsPermutation, Contains}
+use Rattle.std.proofs.lemmas.Bool.{eqb-true, ne_eqb}
 use Rattle.std.proofs.lemmas.List.{get_or-replicate, length-replicate}
 use Rattle.std.proofs.lemmas.List.Elements.{All-head, All-tail, All-nil, All-cons, All-set, All-contains, All-replicate}
 use Rattle.std.proofs.lemmas.List.Sorted.{All-permutation, Contains-permutation}
@@ -10,7 +10,7 @@ use Rattle.cost_base.specs.Lists.{Lacks, numbers_from}
 use Rattle.area_graph.specs.declared.Point.{Point}
 use Rattle.area_graph.specs.Area.{Area, edge_at, edges_in, no_edge, FitsGraph, FitsEdge}
 use Rattle.area_graph.specs.Costs.{price_at, FitsPoint}
-use Rattle.area_graph.specs.Distances.{far, WalkWithin, AreReached, through, SettledBelow}
+use Rattle.area_graph.specs.Distances.{far, WalkWithin, AreReached, through}
 use Rattle.area_graph.proofs.Numbers.{all_kept, kept_all}
 use Rattle.spf_ties.specs.declared.heap.Entry.{Entry}
 use Rattle.spf_ties.specs.Searches.{IsFront, is_settled, open_edges, MayWait, LeadsToLast, Underway}
@@ -37,7 +37,8 @@ contains_behind x y xs has = (suc has.0, (let within = has.1 in omega arith), ha
 contains_first : (x : Entry) (xs : List Entry) → Contains (x ∷ xs) x
 contains_first x xs = (zero, omega arith, refl)
 
-all_lacks : (xs : List ℕ) (x : ℕ) → Lacks xs x → All (λ y. x ≢ y) xs
+-- a number that a list lacks is none of its elements
+pub all_lacks : (xs : List ℕ) (x : ℕ) → Lacks xs x → All (λ y. x ≢ y) xs
 all_lacks [] x lacks = All-nil (λ (y : ℕ). x ≢ y)
 all_lacks (y ∷ ys) x lacks = All-cons (λ (z : ℕ). x ≢ z) y ys lacks.0 (all_lacks ys x lacks.1)
 
@@ -276,33 +277,6 @@ lowered g p gone t least e todo d settled waiting new graph front under left les
               let is = here in omega arith
           | no other ↦ let old = under.closed i known there_left done (other, lacks) in let less = not_more (edge_at g i).from in omega arith
         ]
-
--- the front after a number was lowered
-pub front_lowered : (g : Area) (p : Point) (v x : ℕ) (d : List ℕ) (settled : List Bool) → IsFront g p d settled → x ≤ far p → IsFront g p (set d v x) settled
-front_lowered g p v x d settled front below = record {
-  count = length-set d v x ∙ front.count;
-  marks = front.marks;
-  bounded = All-set (λ y. y ≤ far p) d v x below front.bounded;
-}
-
--- where nothing waits each edge is settled
-pub all_settled : (g : Area) (p : Point) (gone : List ℕ) (t least : ℕ) (d : List ℕ) (settled : List Bool) (waiting : List Entry) → FitsGraph g → IsFront g p d settled → Underway g p gone t least [] d settled waiting → waiting ≡ [] → SettledBelow (length g.edges) g p gone d
-all_settled g p gone t least d settled waiting graph front under none e known left = go (is_settled settled (edge_at g e).to) refl
-  where
-    edge : FitsEdge g (edge_at g e)
-    edge = graph.edges e no_edge known
-
-    nothing : (entry : Entry) → Contains [] entry → ⊥
-    nothing entry has = let within = has.1 in absurd (omega arith)
-
-    go : (b : Bool) → is_settled settled (edge_at g e).to ≡ b → get_or d (edge_at g e).from 0 ≤ through p (edge_at g e) d
-    go true done = under.closed e known left done tt
-    go false unsettled = elim (cases_lt (get_or d (edge_at g e).to 0) (far p)) [
-      | inl near ↦ absurd (nothing (entry_of (get_or d (edge_at g e).to 0) (edge_at g e).to)
-          (subst (λ (xs : List Entry). Contains xs (entry_of (get_or d (edge_at g e).to 0) (edge_at g e).to)) none
-          (under.waits (edge_at g e).to (let to = edge.to in let count = front.count in omega arith) unsettled near)))
-      | inr none_near ↦ let most = front.bounded (edge_at g e).from 0 (let from = edge.from in let count = front.count in omega arith) in omega arith
-    ]
 
 -- the target alone waits at the start
 pub begun : (g : Area) (p : Point) (gone : List ℕ) (t n m : ℕ) (waiting : List Entry) → FitsPoint g p → t < n → IsPermutation (entry_of 0 t ∷ []) waiting → Underway g p gone t 0 [] (set (replicate n (far p)) t 0) (replicate m false) waiting

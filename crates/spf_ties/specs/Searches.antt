@@ -1,5 +1,5 @@
 -- A search for least costs on its way: vertices are settled one by one, the nearest to the target first.
-use Rattle.std.specs.Prelude.{◌≡◌, ℕ, ◌<◌, ◌≤◌, List, [], length, slice_index, slice_index_or, All, Contains, Bool, true, false, not, count_by}
+use Rattle.std.specs.Prelude.{◌≡◌, ℕ, ◌<◌, ◌≤◌, List, length, slice_index, slice_index_or, All, Contains, Bool, true, false, not, count_by}
 use Rattle.cost_base.specs.Lists.{Lacks, numbers_from}
 use Rattle.area_graph.specs.declared.Point.{Point}
 use Rattle.area_graph.specs.Area.{Area, edge_at}

@@ -1,5 +1,4 @@
-use Rattle.std.proofs.Common.{rules, ◌≡◌, arith, subst, ℕ, List}
-use Rattle.area_graph.specs.Distances.{AreMarks}
+use Rattle.std.proofs.Common.{rules, arith}
 use Rattle.path_rows.specs.Problems.{ends_of}
 use Rattle.rival_separation.specs.Rivals.{IsFound}
 use Rattle.rival_separation.proofs.Walking.{leads_by}

@@ -1,4 +1,4 @@
-use Rattle.std.proofs.Common.{◌≡◌, ◌<◌, ◌≤◌, ◌∷◌, [], ◌++◌, ◌∙◌, ap, sym, subst, arith, ℕ, List, length, take}
+use Rattle.std.proofs.Common.{◌∷◌, [], ◌++◌, ◌∙◌, ap, sym, subst, arith, ℕ, List, length, take}
 use Rattle.area_graph.specs.Area.{edge_at}
 use Rattle.area_graph.specs.declared.Edge.{Edge}
 use Rattle.path_rows.specs.Problems.{ends_of}

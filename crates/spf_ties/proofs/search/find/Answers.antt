@@ -1,10 +1,9 @@
-use Rattle.std.proofs.Common.{rules, ◌≡◌, ◌≤◌, ◌<◌, ◌+◌, ◌*◌, ◌^◌, ◌∷◌, [], ◌∙◌, ℕ, All, ap, sym, subst, arith, IsPermutation, List, Bool, length, get_or, set, replicate, false, length-set}
-use Rattle.std.proofs.lemmas.List.{length-replicate}
-use Rattle.std.proofs.lemmas.List.Elements.{All-head, All-set, All-replicate}
+use Rattle.std.proofs.Common.{rules, ◌≡◌, ◌<◌, ◌∷◌, [], ℕ, ap, sym, subst, arith, IsPermutation, List, Bool, length, set, replicate, false}
+use Rattle.std.proofs.lemmas.List.Elements.{All-head}
 use Rattle.std.proofs.lemmas.List.Sorted.{All-permutation, length_permutation}
 use Rattle.area_graph.specs.Distances.{far}
 use Rattle.spf_ties.specs.declared.heap.Entry.{Entry}
-use Rattle.spf_ties.specs.Searches.{IsFront, MayWait, Underway, open_edges}
+use Rattle.spf_ties.specs.Searches.{IsFront, MayWait, Underway}
 use Rattle.spf_ties.proofs.Searching.{begun, entry_of, front_begun, open-le}
 use Rattle.spf_ties.proofs.search.find.Goals as goal
 

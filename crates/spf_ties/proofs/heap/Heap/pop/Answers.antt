@@ -1,4 +1,4 @@
-use Rattle.std.proofs.Common.{rules, ◌≡◌, ◌∷◌, [], ◌≤◌, List, All, map, subst, ap, ◌∙◌, sym, refl, IsPermutation, heap_items, heap_len, length, arith}
+use Rattle.std.proofs.Common.{◌≡◌, ◌∷◌, [], ◌≤◌, List, All, map, subst, ap, ◌∙◌, sym, refl, IsPermutation, heap_items, heap_len, length, arith}
 use Rattle.std.specs.declared.collections.BinaryHeap.{BinaryHeap}
 use Rattle.std.proofs.lemmas.List.Sorted.{IsPermutation-map}
 use Rattle.spf_ties.specs.declared.heap.Entry.{Entry}

@@ -1,4 +1,4 @@
-use Rattle.std.proofs.Common.{rules, ◌≡◌, ◌∷◌, ◌<◌, List, map, length, subst, sym, ap, IsPermutation, heap_items, heap_len, arith}
+use Rattle.std.proofs.Common.{rules, ◌∷◌, ◌<◌, List, map, length, subst, ap, IsPermutation, heap_items, heap_len, arith}
 use Rattle.std.specs.BinaryHeap.{heap_capacity}
 use Rattle.std.specs.Prelude.{IsOk, OnOk, Result, Ok, Err}
 use Rattle.std.proofs.lemmas.List.{length-map}

@@ -1,6 +1,3 @@
-use Rattle.std.proofs.Common.{◌≡◌, ◌∙◌, ap, sym, length}
-use Rattle.std.proofs.lemmas.List.{length-map}
-use Rattle.spf_ties.specs.Distances.{cost_below}
 use Rattle.spf_ties.proofs.LeastCosts.{least_at}
 use Rattle.spf_ties.proofs.TightPaths.{tight_paths}
 use Rattle.spf_ties.proofs.room.Room.distances_without.Goals as goal
