@@ -1,6 +1,5 @@
 -- What the code's reader keeps.
-use Rattle.std.specs.Prelude.{ℕ, List, map}
-use Rattle.std.specs.Option.{option_map}
+use Rattle.std.specs.Prelude.{ℕ, List}
 use Rattle.config_reader.specs.declared.reader.SaidLine.{SaidLine}
 use Rattle.config_reader.specs.declared.reader.NamedHead.{NamedHead}
 use Rattle.config_reader.specs.declared.reader.LineFault.{LineFault}

@@ -1,12 +1,11 @@
 -- What the code's statements, blocks and lines mean.
-use Rattle.std.specs.Prelude.{ℕ, List, map, Option, Some, None}
 use Rattle.text_lines.specs.Numbers.{Prefix}
 use Rattle.config_reader.specs.declared.statements.AddressPrefix.{AddressPrefix}
 use Rattle.config_reader.specs.declared.statements.Statement.{Statement as Spoken}
 use Rattle.config_reader.specs.declared.statements.Statement.TheVariants as spoken
 use Rattle.config_reader.specs.declared.statements.Block.{Block as SpokenBlock}
 use Rattle.config_reader.specs.declared.statements.Block.TheVariants.{Interface, Router, Other}
-use Rattle.config_reader.specs.Statements.{Block, OfInterface, OfRouter, OfOther, Statement, AddressIs, AreaIs, CostIs, KindIs, PriorityIs, PassiveIs, DownIs, RouterIdIs, NetworkIs, PassiveInterfaceIs, Refused, Unread, Network}
+use Rattle.config_reader.specs.Statements.{Block, OfInterface, OfRouter, OfOther, Statement, AddressIs, AreaIs, CostIs, KindIs, PriorityIs, PassiveIs, DownIs, RouterIdIs, NetworkIs, PassiveInterfaceIs, Refused, Unread}
 
 abbrev pub prefix_of : AddressPrefix → Prefix
 prefix_of p = record { address = p.address; length = p.length }

@@ -10,7 +10,7 @@ use std::marker::Model;
 
 /// Names, each once, in the order in which they came first. Contracts see the list of them.
 #[derive(Drop)]
-pub(crate) struct Names<'a> {
+pub struct Names<'a> {
     names: IndexSet<&'a [u8]>,
 }
 
@@ -24,7 +24,7 @@ impl<'a> Model for Names<'a> {
 
 impl<'a> Names<'a> {
     /// No name.
-    pub(crate) fn new(alloc: Global) -> Names<'a>
+    pub fn new(alloc: Global) -> Names<'a>
         ensures { result ≡ [] }
     {
         Names {
@@ -33,7 +33,7 @@ impl<'a> Names<'a> {
     }
 
     /// Adds a name, unless it is there; tells whether it is new.
-    pub(crate) fn add(&mut self, name: &'a [u8]) -> Result<bool, OutOfMemory>
+    pub fn add(&mut self, name: &'a [u8]) -> Result<bool, OutOfMemory>
         ensures new { IfOk result (λ new. new ≡ not (list_any (same_bytes name.now) self.old)) }
         ensures names { IfOk result (λ new. self.new ≡ (if list_any (same_bytes name.now) self.old then self.old else self.old ++ name.now ∷ [])) }
     {
@@ -42,7 +42,7 @@ impl<'a> Names<'a> {
     }
 
     /// The place of a name.
-    pub(crate) fn place(&self, name: &'a [u8]) -> Option<usize>
+    pub fn place(&self, name: &'a [u8]) -> Option<usize>
         ensures place { result ≡ position (same_bytes name.now) self.now }
         ensures found { is_some result ≡ list_any (same_bytes name.now) self.now }
     {

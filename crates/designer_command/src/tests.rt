@@ -5,6 +5,8 @@ use std::alloc::Global;
 use std::process::Abort;
 use std::test::Fail;
 
+mod inputs;
+
 const A: &str =
     "interface eth0\n ip address 10.0.0.1/30\n ip ospf area 0\n ip ospf network point-to-point\n";
 
@@ -45,8 +47,20 @@ fn expect(
     status: Status,
     text: &str,
 ) -> Result<(), Fail> {
+    expect_of(rt, alloc, words, files_of(alloc, files)?, status, text)
+}
+
+/// The same over files of any bytes.
+fn expect_of(
+    rt: &impl Abort,
+    alloc: Global,
+    words: &[&str],
+    files: Vec<(Name, Name)>,
+    status: Status,
+    text: &str,
+) -> Result<(), Fail> {
     let words = words_of(alloc, words)?;
-    let mut shelf = MemoryShelf::new(files_of(alloc, files)?, Vec::new(alloc));
+    let mut shelf = MemoryShelf::new(files, Vec::new(alloc));
     let mut out = MemorySink::new(alloc, 4096, Vec::new(alloc))?;
     let ended = run(alloc, &words, &mut shelf, &mut out);
     assert_eq!(rt; out.got(), text.as_bytes());
@@ -134,19 +148,15 @@ fn pair_cut_output(rt: HostRuntime) -> Result<(), Fail> {
 /// A request of 4 MiB and one byte.
 #[test]
 fn request_too_long(rt: HostRuntime) -> Result<(), Fail> {
-    let words = words_of(rt.alloc(), &DESIGN)?;
     let bytes = vec![in rt.alloc(); b'x'; 4_194_305]?;
     let mut files = Vec::new(rt.alloc());
     files.push((
         Name::from_bytes(rt.alloc(), b"request.txt")?,
         Name::from_bytes(rt.alloc(), &bytes)?,
     ))?;
-    let mut shelf = MemoryShelf::new(files, Vec::new(rt.alloc()));
-    let mut out = MemorySink::new(rt.alloc(), 4096, Vec::new(rt.alloc()))?;
-    let ended = run(rt.alloc(), &words, &mut shelf, &mut out);
-    assert!(rt; ended == Status::InputRefused);
-    assert_eq!(rt; out.got(), b"refused 9 request.txt 0\n".as_slice());
-    Ok(())
+    let text = "refused 9 request.txt 0\n";
+    let status = Status::InputRefused;
+    expect_of(&rt, rt.alloc(), &DESIGN, files, status, text)
 }
 
 /// A request, the two configurations of Pair, and what `design` refuses of them.

@@ -5,4 +5,4 @@ use Rattle.config_reader.proofs.networks.Networks.among.Given as goal
 
 -- the lines so far, and those of what is left, are those of the whole
 abbrev pub invariant-loop-line : goal.invariant-loop-line
-invariant-loop-line l = l.lines.items ++ network_lines (map said_of (drop l.line-index l.said)) ≡ network_lines (map said_of l.fn.said)
+invariant-loop-line l = l.networks ++ network_lines (map said_of (drop l.line-index l.said)) ≡ network_lines (map said_of l.fn.said)
