@@ -1,0 +1,36 @@
+-- Bytes that lines of one form begin with.
+use Rattle.std.specs.Prelude.{◌≡◌, ℕ, ◌≤◌, List, [], ◌∷◌, ◌++◌, length, Option, Some}
+use Rattle.cost_base.specs.Decimal.{decimal}
+use Rattle.cost_base.specs.Words.{IsOneWord}
+use Rattle.path_rows.specs.declared.form.Row.{Row}
+use Rattle.path_rows.specs.Bounds.{BoundsRow}
+use Rattle.path_rows.specs.Text.{row_line}
+use Rattle.evidence_text.specs.Grammar.{router_line}
+
+-- a line begins with these bytes
+abbrev pub IsFront : List ℕ → List ℕ → Type 0
+IsFront rest line = (more : List ℕ) × (rest ++ more ≡ line)
+
+-- some bytes, with a number behind them that is at most the greatest, begin with these
+abbrev pub BeginsNumber : List ℕ → List ℕ → ℕ → Type 0
+BeginsNumber rest front greatest = (n : ℕ) × (n ≤ greatest) × IsFront rest (front ++ decimal n)
+
+-- some bytes, with a name behind them, begin with these, and are a line of at most 65,536 bytes
+abbrev pub BeginsName : List ℕ → List ℕ → Type 0
+BeginsName rest front = (name : List ℕ) × IsOneWord name × IsFront rest (front ++ name) × (length (front ++ name) ≤ 65536)
+
+-- the head of a tree, with its cap and its count, begins with these bytes
+abbrev pub BeginsTree : List ℕ → List ℕ → Type 0
+BeginsTree rest front = (cap count : ℕ) × (cap ≤ 65535) × (count ≤ 4294967295) × IsFront rest (front ++ (decimal cap ++ 32 ∷ decimal count))
+
+-- these bytes hold the whole cap of the head of a tree
+abbrev pub BeginsCount : List ℕ → List ℕ → Type 0
+BeginsCount rest front = (cap : ℕ) × (behind : List ℕ) × (cap ≤ 65535) × (rest ≡ front ++ (decimal cap ++ 32 ∷ behind)) × BeginsNumber behind [] 4294967295
+
+-- the line of this router
+abbrev pub IsRouterOf : Option (List ℕ) → List ℕ → Type 0
+IsRouterOf router line = (name : List ℕ) × (router ≡ Some name) × (line ≡ router_line name)
+
+-- the line of a row
+abbrev pub IsRowLine : List ℕ → Type 0
+IsRowLine line = (row : Row) × BoundsRow row × (line ≡ row_line row)
