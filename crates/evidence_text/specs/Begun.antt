@@ -1,5 +1,5 @@
 -- Bytes that lines of one form begin with.
-use Rattle.std.specs.Prelude.{◌≡◌, ℕ, ◌≤◌, List, [], ◌∷◌, ◌++◌, length, Option, Some}
+use Rattle.std.specs.Prelude.{◌≡◌, ◌≢◌, ℕ, ◌≤◌, List, [], ◌∷◌, ◌++◌, length, Option, Some}
 use Rattle.cost_base.specs.Decimal.{decimal}
 use Rattle.cost_base.specs.Words.{IsOneWord}
 use Rattle.path_rows.specs.declared.form.Row.{Row}
@@ -30,6 +30,10 @@ BeginsCount rest front = (cap : ℕ) × (behind : List ℕ) × (cap ≤ 65535) �
 -- the line of this router
 abbrev pub IsRouterOf : Option (List ℕ) → List ℕ → Type 0
 IsRouterOf router line = (name : List ℕ) × (router ≡ Some name) × (line ≡ router_line name)
+
+-- the line of a router, not that of the cost line before, begins with these bytes
+abbrev pub BeginsRouter : Option (List ℕ) → List ℕ → Type 0
+BeginsRouter before rest = (name : List ℕ) × IsOneWord name × (before ≢ Some name) × IsFront rest (router_line name) × (length (router_line name) ≤ 65536)
 
 -- the line of a row
 abbrev pub IsRowLine : List ℕ → Type 0
