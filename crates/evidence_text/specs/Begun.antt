@@ -1,11 +1,12 @@
 -- Bytes that lines of one form begin with.
-use Rattle.std.specs.Prelude.{◌≡◌, ◌≢◌, ℕ, ◌≤◌, List, [], ◌∷◌, ◌++◌, length, Option, Some}
+use Rattle.std.specs.Prelude.{◌≡◌, ◌≢◌, ℕ, ◌≤◌, List, [], ◌∷◌, ◌++◌, length, Option, Some, None}
 use Rattle.cost_base.specs.Decimal.{decimal}
 use Rattle.cost_base.specs.Words.{IsOneWord}
 use Rattle.path_rows.specs.declared.form.Row.{Row}
 use Rattle.path_rows.specs.Bounds.{BoundsRow}
 use Rattle.path_rows.specs.Text.{row_line}
-use Rattle.evidence_text.specs.Grammar.{router_line}
+use Rattle.evidence_text.specs.Grammar.{AtInterface, router_line}
+use Rattle.evidence_text.specs.Places.{Begins}
 
 -- a line begins with these bytes
 abbrev pub IsFront : List ℕ → List ℕ → Type 0
@@ -34,6 +35,11 @@ IsRouterOf router line = (name : List ℕ) × (router ≡ Some name) × (line �
 -- the line of a router, not that of the cost line before, begins with these bytes
 abbrev pub BeginsRouter : Option (List ℕ) → List ℕ → Type 0
 BeginsRouter before rest = (name : List ℕ) × IsOneWord name × (before ≢ Some name) × IsFront rest (router_line name) × (length (router_line name) ≤ 65536)
+
+-- the line of a further interface, which stands only behind a cost line, begins with these bytes
+abbrev pub BeginsAgain : Option (List ℕ) → List ℕ → Type 0
+BeginsAgain None rest = ⊥
+BeginsAgain (Some router) rest = Begins (AtInterface router) rest
 
 -- the line of a row
 abbrev pub IsRowLine : List ℕ → Type 0

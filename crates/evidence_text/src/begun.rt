@@ -3,7 +3,7 @@ ghost use Rattle.std.specs.Prelude.{◌≡◌, ℕ, zero, suc, List, IsTrue, ◌
 ghost use Rattle.std.specs.Option.{option_copied};
 ghost use Rattle.evidence_text.specs.Grammar.{AtHead, AtVerdict, AtCosts, AtSections, AtInterface, AtCost, AtExit, AtFloor, AtRows, AtRow, AtTree, AtEnd};
 ghost use Rattle.evidence_text.specs.Places.{Begins};
-ghost use Rattle.evidence_text.specs.Begun.{BeginsTree, BeginsCount, BeginsRouter, IsRouterOf, IsRowLine};
+ghost use Rattle.evidence_text.specs.Begun.{BeginsTree, BeginsCount, BeginsRouter, BeginsAgain, IsRouterOf, IsRowLine};
 
 use crate::TreePart;
 use crate::fronts::{begins_line, begins_name, begins_number};
@@ -39,7 +39,7 @@ pub(crate) fn begins_section(rest: &[u8], before: Option<&[u8]>) -> bool
     ensures { IsTrue result ↔ Begins (AtSections (option_copied before.entry)) rest.now }
 {
     begins_router(rest, before)
-        || before.is_some() && begins_interface(rest)
+        || begins_interface_again(rest, before)
         || begins_floor(rest)
 }
 
@@ -61,6 +61,16 @@ fn is_router_line(line: &[u8], router: Option<&[u8]>) -> bool
         return false;
     };
     name == router
+}
+
+/// Whether these bytes begin the line of a further interface, which stands only behind a cost line.
+fn begins_interface_again(rest: &[u8], before: Option<&[u8]>) -> bool
+    ensures { IsTrue result ↔ BeginsAgain (option_copied before.entry) rest.now }
+{
+    match before {
+        Some(_) => begins_interface(rest),
+        None => false,
+    }
 }
 
 /// Whether these bytes begin the line of an interface.
