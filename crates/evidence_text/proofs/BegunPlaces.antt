@@ -17,6 +17,10 @@ pub begins-from : (place next : Place) (rest line : List ℕ) → Next place lin
 begins-from place next rest line is short front =
     (front.0, (next, record { is = subst (λ l. Next place l next) (sym front.1) is; short = subst (λ l. length l ≤ 65536) (sym front.1) short }))
 
+-- where one line alone is in the grammar
+pub wanted-begun : (place next : Place) (rest line : List ℕ) → length line ≤ 65536 → Next place line next → ((l : List ℕ) (n : Place) → Next place l n → l ≡ line) → IsFront rest line ↔ Begins place rest
+wanted-begun place next rest line short is only = (λ front. begins-from place next rest line is short front, λ begins. (begins.0, only (rest ++ begins.0) begins.1.0 begins.1.1.is))
+
 -- a line of a short front with a number behind it is short
 pub short_number : (front : List ℕ) (n : ℕ) → length front ≤ 100 → n ≤ 18446744073709551615 → length (front ++ decimal n) ≤ 130
 short_number front n small bound = omega (arith, length-append front (decimal n), length-decimal-le 30 n (omega arith) (omega arith))
