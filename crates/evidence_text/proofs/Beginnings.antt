@@ -49,3 +49,8 @@ number-tested rest front greatest None unbegun h = (
   λ begun. absurd (elim (front-number rest front greatest begun.0 begun.1 begun.2) [ inl before ↦ unbegun before | inr found ↦ h found.0 found.1 found.2 ]),
 )
 number-tested rest front greatest (Some n) unbegun h = (λ yes. (n, h.0, front-whole rest (front ++ decimal n) h.1), λ begun. refl)
+
+-- some bytes that begin a space and what is behind it begin with the space
+pub behind-space : (cut more tail : List ℕ) → cut ≢ [] → cut ++ more ≡ 32 ∷ tail → (left : List ℕ) × (cut ≡ 32 ∷ left) × (left ++ more ≡ tail)
+behind-space [] more tail some e = absurd (some refl)
+behind-space (x ∷ xs) more tail some e = (xs, cc, cc)

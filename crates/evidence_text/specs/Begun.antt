@@ -12,6 +12,10 @@ use Rattle.evidence_text.specs.Places.{Begins}
 abbrev pub IsFront : List ℕ → List ℕ → Type 0
 IsFront rest line = (more : List ℕ) × (rest ++ more ≡ line)
 
+-- the word of a number that is at most the greatest
+abbrev pub IsNumberWord : List ℕ → ℕ → Type 0
+IsNumberWord word greatest = (n : ℕ) × (n ≤ greatest) × (word ≡ decimal n)
+
 -- some bytes, with a number behind them that is at most the greatest, begin with these
 abbrev pub BeginsNumber : List ℕ → List ℕ → ℕ → Type 0
 BeginsNumber rest front greatest = (n : ℕ) × (n ≤ greatest) × IsFront rest (front ++ decimal n)
