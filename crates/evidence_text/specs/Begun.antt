@@ -1,9 +1,9 @@
 -- Bytes that lines of one form begin with.
-use Rattle.std.specs.Prelude.{◌≡◌, ◌≢◌, ℕ, ◌≤◌, List, [], ◌∷◌, ◌++◌, length, Option, Some, None}
+use Rattle.std.specs.Prelude.{◌≡◌, ◌≢◌, ℕ, ◌<◌, ◌≤◌, List, [], ◌∷◌, ◌++◌, All, length, map, Option, Some, None}
 use Rattle.cost_base.specs.Decimal.{decimal}
 use Rattle.cost_base.specs.Words.{IsOneWord}
 use Rattle.path_rows.specs.declared.form.Row.{Row}
-use Rattle.path_rows.specs.Bounds.{BoundsRow}
+use Rattle.path_rows.specs.Bounds.{IsThing, BoundsRow}
 use Rattle.path_rows.specs.Text.{row_line}
 use Rattle.evidence_text.specs.Grammar.{AtInterface, router_line}
 use Rattle.evidence_text.specs.Places.{Begins}
@@ -48,3 +48,14 @@ BeginsAgain (Some router) rest = Begins (AtInterface router) rest
 -- the line of a row
 abbrev pub IsRowLine : List ℕ → Type 0
 IsRowLine line = (row : Row) × BoundsRow row × (line ≡ row_line row)
+
+abbrev pub IsShortRow : List ℕ → Type 0
+IsShortRow line = IsRowLine line × (length line ≤ 65536)
+
+-- the line of a row, and a space behind it, with room for one more edge
+abbrev pub BeginsEdge : List ℕ → Type 0
+BeginsEdge rest = (line : List ℕ) × IsRowLine line × (rest ≡ line ++ 32 ∷ []) × (length rest < 65536)
+
+-- words are numbers
+abbrev pub AreNumbers : List (List ℕ) → Type 0
+AreNumbers words = (ns : List ℕ) × All IsThing ns × (words ≡ map decimal ns)

@@ -3,12 +3,12 @@ ghost use Rattle.std.specs.Prelude.{◌≡◌, ℕ, zero, suc, List, IsTrue, ◌
 ghost use Rattle.std.specs.Option.{option_copied};
 ghost use Rattle.evidence_text.specs.Grammar.{AtHead, AtVerdict, AtCosts, AtSections, AtInterface, AtCost, AtExit, AtFloor, AtRows, AtRow, AtTree, AtEnd};
 ghost use Rattle.evidence_text.specs.Places.{Begins};
-ghost use Rattle.evidence_text.specs.Begun.{BeginsTree, BeginsCount, BeginsRouter, BeginsAgain, IsRouterOf, IsRowLine};
+ghost use Rattle.evidence_text.specs.Begun.{BeginsTree, BeginsCount, BeginsRouter, BeginsAgain, IsRouterOf};
 
 use crate::TreePart;
 use crate::fronts::{begins_line, begins_name, begins_number};
 use crate::text_left::LONGEST;
-use crate::words::{Pieces, after};
+use crate::words::after;
 use text_lines::{cut, printed_number};
 
 /// Whether these bytes begin the first line.
