@@ -30,21 +30,21 @@ from_one : (rest : List ℕ) (n : ℕ) → n ≤ 65535 → IsFront rest (front +
 from_one rest (suc n) small begun other = (suc n, omega arith, small, begun)
 from_one rest zero small begun other =
     elim (two_parts rest begun.0 front (48 ∷ []) begun.1) [
-      inl started ↦ (1, omega arith, omega arith, front-longer rest front (decimal 1) started)
+      | inl started ↦ (1, omega arith, omega arith, front-longer rest front (decimal 1) started)
       | inr into ↦ absurd (other (into.is ∙ ap (λ bytes. front ++ bytes) (alone into.cut begun.0 48 into.some into.left)))
     ]
 
 pub cost-begun : (rest router : List ℕ) → (BeginsNumber rest (codes " ip ospf cost ") 65535 × (rest ≢ codes " ip ospf cost 0")) ↔ Begins (AtCost router) rest
 cost-begun rest router = (
   λ begun.
-    let found : (m : ℕ) × (0 < m) × (m ≤ 65535) × IsFront rest (front ++ decimal m) = from_one rest begun.0.0 begun.0.1 begun.0.2 begun.1 in
-    begins-from (AtCost router) (AtExit router) rest (front ++ decimal found.0) (record { cost = found.0; some = found.1; bounds = omega (arith, found.2); is = refl; leads = refl })
+      let found : (m : ℕ) × (0 < m) × (m ≤ 65535) × IsFront rest (front ++ decimal m) = from_one rest begun.0.0 begun.0.1 begun.0.2 begun.1 in
+      begins-from (AtCost router) (AtExit router) rest (front ++ decimal found.0) (record { cost = found.0; some = found.1; bounds = omega (arith, found.2); is = refl; leads = refl })
       (omega (arith, short_number front found.0 (omega arith) (omega (arith, found.2)))) found.3,
   λ begins. (
-      (begins.1.1.is.cost, omega (arith, begins.1.1.is.bounds), (begins.0, begins.1.1.is.is)),
-      λ e.
+    (begins.1.1.is.cost, omega (arith, begins.1.1.is.bounds), (begins.0, begins.1.1.is.is)),
+    λ e.
         let led : 48 ∷ begins.0 ≡ decimal begins.1.1.is.cost =
-          append_cancel_left front (48 ∷ begins.0) (decimal begins.1.1.is.cost) (ap (λ bytes. bytes ++ begins.0) (sym e) ∙ begins.1.1.is.is) in
+        append_cancel_left front (48 ∷ begins.0) (decimal begins.1.1.is.cost) (ap (λ bytes. bytes ++ begins.0) (sym e) ∙ begins.1.1.is.is) in
         omega (arith, zero_led begins.1.1.is.cost begins.0 led, begins.1.1.is.some),
-    ),
+  ),
 )

@@ -32,10 +32,10 @@ pub name-tested : (rest front : List ℕ) (found : Option (Bor (List ℕ))) → 
 name-tested rest front None short unbegun h = (
   λ yes. absurd (cc),
   λ begun. absurd
-    (elim (two_parts rest begun.2.0 front begun.0 begun.2.1) [
-      inl before ↦ unbegun before
-      | inr into ↦ h into.cut (word-front begun.0 into.cut begun.2.0 begun.1 into.left into.some) into.is
-    ]),
+      (elim (two_parts rest begun.2.0 front begun.0 begun.2.1) [
+        | inl before ↦ unbegun before
+        | inr into ↦ h into.cut (word-front begun.0 into.cut begun.2.0 begun.1 into.left into.some) into.is
+      ]),
 )
 name-tested rest front (Some name) short unbegun h = (λ yes. (name.now, h.0, front-whole rest (front ++ name.now) h.1, omega (arith, ap length h.1)), λ begun. refl)
 
@@ -57,7 +57,7 @@ router-open rest before begun room = elim (two_parts rest begun.2.0 (codes "rout
     early : IsFront rest (codes "router ") → BeginsRouter before rest
     early started =
         elim (other_name before (97 ∷ []) (98 ∷ []) (λ e. let letters : 97 ≡ 98 = head-is 97 98 [] [] e in omega arith)) [
-          inl other ↦ (97 ∷ [], letter 97 refl, other, front-longer rest (codes "router ") (97 ∷ []) started, omega arith)
+          | inl other ↦ (97 ∷ [], letter 97 refl, other, front-longer rest (codes "router ") (97 ∷ []) started, omega arith)
           | inr other ↦ (98 ∷ [], letter 98 refl, other, front-longer rest (codes "router ") (98 ∷ []) started, omega arith)
         ]
 
@@ -65,7 +65,7 @@ router-open rest before begun room = elim (two_parts rest begun.2.0 (codes "rout
     late into =
         let word : IsOneWord into.cut = word-front begun.0 into.cut begun.2.0 begun.1 into.left into.some in
         elim (other_name before into.cut (into.cut ++ 97 ∷ []) (λ e. omega (arith, ap length e, length-append into.cut (97 ∷ [])))) [
-          inl other ↦ (into.cut, word, other, front-whole rest (router_line into.cut) into.is, omega (arith, ap length into.is))
+          | inl other ↦ (into.cut, word, other, front-whole rest (router_line into.cut) into.is, omega (arith, ap length into.is))
           | inr other ↦ (
             into.cut ++ 97 ∷ [],
             record { some = λ none. omega (arith, ap length none, length-append into.cut (97 ∷ [])); whole = All-push (λ c. ends_a_word c ≡ false) into.cut 97 word.whole refl },

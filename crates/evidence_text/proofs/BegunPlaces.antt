@@ -35,11 +35,11 @@ pub verdict-begun : (rest : List ℕ) →
     ((IsFront rest (codes "verdict impossible") ⊎ BeginsNumber rest (codes "verdict optimal ") 65535) ⊎ BeginsNumber rest (codes "verdict undecided budget ") 65535) ↔ Begins AtVerdict rest
 verdict-begun rest = (
   λ begun. elim begun [
-    inl (inl line) ↦ begins-from AtVerdict AtCosts rest (codes "verdict impossible") (record { verdict = Impossible; bounds = tt; is = refl; leads = refl }) (omega arith) line
+    | inl (inl line) ↦ begins-from AtVerdict AtCosts rest (codes "verdict impossible") (record { verdict = Impossible; bounds = tt; is = refl; leads = refl }) (omega arith) line
     | inl (inr number) ↦
-      numbered AtVerdict (λ _. AtCosts) rest (codes "verdict optimal ") 65535 (omega arith) (omega arith) (λ n small. record { verdict = Optimal n; bounds = omega (arith, small); is = refl; leads = refl }) number
+        numbered AtVerdict (λ _. AtCosts) rest (codes "verdict optimal ") 65535 (omega arith) (omega arith) (λ n small. record { verdict = Optimal n; bounds = omega (arith, small); is = refl; leads = refl }) number
     | inr number ↦
-      numbered AtVerdict (λ _. AtCosts) rest (codes "verdict undecided budget ") 65535 (omega arith) (omega arith) (λ n small. record { verdict = Budget n; bounds = omega (arith, small); is = refl; leads = refl }) number
+        numbered AtVerdict (λ _. AtCosts) rest (codes "verdict undecided budget ") 65535 (omega arith) (omega arith) (λ n small. record { verdict = Budget n; bounds = omega (arith, small); is = refl; leads = refl }) number
   ],
   λ begins. parts begins.0 begins.1.1.is.verdict begins.1.1.is.bounds begins.1.1.is.is,
 )
@@ -53,9 +53,9 @@ verdict-begun rest = (
 pub costs-begun : (rest : List ℕ) → (IsFront rest (codes "costs none") ⊎ BeginsNumber rest (codes "costs ") 65535) ↔ Begins AtCosts rest
 costs-begun rest = (
   λ begun. elim begun [
-    inl line ↦ begins-from AtCosts AtFloor rest (codes "costs none") (inl (refl, refl)) (omega arith) line
+    | inl line ↦ begins-from AtCosts AtFloor rest (codes "costs none") (inl (refl, refl)) (omega arith) line
     | inr number ↦
-      numbered AtCosts (λ _. AtSections None) rest (codes "costs ") 65535 (omega arith) (omega arith) (λ n small. inr (record { greatest = n; bounds = omega (arith, small); is = refl; leads = refl })) number
+        numbered AtCosts (λ _. AtSections None) rest (codes "costs ") 65535 (omega arith) (omega arith) (λ n small. inr (record { greatest = n; bounds = omega (arith, small); is = refl; leads = refl })) number
   ],
   λ begins. elim begins.1.1.is [ inl none ↦ inl (begins.0, none.0) | inr some ↦ inr (some.greatest, omega (arith, some.bounds), (begins.0, some.is)) ],
 )
@@ -69,10 +69,10 @@ floor-parts rest more (Var v) bounds is = inr (v, omega (arith, bounds), (more, 
 pub floor-begun : (rest : List ℕ) → ((IsFront rest (codes "floor none") ⊎ IsFront rest (codes "floor empty")) ⊎ BeginsNumber rest (codes "floor ") 4294967295) ↔ Begins AtFloor rest
 floor-begun rest = (
   λ begun. elim begun [
-    inl (inl line) ↦ begins-from AtFloor AtRows rest (codes "floor none") (record { floor = Absent; bounds = tt; is = refl; leads = refl }) (omega arith) line
+    | inl (inl line) ↦ begins-from AtFloor AtRows rest (codes "floor none") (record { floor = Absent; bounds = tt; is = refl; leads = refl }) (omega arith) line
     | inl (inr line) ↦ begins-from AtFloor AtRows rest (codes "floor empty") (record { floor = Empty; bounds = tt; is = refl; leads = refl }) (omega arith) line
     | inr number ↦
-      numbered AtFloor (λ _. AtRows) rest (codes "floor ") 4294967295 (omega arith) (omega arith) (λ n small. record { floor = Var n; bounds = omega (arith, small); is = refl; leads = refl }) number
+        numbered AtFloor (λ _. AtRows) rest (codes "floor ") 4294967295 (omega arith) (omega arith) (λ n small. record { floor = Var n; bounds = omega (arith, small); is = refl; leads = refl }) number
   ],
   λ begins. floor-parts rest begins.0 begins.1.1.is.floor begins.1.1.is.bounds begins.1.1.is.is,
 )
@@ -92,13 +92,13 @@ interface-begun rest router = (
 pub section-begun : (rest : List ℕ) (before : Option (List ℕ)) → ((BeginsRouter before rest ⊎ BeginsAgain before rest) ⊎ Begins AtFloor rest) ↔ Begins (AtSections before) rest
 section-begun rest before = (
   λ begun. elim begun [
-    inl (inl router) ↦
-      begins-from (AtSections before) (AtInterface router.0) rest (codes "router " ++ router.0) (inl (record { name = router.0; word = router.1; other = router.2; is = refl; leads = refl })) router.4 router.3
+    | inl (inl router) ↦
+        begins-from (AtSections before) (AtInterface router.0) rest (codes "router " ++ router.0) (inl (record { name = router.0; word = router.1; other = router.2; is = refl; leads = refl })) router.4 router.3
     | inl (inr again) ↦ further before again
     | inr floor ↦ (floor.0, (floor.1.0, record { is = inr (inr floor.1.1.is); short = floor.1.1.short }))
   ],
   λ begins. elim begins.1.1.is [
-    inl router ↦ inl (inl (router.name, router.word, router.other, (begins.0, router.is), omega (arith, ap length router.is, begins.1.1.short)))
+    | inl router ↦ inl (inl (router.name, router.word, router.other, (begins.0, router.is), omega (arith, ap length router.is, begins.1.1.short)))
     | inr (inl again) ↦ inl (inr (back before begins.0 begins.1.0 again begins.1.1.short))
     | inr (inr floor) ↦ inr (begins.0, (begins.1.0, record { is = floor; short = begins.1.1.short }))
   ],

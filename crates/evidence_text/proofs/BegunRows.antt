@@ -63,10 +63,10 @@ numbers-front n (k ∷ ks) text more all e some =
     let small : IsThing n = All-head IsThing n (k ∷ ks) all in
     let rest : List ℕ = spaced (map decimal (k ∷ ks)) in
     elim (two_parts text more (decimal n) (32 ∷ rest) e) [
-      inl within ↦ inl (cut-one n text within.0 small within.1 some)
+      | inl within ↦ inl (cut-one n text within.0 small within.1 some)
       | inr into ↦
-        let found : (left : List ℕ) × (into.cut ≡ 32 ∷ left) × (left ++ more ≡ rest) = behind-space into.cut more rest into.some into.left in
-        step small found.0 (into.is ∙ ap (λ bytes. decimal n ++ bytes) found.1) found.2 (numbers-front k ks found.0 more (All-tail IsThing n (k ∷ ks) all) found.2)
+          let found : (left : List ℕ) × (into.cut ≡ 32 ∷ left) × (left ++ more ≡ rest) = behind-space into.cut more rest into.some into.left in
+          step small found.0 (into.is ∙ ap (λ bytes. decimal n ++ bytes) found.1) found.2 (numbers-front k ks found.0 more (All-tail IsThing n (k ∷ ks) all) found.2)
     ]
   where
     step : IsThing n → (left : List ℕ) → text ≡ decimal n ++ 32 ∷ left → left ++ more ≡ spaced (map decimal (k ∷ ks)) → (left ≢ [] → IsNumbers left ⊎ AwaitsNumber left more) → IsNumbers text ⊎ AwaitsNumber text more
@@ -79,18 +79,18 @@ numbers-front n (k ∷ ks) text more all e some =
         })
     step small (x ∷ xs) is e behind =
         elim (behind (λ none. cc)) [
-          inl numbers ↦ inl (in_front n text (x ∷ xs) small is numbers)
+          | inl numbers ↦ inl (in_front n text (x ∷ xs) small is numbers)
           | inr awaits ↦
-            inr (record {
-              line = decimal n ++ 32 ∷ awaits.line;
-              numbers = in_front n (decimal n ++ 32 ∷ awaits.line) awaits.line small refl awaits.numbers;
-              is = is ∙ ap (λ bytes. decimal n ++ 32 ∷ bytes) awaits.is ∙ sym (append_assoc (decimal n) (32 ∷ awaits.line) (32 ∷ []));
-              some = awaits.some;
-            })
+              inr (record {
+                line = decimal n ++ 32 ∷ awaits.line;
+                numbers = in_front n (decimal n ++ 32 ∷ awaits.line) awaits.line small refl awaits.numbers;
+                is = is ∙ ap (λ bytes. decimal n ++ 32 ∷ bytes) awaits.is ∙ sym (append_assoc (decimal n) (32 ∷ awaits.line) (32 ∷ []));
+                some = awaits.some;
+              })
         ]
 
 -- a row of these numbers
-row_of_numbers : ℕ → List ℕ → Row
+abbrev row_of_numbers : ℕ → List ℕ → Row
 row_of_numbers first others = record { request = first; rival = record { start = 0; edges = others } }
 
 -- `row` and numbers are the line of a row
@@ -118,20 +118,20 @@ edge-begins rest left edge = go edge.0 edge.1.0 edge.1.1 edge.1.2 edge.2 edge.3
     go line row bounds is space room =
         let longer : Row = row_of_numbers row.request (row.rival.edges ++ 0 ∷ []) in
         let whole : rest ++ 48 ∷ [] ≡ row_line longer =
-          ap (λ bytes. bytes ++ 48 ∷ []) space ∙ append_assoc line (32 ∷ []) (48 ∷ []) ∙ ap (λ bytes. bytes ++ 32 ∷ 48 ∷ []) is ∙ sym (row-more row.request row.rival.edges) in
+        ap (λ bytes. bytes ++ 48 ∷ []) space ∙ append_assoc line (32 ∷ []) (48 ∷ []) ∙ ap (λ bytes. bytes ++ 32 ∷ 48 ∷ []) is ∙ sym (row-more row.request row.rival.edges) in
         begins-from (AtRow (suc left)) (AtRow left) rest (row_line longer)
-          (record { row = longer; bounds = (bounds.0, All-push IsThing row.rival.edges 0 bounds.1 (omega arith)); is = refl; leads = refl })
-          (omega (arith, ap length whole, length-append rest (48 ∷ []))) (48 ∷ [], whole)
+        (record { row = longer; bounds = (bounds.0, All-push IsThing row.rival.edges 0 bounds.1 (omega arith)); is = refl; leads = refl })
+        (omega (arith, ap length whole, length-append rest (48 ∷ []))) (48 ∷ [], whole)
 
 pub row-begun : (rest : List ℕ) (left : ℕ) → ((BeginsNumber rest (codes "row ") 4294967295 ⊎ IsShortRow rest) ⊎ BeginsEdge rest) ↔ Begins (AtRow (suc left)) rest
 row-begun rest left = (
   λ begun. elim begun [
-    inl (inl number) ↦
-      begins-from (AtRow (suc left)) (AtRow left) rest (codes "row " ++ decimal number.0)
+    | inl (inl number) ↦
+        begins-from (AtRow (suc left)) (AtRow left) rest (codes "row " ++ decimal number.0)
         (record { row = row_of_numbers number.0 []; bounds = (omega (arith, number.1), All-nil IsThing); is = refl; leads = refl })
         (omega (arith, short_number (codes "row ") number.0 (omega arith) (omega (arith, number.1)))) number.2
     | inl (inr row) ↦
-      begins-from (AtRow (suc left)) (AtRow left) rest rest (record { row = row.0.0; bounds = row.0.1; is = row.0.2; leads = refl }) row.1 (front-whole rest rest refl)
+        begins-from (AtRow (suc left)) (AtRow left) rest rest (record { row = row.0.0; bounds = row.0.1; is = row.0.2; leads = refl }) row.1 (front-whole rest rest refl)
     | inr edge ↦ edge-begins rest left edge
   ],
   λ begins. parts begins.0 begins.1.1.is.row begins.1.1.is.bounds begins.1.1.is.is begins.1.1.short,
@@ -145,9 +145,9 @@ row-begun rest left = (
     parts : (more : List ℕ) (row : Row) → BoundsRow row → rest ++ more ≡ row_line row → length (rest ++ more) ≤ 65536 → (BeginsNumber rest (codes "row ") 4294967295 ⊎ IsShortRow rest) ⊎ BeginsEdge rest
     parts more row bounds is short =
         elim (two_parts rest more (codes "row ") (spaced (map decimal (row.request ∷ row.rival.edges))) is) [
-          inl started ↦ inl (inl (0, omega arith, front-longer rest (codes "row ") (decimal 0) started))
+          | inl started ↦ inl (inl (0, omega arith, front-longer rest (codes "row ") (decimal 0) started))
           | inr into ↦
-            behind more into.cut into.is short
+              behind more into.cut into.is short
               (numbers-front row.request row.rival.edges into.cut more (All-cons IsThing row.request row.rival.edges bounds.0 bounds.1) into.left into.some)
         ]
 

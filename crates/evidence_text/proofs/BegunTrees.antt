@@ -19,9 +19,9 @@ use Rattle.evidence_text.proofs.SpacedWords.{decimal-spaceless}
 pub tree-begun : (rest front : List ℕ) → (BeginsNumber rest front 65535 ⊎ BeginsCount rest front) ↔ BeginsTree rest front
 tree-begun rest front = (
   λ begun. elim begun [
-    inl number ↦
-      let longer : IsFront rest ((front ++ decimal number.0) ++ 32 ∷ decimal 0) = front-longer rest (front ++ decimal number.0) (32 ∷ decimal 0) number.2 in
-      (number.0, 0, number.1, omega arith, (longer.0, longer.1 ∙ append_assoc front (decimal number.0) (32 ∷ decimal 0)))
+    | inl number ↦
+        let longer : IsFront rest ((front ++ decimal number.0) ++ 32 ∷ decimal 0) = front-longer rest (front ++ decimal number.0) (32 ∷ decimal 0) number.2 in
+        (number.0, 0, number.1, omega arith, (longer.0, longer.1 ∙ append_assoc front (decimal number.0) (32 ∷ decimal 0)))
     | inr count ↦ behind count.0 count.1 count.2 count.3 count.4
   ],
   λ begins. parts begins.0 begins.1 begins.2 begins.3 begins.4.0 begins.4.1,
@@ -36,18 +36,18 @@ tree-begun rest front = (
       (
         number.2.0,
         ap (λ bytes. bytes ++ number.2.0) is
-        ∙ append_assoc front (decimal cap ++ 32 ∷ left) number.2.0
-        ∙ ap (λ bytes. front ++ bytes) (append_assoc (decimal cap) (32 ∷ left) number.2.0 ∙ ap (λ bytes. decimal cap ++ 32 ∷ bytes) number.2.1),
+            ∙ append_assoc front (decimal cap ++ 32 ∷ left) number.2.0
+            ∙ ap (λ bytes. front ++ bytes) (append_assoc (decimal cap) (32 ∷ left) number.2.0 ∙ ap (λ bytes. decimal cap ++ 32 ∷ bytes) number.2.1),
       ),
     )
 
     parts : (cap count : ℕ) → cap ≤ 65535 → count ≤ 4294967295 → (more : List ℕ) → rest ++ more ≡ front ++ (decimal cap ++ 32 ∷ decimal count) → BeginsNumber rest front 65535 ⊎ BeginsCount rest front
     parts cap count small few more e =
         elim (two_parts rest more (front ++ decimal cap) (32 ∷ decimal count) (e ∙ sym (append_assoc front (decimal cap) (32 ∷ decimal count)))) [
-          inl within ↦ inl (cap, small, within)
+          | inl within ↦ inl (cap, small, within)
           | inr into ↦
-            let found : (left : List ℕ) × (into.cut ≡ 32 ∷ left) × (left ++ more ≡ decimal count) = behind-space into.cut more (decimal count) into.some into.left in
-            inr (cap, found.0, small, into.is ∙ append_assoc front (decimal cap) into.cut ∙ ap (λ bytes. front ++ (decimal cap ++ bytes)) found.1, (count, few, (more, found.2)))
+              let found : (left : List ℕ) × (into.cut ≡ 32 ∷ left) × (left ++ more ≡ decimal count) = behind-space into.cut more (decimal count) into.some into.left in
+              inr (cap, found.0, small, into.is ∙ append_assoc front (decimal cap) into.cut ∙ ap (λ bytes. front ++ (decimal cap ++ bytes)) found.1, (count, few, (more, found.2)))
         ]
 
 -- a number's word, before a space, is the first piece
@@ -63,9 +63,9 @@ pub count-begun : (rest front numbers cap count : List ℕ) → rest ≡ front +
 count-begun rest front numbers cap count is parts pieces = (
   λ begun. (begun.0.0, count, begun.0.1, is ∙ ap (λ bytes. front ++ bytes) (parts ∙ ap (λ bytes. bytes ++ 32 ∷ count) begun.0.2), begun.1),
   λ begun.
-    let found : (cap ≡ decimal begun.0) × (count ≡ begun.1) =
+      let found : (cap ≡ decimal begun.0) × (count ≡ begun.1) =
       cut-is numbers cap count begun.0 begun.1 parts pieces (append_cancel_left front numbers (decimal begun.0 ++ 32 ∷ begun.1) (sym is ∙ begun.3)) in
-    ((begun.0, begun.2, found.0), rw found.1 begun.4),
+      ((begun.0, begun.2, found.0), rw found.1 begun.4),
 )
 
 -- text behind the front that has no space
@@ -88,9 +88,9 @@ short_head front cap count small few many =
 pub proof-begun : (rest : List ℕ) → (IsFront rest (codes "proof none") ⊎ BeginsTree rest (codes "proof ")) ↔ Begins (AtRow zero) rest
 proof-begun rest = (
   λ begun. elim begun [
-    inl line ↦ begins-from (AtRow zero) (AtTree Proof 0 0) rest (codes "proof none") (inl (refl, refl)) (omega arith) line
+    | inl line ↦ begins-from (AtRow zero) (AtTree Proof 0 0) rest (codes "proof none") (inl (refl, refl)) (omega arith) line
     | inr head ↦
-      begins-from (AtRow zero) (AtTree Proof 1 head.1) rest (codes "proof " ++ (decimal head.0 ++ 32 ∷ decimal head.1))
+        begins-from (AtRow zero) (AtTree Proof 1 head.1) rest (codes "proof " ++ (decimal head.0 ++ 32 ∷ decimal head.1))
         (inr (record { cap = head.0; count = head.1; cap_bounds = omega (arith, head.2); count_bounds = omega (arith, head.3); is = refl; leads = refl })) (short_head (codes "proof ") head.0 head.1 (omega arith) head.2 head.3) head.4
   ],
   λ begins. elim begins.1.1.is [ inl none ↦ inl (begins.0, none.0) | inr head ↦ inr (head.cap, head.count, omega (arith, head.cap_bounds), omega (arith, head.count_bounds), (begins.0, head.is)) ],
@@ -99,9 +99,9 @@ proof-begun rest = (
 pub open-begun : (rest : List ℕ) → (IsFront rest (codes "open none") ⊎ BeginsTree rest (codes "open ")) ↔ Begins (AtTree Proof zero zero) rest
 open-begun rest = (
   λ begun. elim begun [
-    inl line ↦ begins-from (AtTree Proof zero zero) (AtTree Unfinished 0 0) rest (codes "open none") (inl (refl, refl)) (omega arith) line
+    | inl line ↦ begins-from (AtTree Proof zero zero) (AtTree Unfinished 0 0) rest (codes "open none") (inl (refl, refl)) (omega arith) line
     | inr head ↦
-      begins-from (AtTree Proof zero zero) (AtTree Unfinished 1 head.1) rest (codes "open " ++ (decimal head.0 ++ 32 ∷ decimal head.1))
+        begins-from (AtTree Proof zero zero) (AtTree Unfinished 1 head.1) rest (codes "open " ++ (decimal head.0 ++ 32 ∷ decimal head.1))
         (inr (record { cap = head.0; count = head.1; cap_bounds = omega (arith, head.2); count_bounds = omega (arith, head.3); is = refl; leads = refl })) (short_head (codes "open ") head.0 head.1 (omega arith) head.2 head.3) head.4
   ],
   λ begins. elim begins.1.1.is [ inl none ↦ inl (begins.0, none.0) | inr head ↦ inr (head.cap, head.count, omega (arith, head.cap_bounds), omega (arith, head.count_bounds), (begins.0, head.is)) ],

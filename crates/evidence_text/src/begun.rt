@@ -38,9 +38,7 @@ pub(crate) fn begins_costs(rest: &[u8]) -> bool
 pub(crate) fn begins_section(rest: &[u8], before: Option<&[u8]>) -> bool
     ensures { IsTrue result ↔ Begins (AtSections (option_copied before.entry)) rest.now }
 {
-    begins_router(rest, before)
-        || begins_interface_again(rest, before)
-        || begins_floor(rest)
+    begins_router(rest, before) || begins_interface_again(rest, before) || begins_floor(rest)
 }
 
 /// Whether these bytes begin the line of a router that isn't `before`.

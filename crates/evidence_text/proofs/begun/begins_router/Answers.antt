@@ -15,10 +15,10 @@ returns-then-rest-lt-LONGEST c = (
 pub returns-else-rest-lt-LONGEST : goal.returns-else-rest-lt-LONGEST
 returns-else-rest-lt-LONGEST c = (
   λ yes.
-    router-full c.args.rest.now (option_copied c.args.before) (c.begins_name.ensures.0 c.if-begins_name.true) c.if-rest-lt-LONGEST.false
+      router-full c.args.rest.now (option_copied c.args.before) (c.begins_name.ensures.0 c.if-begins_name.true) c.if-rest-lt-LONGEST.false
       (λ router. not-both (not c.is_router_line.result) yes (ap not (c.is_router_line.ensures.1 router))),
   λ begun.
-    not_from_false c.is_router_line.result
+      not_from_false c.is_router_line.result
       (false_from_ne_true c.is_router_line.result
-        (λ is. router-same c.args.rest.now (option_copied c.args.before) begun c.if-rest-lt-LONGEST.false (c.is_router_line.ensures.0 is))),
+      (λ is. router-same c.args.rest.now (option_copied c.args.before) begun c.if-rest-lt-LONGEST.false (c.is_router_line.ensures.0 is))),
 )

@@ -8,8 +8,8 @@ pub returns-in_default : goal.returns-in_default
 returns-in_default c = (
   λ yes. absurd (cc),
   λ numbers. absurd
-    (numbers-off (words_left c.loop-left.left) (λ empty. not-both c.is_done.result (c.is_done.ensures.1 empty) c.loop-left-test.true) c.in_default.ensures
-    (c.loop-left.invariant.0 numbers)),
+      (numbers-off (words_left c.loop-left.left) (λ empty. not-both c.is_done.result (c.is_done.ensures.1 empty) c.loop-left-test.true) c.in_default.ensures
+      (c.loop-left.invariant.0 numbers)),
 )
 
 pub loop-left-preserved : goal.loop-left-preserved
