@@ -1,6 +1,5 @@
 -- Bytes that lines begin with.
 use Rattle.std.proofs.Common.{◌≡◌, ◌≢◌, ℕ, ◌≤◌, ◌⊎◌, ◌↔◌, IsTrue, MatchOption, Option, Some, None, is_some, List, [], ◌∷◌, ◌++◌, refl, sym, ap, ◌∙◌, arith, inl, inr, append_assoc, append-nil}
-use Rattle.std.proofs.lemmas.List.{append_cancel_left}
 use Rattle.cost_base.specs.Decimal.{decimal}
 use Rattle.evidence_text.specs.Begun.{IsFront, BeginsNumber}
 use Rattle.evidence_text.proofs.CutNumbers.{cut-decimal}

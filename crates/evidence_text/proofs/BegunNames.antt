@@ -1,5 +1,5 @@
 -- Bytes that begin lines that end in a name.
-use Rattle.std.proofs.Common.{◌≡◌, ◌≢◌, ℕ, ◌+◌, ◌<◌, ◌≤◌, ◌⊎◌, ◌↔◌, Bool, true, false, IsTrue, MatchOption, Option, Some, None, is_some, Bor, List, [], ◌∷◌, ◌++◌, All, length, eqb, codes, refl, sym, ap, subst, ◌∙◌, arith, inl, inr, append_assoc, append-nil, length-append}
+use Rattle.std.proofs.Common.{◌≡◌, ◌≢◌, ℕ, ◌<◌, ◌≤◌, ◌⊎◌, ◌↔◌, Bool, true, false, IsTrue, MatchOption, Option, Some, None, is_some, Bor, List, [], ◌∷◌, ◌++◌, All, length, eqb, codes, refl, sym, ap, subst, ◌∙◌, arith, inl, inr, append-nil, length-append}
 use Rattle.std.proofs.lemmas.List.{get_or_append_left, nil_from_length, append_cancel_left}
 use Rattle.std.proofs.lemmas.List.Elements.{All-nil, All-cons, All-push}
 use Rattle.std.proofs.lemmas.Bool.Decides.{Decides-eqb}

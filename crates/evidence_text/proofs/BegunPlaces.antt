@@ -1,5 +1,5 @@
 -- What the lawful lines at a place begin with.
-use Rattle.std.proofs.Common.{◌≡◌, ℕ, zero, suc, ◌+◌, ◌*◌, ◌^◌, ◌<◌, ◌≤◌, ◌⊎◌, ◌↔◌, List, [], ◌∷◌, ◌++◌, length, codes, refl, sym, ap, subst, ◌∙◌, arith, inl, inr, Option, Some, None, length-append}
+use Rattle.std.proofs.Common.{◌≡◌, ℕ, ◌≤◌, ◌⊎◌, ◌↔◌, List, ◌++◌, length, codes, refl, sym, ap, subst, arith, inl, inr, Option, Some, None, length-append}
 use Rattle.cost_base.specs.Decimal.{decimal}
 use Rattle.path_rows.specs.declared.answer.Verdict.{Verdict}
 use Rattle.path_rows.specs.declared.answer.Verdict.TheVariants.{Optimal, Impossible, Budget}
@@ -8,7 +8,7 @@ use Rattle.path_rows.specs.declared.answer.Floor.TheVariants.{Absent, Empty, Var
 use Rattle.path_rows.specs.Bounds.{BoundsVerdict, BoundsFloor}
 use Rattle.text_lines.proofs.Digits.{length-decimal-le}
 use Rattle.evidence_text.specs.Parts.{verdict_line, floor_line}
-use Rattle.evidence_text.specs.Grammar.{Place, AtHead, AtVerdict, AtCosts, AtSections, AtInterface, AtCost, AtExit, AtFloor, AtRows, AtRow, AtTree, AtEnd, AfterEnd, Next, IsInterfaceAgain}
+use Rattle.evidence_text.specs.Grammar.{Place, AtVerdict, AtCosts, AtSections, AtInterface, AtCost, AtFloor, AtRows, AtRow, Next, IsInterfaceAgain}
 use Rattle.evidence_text.specs.Places.{Begins}
 use Rattle.evidence_text.specs.Begun.{IsFront, BeginsNumber, BeginsName, BeginsRouter, BeginsAgain}
 

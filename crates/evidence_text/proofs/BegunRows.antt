@@ -1,5 +1,5 @@
 -- What the line of a row begins with.
-use Rattle.std.proofs.Common.{◌≡◌, ◌≢◌, ℕ, zero, suc, ◌+◌, ◌^◌, ◌<◌, ◌≤◌, ◌⊎◌, ◌↔◌, List, [], ◌∷◌, ◌++◌, All, length, map, codes, refl, sym, ap, subst, ◌∙◌, arith, inl, inr, append_assoc, length-append}
+use Rattle.std.proofs.Common.{◌≡◌, ◌≢◌, ℕ, suc, ◌<◌, ◌≤◌, ◌⊎◌, ◌↔◌, List, [], ◌∷◌, ◌++◌, All, length, map, codes, refl, sym, ap, ◌∙◌, arith, inl, inr, append_assoc, length-append}
 use Rattle.std.proofs.lemmas.List.{map-append}
 use Rattle.std.proofs.lemmas.List.Elements.{All-nil, All-cons, All-head, All-tail, All-push}
 use Rattle.cost_base.specs.Decimal.{decimal}
@@ -10,7 +10,7 @@ use Rattle.text_lines.specs.Numbers.{split}
 use Rattle.text_lines.proofs.WordLaws.{decimal-word}
 use Rattle.evidence_text.specs.Grammar.{AtRow}
 use Rattle.evidence_text.specs.Places.{Begins}
-use Rattle.evidence_text.specs.Begun.{IsFront, BeginsNumber, IsRowLine, AreNumbers, IsShortRow, BeginsEdge}
+use Rattle.evidence_text.specs.Begun.{BeginsNumber, IsRowLine, AreNumbers, IsShortRow, BeginsEdge}
 use Rattle.evidence_text.proofs.Beginnings.{two_parts, front-longer, front-whole, behind-space}
 use Rattle.evidence_text.proofs.BegunPlaces.{begins-from, short_number}
 use Rattle.evidence_text.proofs.CutNumbers.{cut-decimal}

@@ -1,16 +1,16 @@
 -- What the head of a tree begins with.
-use Rattle.std.proofs.Common.{◌≡◌, ◌≢◌, ℕ, zero, suc, ◌≤◌, ◌⊎◌, ◌↔◌, IsTrue, MatchOption, Option, Some, None, is_some, List, [], ◌∷◌, ◌++◌, length, codes, refl, sym, ap, ◌∙◌, arith, inl, inr, append_assoc, length-append}
+use Rattle.std.proofs.Common.{◌≡◌, ◌≢◌, ℕ, zero, ◌≤◌, ◌⊎◌, ◌↔◌, IsTrue, MatchOption, Option, Some, None, is_some, List, [], ◌∷◌, ◌++◌, length, codes, refl, sym, ap, ◌∙◌, arith, inl, inr, append_assoc, length-append}
 use Rattle.std.proofs.lemmas.List.{append_cancel_left}
 use Rattle.cost_base.specs.Decimal.{decimal}
 use Rattle.text_lines.specs.Numbers.{split}
 use Rattle.text_lines.proofs.Pieces.{split-some}
 use Rattle.text_lines.proofs.Digits.{length-decimal-le}
 use Rattle.evidence_text.specs.declared.TreePart.TheVariants.{Proof, Unfinished}
-use Rattle.evidence_text.specs.Grammar.{Place, AtRow, AtTree, Next, IsPartNext}
+use Rattle.evidence_text.specs.Grammar.{AtRow, AtTree}
 use Rattle.evidence_text.specs.Places.{Begins}
 use Rattle.evidence_text.specs.Begun.{IsFront, IsNumberWord, BeginsNumber, BeginsTree, BeginsCount}
 use Rattle.evidence_text.proofs.Beginnings.{two_parts, front-longer, behind-space}
-use Rattle.evidence_text.proofs.BegunPlaces.{begins-from, short_number}
+use Rattle.evidence_text.proofs.BegunPlaces.{begins-from}
 use Rattle.evidence_text.proofs.Chains.{head-is}
 use Rattle.evidence_text.proofs.LineFronts.{split-front}
 use Rattle.evidence_text.proofs.SpacedWords.{decimal-spaceless}

@@ -49,6 +49,7 @@ BeginsAgain (Some router) rest = Begins (AtInterface router) rest
 abbrev pub IsRowLine : List ℕ → Type 0
 IsRowLine line = (row : Row) × BoundsRow row × (line ≡ row_line row)
 
+-- the line of a row, of at most 65,536 bytes
 abbrev pub IsShortRow : List ℕ → Type 0
 IsShortRow line = IsRowLine line × (length line ≤ 65536)
 

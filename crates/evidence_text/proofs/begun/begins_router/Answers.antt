@@ -1,4 +1,4 @@
-use Rattle.std.proofs.Common.{Option, List, ℕ, length, ap}
+use Rattle.std.proofs.Common.{length, ap}
 use Rattle.std.specs.Prelude.{not}
 use Rattle.std.specs.Option.{option_copied}
 use Rattle.std.proofs.lemmas.Bool.{lt-ltb, not_from_false, false_from_ne_true}

@@ -1,4 +1,4 @@
-use Rattle.std.proofs.Common.{◌≡◌, ◌↔◌, ◌⊎◌, IsTrue, refl}
+use Rattle.std.proofs.Common.{◌↔◌, ◌⊎◌, IsTrue, refl}
 use Rattle.std.specs.Option.{option_copied}
 use Rattle.evidence_text.specs.Begun.{BeginsRouter, BeginsAgain}
 use Rattle.evidence_text.proofs.Either.{through, either-first, either-second}

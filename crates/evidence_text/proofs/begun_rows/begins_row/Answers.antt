@@ -1,4 +1,4 @@
-use Rattle.std.proofs.Common.{◌≡◌, ◌↔◌, ◌⊎◌, IsTrue, codes, refl}
+use Rattle.std.proofs.Common.{◌↔◌, ◌⊎◌, IsTrue, codes, refl}
 use Rattle.evidence_text.specs.Begun.{BeginsNumber, IsShortRow}
 use Rattle.evidence_text.proofs.Either.{through, either-first, either-second}
 use Rattle.evidence_text.proofs.BegunRows.{row-begun}

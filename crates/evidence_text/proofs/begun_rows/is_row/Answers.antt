@@ -1,4 +1,4 @@
-use Rattle.std.proofs.Common.{◌≡◌, ◌≢◌, ◌↔◌, IsTrue, [], refl, sym, ap, ◌∙◌}
+use Rattle.std.proofs.Common.{◌≢◌, ◌↔◌, IsTrue, [], refl, sym, ap, ◌∙◌}
 use Rattle.std.specs.Prelude.{not}
 use Rattle.std.proofs.lemmas.Bool.Decides.{Decides-not}
 use Rattle.evidence_text.specs.Words.{words_left}

@@ -1,4 +1,4 @@
-use Rattle.std.proofs.Common.{refl, arith, sym, ◌∙◌}
+use Rattle.std.proofs.Common.{arith}
 use Rattle.evidence_text.proofs.BegunNames.{name-started, name-tested}
 use Rattle.evidence_text.proofs.Chains.{not-both}
 use Rattle.evidence_text.proofs.fronts.begins_name.Goals as goal
