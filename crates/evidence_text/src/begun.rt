@@ -112,14 +112,14 @@ pub(crate) fn begins_rows(rest: &[u8]) -> bool
 pub(crate) fn begins_proof(rest: &[u8]) -> bool
     ensures { IsTrue result ↔ Begins (AtRow zero) rest.now }
 {
-    begins_line(rest, b"proof none") || begins_tree(rest, b"proof ")
+    rest.len() <= LONGEST && (begins_line(rest, b"proof none") || begins_tree(rest, b"proof "))
 }
 
 /// Whether these bytes begin the head of the unfinished tree.
 pub(crate) fn begins_open(rest: &[u8]) -> bool
     ensures { IsTrue result ↔ Begins (AtTree TreePart.Proof zero zero) rest.now }
 {
-    begins_line(rest, b"open none") || begins_tree(rest, b"open ")
+    rest.len() <= LONGEST && (begins_line(rest, b"open none") || begins_tree(rest, b"open "))
 }
 
 /// Whether these bytes begin the head of a tree, which has this front.
