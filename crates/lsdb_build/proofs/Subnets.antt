@@ -13,7 +13,7 @@ use Rattle.lsdb_build.specs.Topology.{first_where, same_kind}
 use Rattle.lsdb_build.proofs.Pairs.{pair_at, pairs_nil}
 
 -- equal tests, one implied by the other both ways
-same_tests : (a b : Bool) → (a ≡ true → b ≡ true) → (b ≡ true → a ≡ true) → a ≡ b
+pub same_tests : (a b : Bool) → (a ≡ true → b ≡ true) → (b ≡ true → a ≡ true) → a ≡ b
 same_tests true b then back = sym (then refl)
 same_tests false true then back = absurd (false≢true (back refl))
 same_tests false false then back = refl
