@@ -6,11 +6,8 @@ use Rattle.std.proofs.lemmas.List.Elements.{filter_more}
 use Rattle.std.proofs.lemmas.List.Sorted.{list_any-IsPermutation, sum_by-IsPermutation, IsPermutation-reverse}
 use Rattle.cost_base.specs.Lists.{same_bytes}
 use Rattle.interface_model.specs.Records.{Router}
-use Rattle.lsdb_build.specs.declared.checks.Check.{Check}
-use Rattle.lsdb_build.specs.declared.checks.Check.TheVariants.{SameRouterTwice, AddressTwice, TypeMismatch, CrowdedLink, OverlapPrefix}
 use Rattle.lsdb_build.specs.Neighbours.{Port, shares_subnet, is_broadcast, first_members}
 use Rattle.lsdb_build.specs.Topology.{first_where, second_of_name}
-use Rattle.lsdb_build.specs.Checks.{meets}
 
 -- a list turned round passes a test alike
 pub list_any-reverse : {X : Type 0} (p : X → Bool) (xs : List X) → list_any p (reverse xs) ≡ list_any p xs
@@ -19,14 +16,6 @@ list_any-reverse p xs = sym (list_any-IsPermutation p xs (reverse xs) (IsPermuta
 -- a list turned round has as many that pass
 pub count_by-reverse : {X : Type 0} (p : X → Bool) (xs : List X) → count_by p (reverse xs) ≡ count_by p xs
 count_by-reverse p xs = sum_by-IsPermutation (λ x. cond (p x) 1 0) xs (reverse xs) (IsPermutation-reverse xs)
-
--- a check doesn't ask for the order of the ports before
-pub meets-reverse : (check : Check) (before : List Port) (p : Port) → meets check (reverse before) p ≡ meets check before p
-meets-reverse SameRouterTwice before p = list_any-reverse _ before
-meets-reverse AddressTwice before p = list_any-reverse _ before
-meets-reverse TypeMismatch before p = list_any-reverse _ before
-meets-reverse CrowdedLink before p = rw (count_by-reverse (λ q. shares_subnet q p) before) refl
-meets-reverse OverlapPrefix before p = list_any-reverse _ before
 
 -- one more in front of the list turned round
 pub reverse_more : {X : Type 0} (xs : List X) (i : ℕ) (x : X) → i < length xs → x ≡ get_or xs i x → x ∷ reverse (take i xs) ≡ reverse (take (i + 1) xs)

@@ -1,14 +1,18 @@
 -- A tally with one key more.
-use Rattle.std.proofs.Common.{zero, suc, zero-add, nat_lt, nat_eq, not, ◌||◌, ◌≡◌, ℕ, ◌+◌, ◌<◌, ◌≤◌, ◌^◌, inl, inr, Bool, true, false, cond, List, [], ◌∷◌, Option, Some, unwrap_or, count_by, length, get_or, take, reverse, map, refl, sym, ap, ◌∙◌, subst, arith}
+use Rattle.std.proofs.Common.{zero, suc, zero-add, nat_lt, nat_eq, not, ◌||◌, ◌&&◌, ◌==◌, ◌≡◌, ℕ, ◌+◌, ◌<◌, ◌≤◌, ◌^◌, inl, inr, Bool, true, false, cond, List, [], ◌∷◌, Option, Some, unwrap_or, count_by, length, get_or, take, reverse, map, refl, sym, ap, ◌∙◌, subst, arith}
 use Rattle.std.proofs.lemmas.List.{length-map, length-reverse, length-take}
 use Rattle.std.proofs.lemmas.List.Sums.{count_by-le-length}
-use Rattle.std.specs.List.{list_any}
+use Rattle.std.specs.List.{list_any, list_all}
 use Rattle.std.proofs.lemmas.Bool.{cases_Bool, lt-ltb, ne_eqb}
+use Rattle.std.specs.Bool.{beq}
 use Rattle.std.specs.Cmp.{IsEquivalence}
 use Rattle.indexmap.specs.IndexMap.{IndexMap, get, get_by, Updates}
 use Rattle.lsdb_build.specs.declared.port.Subnet.{Subnet}
-use Rattle.lsdb_build.specs.Neighbours.{Port, shares_subnet}
-use Rattle.lsdb_build.specs.Tallies.{count_of, IsTally, subnet_of, same_subnet}
+use Rattle.lsdb_build.specs.Neighbours.{Port, shares_subnet, is_broadcast, is_broadcast_kind}
+use Rattle.lsdb_build.specs.Tallies.{count_of, IsTally, subnet_of, same_subnet, member_of, same_member, address_of, same_trait, kind_on, rank_on}
+use Rattle.lsdb_build.specs.Topology.{is_second_of_router, is_second_of_address, is_mismatch, lacks_designated, same_kind}
+use Rattle.interface_model.specs.declared.Kind.{Kind}
+use Rattle.interface_model.specs.declared.Kind.TheVariants.{PointToPoint, Broadcast}
 use Rattle.lsdb_build.proofs.Firsts.{reverse_more, count_by-reverse}
 use Rattle.lsdb_build.proofs.Pairs.{count_by-cons, count_agree}
 use Rattle.lsdb_build.proofs.Subnets.{same_tests, shares_back}
@@ -65,6 +69,19 @@ pub members_counted : {S : Type 0} (counts : IndexMap Subnet ℕ S) (all : List 
 members_counted counts all p tally =
     tally (subnet_of p) ∙ count_by-map (λ k. same_subnet k (subnet_of p)) subnet_of all ∙ count_agree (λ q. shares_subnet q p) (shares_subnet p) (λ q. shares_swap q p) all
 
+-- tests that agree find alike
+any_agree : {X : Type 0} (f g : X → Bool) → ((x : X) → f x ≡ g x) → (xs : List X) → list_any f xs ≡ list_any g xs
+any_agree f g same xs = ap (λ h. list_any h xs) (λ i x. same x i)
+
+-- no element passes where each fails
+none_any : {X : Type 0} (f g : X → Bool) → ((x : X) → not (f x) ≡ g x) → (xs : List X) → not (list_any f xs) ≡ list_all g xs
+none_any f g fails [] = refl
+none_any f g fails (x ∷ xs) = by_test (f x) (g x) (fails x) (none_any f g fails xs)
+  where
+    by_test : (a b : Bool) → not a ≡ b → not (list_any f xs) ≡ list_all g xs → not (a || list_any f xs) ≡ (b && list_all g xs)
+    by_test true b is rest = ap (λ c. c && list_all g xs) is
+    by_test false b is rest = rest ∙ ap (λ c. c && list_all g xs) is
+
 -- whether any passes, by the count of those that pass
 pub any_counted : {X : Type 0} (f : X → Bool) (xs : List X) → nat_lt 0 (count_by f xs) ≡ list_any f xs
 any_counted f [] = refl
@@ -81,3 +98,44 @@ none_counted f xs = by_count (count_by f xs) ∙ ap not (any_counted f xs)
     by_count : (n : ℕ) → nat_eq n 0 ≡ not (nat_lt 0 n)
     by_count zero = refl
     by_count (suc n) = ne_eqb (suc n) 0 (λ h. omega arith) ∙ sym (ap not (lt-ltb 0 (suc n) (omega arith)))
+
+-- whether an earlier port of the same router is on the same subnet, by the count of members
+pub router_counted : {S : Type 0} (counts : IndexMap (ℕ × Subnet) ℕ S) (before : List Port) (p : Port) → IsTally same_member counts (map member_of before) → nat_lt 0 (count_of same_member counts (member_of p)) ≡ is_second_of_router before p
+router_counted counts before p tally =
+    ap (nat_lt 0) (tally (member_of p) ∙ count_by-map (λ k. same_member k (member_of p)) member_of before) ∙ any_counted (λ q. same_member (member_of q) (member_of p)) before
+
+pub address_counted : {S : Type 0} (counts : IndexMap ℕ ℕ S) (before : List Port) (p : Port) → IsTally nat_eq counts (map address_of before) → nat_lt 0 (count_of nat_eq counts (address_of p)) ≡ is_second_of_address before p
+address_counted counts before p tally =
+    ap (nat_lt 0) (tally (address_of p) ∙ count_by-map (λ k. nat_eq k (address_of p)) address_of before) ∙ any_counted (λ q. nat_eq (address_of q) (address_of p)) before
+
+-- whether an earlier port of the other kind is on the same subnet
+pub kinds_counted : {S : Type 0} (counts : IndexMap (Bool × Subnet) ℕ S) (before : List Port) (p : Port) → IsTally same_trait counts (map kind_on before) → nat_lt 0 (count_of same_trait counts (not (is_broadcast p), subnet_of p)) ≡ is_mismatch before p
+kinds_counted counts before p tally =
+    ap (nat_lt 0) (tally other ∙ count_by-map (λ k. same_trait k other) kind_on before) ∙ any_counted (λ q. same_trait (kind_on q) other) before ∙ any_agree _ _ (λ q. by_kinds q.interface.kind p.interface.kind (shares_subnet q p)) before
+  where
+    other : Bool × Subnet
+    other = (not (is_broadcast p), subnet_of p)
+
+    by_kinds : (k l : Kind) (shares : Bool) → (beq (is_broadcast_kind k) (not (is_broadcast_kind l)) && shares) ≡ (shares && not (same_kind k l))
+    by_kinds PointToPoint PointToPoint true = refl
+    by_kinds PointToPoint PointToPoint false = refl
+    by_kinds PointToPoint Broadcast true = refl
+    by_kinds PointToPoint Broadcast false = refl
+    by_kinds Broadcast PointToPoint true = refl
+    by_kinds Broadcast PointToPoint false = refl
+    by_kinds Broadcast Broadcast true = refl
+    by_kinds Broadcast Broadcast false = refl
+
+-- whether no port on the subnet may become its designated router
+pub designated_counted : {S : Type 0} (counts : IndexMap (Bool × Subnet) ℕ S) (all : List Port) (p : Port) → IsTally same_trait counts (map rank_on all) → nat_eq (count_of same_trait counts (true, subnet_of p)) 0 ≡ lacks_designated all p
+designated_counted counts all p tally =
+    ap (λ n. nat_eq n 0) (tally able ∙ count_by-map (λ k. same_trait k able) rank_on all) ∙ none_counted (λ q. same_trait (rank_on q) able) all ∙ none_any _ _ (λ q. ap (λ b. not (beq (nat_lt 0 q.interface.priority) true && b)) (shares_swap q p) ∙ by_priority q.interface.priority (shares_subnet p q)) all
+  where
+    able : Bool × Subnet
+    able = (true, subnet_of p)
+
+    by_priority : (n : ℕ) (shares : Bool) → not (beq (nat_lt 0 n) true && shares) ≡ (not shares || n == 0)
+    by_priority zero true = refl
+    by_priority zero false = refl
+    by_priority (suc n) true = ap (λ b. not (beq b true && true)) (lt-ltb 0 (suc n) (omega arith)) ∙ sym (ne_eqb (suc n) 0 (λ h. omega arith))
+    by_priority (suc n) false = ap (λ b. not (beq b true && false)) (lt-ltb 0 (suc n) (omega arith))

@@ -1,9 +1,10 @@
 -- How often keys came, and the keys of ports.
-use Rattle.std.specs.Prelude.{◌≡◌, ℕ, Bool, ◌==◌, ◌&&◌, List, map, unwrap_or, count_by}
+use Rattle.std.specs.Prelude.{◌≡◌, ℕ, Bool, ◌==◌, ◌&&◌, nat_lt, List, unwrap_or, count_by}
+use Rattle.std.specs.Bool.{beq}
 use Rattle.indexmap.specs.IndexMap.{IndexMap, get}
 use Rattle.interface_model.specs.Addresses.{subnet}
 use Rattle.lsdb_build.specs.declared.port.Subnet.{Subnet}
-use Rattle.lsdb_build.specs.Neighbours.{Port}
+use Rattle.lsdb_build.specs.Neighbours.{Port, is_broadcast}
 
 module _ {K S : Type 0} (eq : K → K → Bool) where
   -- how often a key came
@@ -19,3 +20,25 @@ subnet_of p = record { length = p.interface.length; address = subnet p.address p
 
 abbrev pub same_subnet : Subnet → Subnet → Bool
 same_subnet s t = s.length == t.length && s.address == t.address
+
+-- a router on a subnet
+abbrev pub member_of : Port → ℕ × Subnet
+member_of p = (p.router, subnet_of p)
+
+abbrev pub same_member : ℕ × Subnet → ℕ × Subnet → Bool
+same_member a b = a.0 == b.0 && same_subnet a.1 b.1
+
+-- a subnet with what is true or not of a port on it
+abbrev pub same_trait : Bool × Subnet → Bool × Subnet → Bool
+same_trait a b = beq a.0 b.0 && same_subnet a.1 b.1
+
+-- whether the port is broadcast
+abbrev pub kind_on : Port → Bool × Subnet
+kind_on p = (is_broadcast p, subnet_of p)
+
+-- whether the port may become the designated router
+abbrev pub rank_on : Port → Bool × Subnet
+rank_on p = (nat_lt 0 p.interface.priority, subnet_of p)
+
+abbrev pub address_of : Port → ℕ
+address_of p = p.address
