@@ -13,7 +13,7 @@ use Rattle.lsdb_build.specs.Topology.{first_where, same_kind}
 use Rattle.lsdb_build.proofs.Pairs.{pair_at, pairs_nil}
 
 -- equal tests, one implied by the other both ways
-pub same_tests : (a b : Bool) → (a ≡ true → b ≡ true) → (b ≡ true → a ≡ true) → a ≡ b
+same_tests : (a b : Bool) → (a ≡ true → b ≡ true) → (b ≡ true → a ≡ true) → a ≡ b
 same_tests true b then back = sym (then refl)
 same_tests false true then back = absurd (false≢true (back refl))
 same_tests false false then back = refl
@@ -36,6 +36,9 @@ shares_itself p = shares_from p p (record { length = refl; subnet = refl })
 
 pub shares_back : (p q : Port) → shares_subnet p q ≡ true → shares_subnet q p ≡ true
 shares_back p q h = let s = shares_tells p q h in shares_from q p (record { length = sym s.length; subnet = sym s.subnet })
+
+pub shares_swap : (p q : Port) → shares_subnet p q ≡ shares_subnet q p
+shares_swap p q = same_tests (shares_subnet p q) (shares_subnet q p) (shares_back p q) (shares_back q p)
 
 pub shares_on : (p q r : Port) → shares_subnet p q ≡ true → shares_subnet q r ≡ true → shares_subnet p r ≡ true
 shares_on p q r h k =

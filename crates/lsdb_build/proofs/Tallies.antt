@@ -1,5 +1,5 @@
 -- A tally with one key more.
-use Rattle.std.proofs.Common.{zero, suc, zero-add, nat_lt, nat_eq, not, ◌||◌, ◌&&◌, ◌==◌, ◌≡◌, ℕ, ◌+◌, ◌<◌, ◌≤◌, ◌^◌, inl, inr, Bool, true, false, cond, List, [], ◌∷◌, Option, Some, unwrap_or, count_by, length, get_or, take, reverse, map, refl, sym, ap, ◌∙◌, subst, arith}
+use Rattle.std.proofs.Common.{zero, suc, zero-add, nat_lt, nat_eq, not, ◌||◌, ◌&&◌, ◌==◌, ◌≡◌, ℕ, ◌+◌, ◌<◌, ◌≤◌, ◌^◌, inl, inr, Bool, true, false, cond, List, [], ◌∷◌, Some, unwrap_or, count_by, length, get_or, take, reverse, map, refl, sym, ap, ◌∙◌, subst, arith}
 use Rattle.std.proofs.lemmas.List.{length-map, length-reverse, length-take}
 use Rattle.std.proofs.lemmas.List.Sums.{count_by-le-length}
 use Rattle.std.specs.List.{list_any, list_all}
@@ -15,12 +15,28 @@ use Rattle.interface_model.specs.declared.Kind.{Kind}
 use Rattle.interface_model.specs.declared.Kind.TheVariants.{PointToPoint, Broadcast}
 use Rattle.lsdb_build.proofs.Firsts.{reverse_more, count_by-reverse}
 use Rattle.lsdb_build.proofs.Pairs.{count_by-cons, count_agree}
-use Rattle.lsdb_build.proofs.Subnets.{same_tests, shares_back}
+use Rattle.lsdb_build.proofs.Subnets.{shares_swap}
 
 module _ {K S : Type 0} (eq : K → K → Bool) (laws : IsEquivalence eq) (old new : IndexMap K ℕ S) (key : K) where
   -- equal keys came as often
   count_alike : (other : K) → eq key other ≡ true → count_of eq old key ≡ count_of eq old other
   count_alike other same = ap (λ (test : K → Bool). unwrap_or (get_by test old) 0) (λ i x. laws.congr key other x same i)
+
+  pub tally_there : (n : ℕ) → Updates eq old new key (Some (n + 1)) → 0 < count_of eq new key
+  tally_there n updates = let e = ap (λ o. unwrap_or o 0) updates.1 in omega arith
+
+  -- no count falls
+  pub tally_kept : (n : ℕ) → n ≡ count_of eq old key → Updates eq old new key (Some (n + 1)) → (other : K) → count_of eq old other ≤ count_of eq new other
+  tally_kept n is updates other =
+      elim (cases_Bool (eq key other)) [
+        | inl same ↦
+            let now : count_of eq new other ≡ n + 1 = ap (λ o. unwrap_or o 0) (updates.0 other ∙ ap (λ b. cond b (Some (n + 1)) (get eq old other)) same) in
+            let before : n ≡ count_of eq old other = is ∙ count_alike other same in
+            omega arith
+        | inr differs ↦
+            let now : count_of eq new other ≡ count_of eq old other = ap (λ o. unwrap_or o 0) (updates.0 other ∙ ap (λ b. cond b (Some (n + 1)) (get eq old other)) differs) in
+            omega arith
+      ]
 
   pub tally_more : (n : ℕ) → n ≡ count_of eq old key → Updates eq old new key (Some (n + 1)) → (keys : List K) → IsTally eq old keys → IsTally eq new (key ∷ keys)
   tally_more n is updates keys tally other =
@@ -48,7 +64,7 @@ module _ {X K S : Type 0} (eq : K → K → Bool) (of : X → K) (counts : Index
       omega (arith, tally key, count_by-le-length (λ k. eq k key) (map of (reverse (take i xs))), length-map (reverse (take i xs)) of, length-reverse (take i xs), length-take i xs)
 
 -- a count of what a function gives
-count_by-map : {X K : Type 0} (f : K → Bool) (of : X → K) (xs : List X) → count_by f (map of xs) ≡ count_by (λ x. f (of x)) xs
+pub count_by-map : {X K : Type 0} (f : K → Bool) (of : X → K) (xs : List X) → count_by f (map of xs) ≡ count_by (λ x. f (of x)) xs
 count_by-map f of [] = refl
 count_by-map f of (x ∷ xs) =
     count_by-cons f (of x) (map of xs) ∙ ap (λ n. cond (f (of x)) 1 0 + n) (count_by-map f of xs) ∙ sym (count_by-cons (λ y. f (of y)) x xs)
@@ -60,9 +76,6 @@ count_by-keys f of xs = count_by-map f of (reverse xs) ∙ count_by-reverse (λ 
 -- all elements in order
 pub tally_whole : {X K S : Type 0} (eq : K → K → Bool) (of : X → K) (counts : IndexMap K ℕ S) (xs : List X) → IsTally eq counts (map of (reverse xs)) → IsTally eq counts (map of xs)
 tally_whole eq of counts xs tally key = tally key ∙ count_by-keys (λ k. eq k key) of xs ∙ sym (count_by-map (λ k. eq k key) of xs)
-
-pub shares_swap : (p q : Port) → shares_subnet p q ≡ shares_subnet q p
-shares_swap p q = same_tests (shares_subnet p q) (shares_subnet q p) (shares_back p q) (shares_back q p)
 
 -- how many ports share a port's subnet
 pub members_counted : {S : Type 0} (counts : IndexMap Subnet ℕ S) (all : List Port) (p : Port) → IsTally same_subnet counts (map subnet_of all) → count_of same_subnet counts (subnet_of p) ≡ count_by (shares_subnet p) all

@@ -1,5 +1,5 @@
 -- How often keys came, and the keys of ports.
-use Rattle.std.specs.Prelude.{◌≡◌, ℕ, Bool, ◌==◌, ◌&&◌, nat_lt, List, unwrap_or, count_by}
+use Rattle.std.specs.Prelude.{◌≡◌, ℕ, ◌<◌, Bool, ◌==◌, ◌&&◌, nat_lt, List, unwrap_or, count_by}
 use Rattle.std.specs.Bool.{beq}
 use Rattle.indexmap.specs.IndexMap.{IndexMap, get}
 use Rattle.interface_model.specs.Addresses.{subnet}
@@ -15,8 +15,12 @@ module _ {K S : Type 0} (eq : K → K → Bool) where
   abbrev pub IsTally : IndexMap K ℕ S → List K → Type 0
   IsTally counts keys = (key : K) → count_of counts key ≡ count_by (λ k. eq k key) keys
 
+-- the address under a prefix length
+abbrev pub prefix_of : Port → ℕ → Subnet
+prefix_of p length = record { length = length; address = subnet p.address length }
+
 abbrev pub subnet_of : Port → Subnet
-subnet_of p = record { length = p.interface.length; address = subnet p.address p.interface.length }
+subnet_of p = prefix_of p p.interface.length
 
 abbrev pub same_subnet : Subnet → Subnet → Bool
 same_subnet s t = s.length == t.length && s.address == t.address
@@ -42,3 +46,7 @@ rank_on p = (nat_lt 0 p.interface.priority, subnet_of p)
 
 abbrev pub address_of : Port → ℕ
 address_of p = p.address
+
+-- the shorter prefixes in which a port's subnet lies are there
+abbrev pub HasPrefixes : {S : Type 0} → IndexMap Subnet ℕ S → Port → Type 0
+HasPrefixes counts p = (length : ℕ) → length < p.interface.length → 0 < count_of same_subnet counts (prefix_of p length)

@@ -1,44 +1,20 @@
-ghost use Rattle.std.specs.Prelude.{◌&&◌, ◌||◌, ◌==◌, not, ◌≡◌, ◌<◌, ◌≤◌, List, [], None, length, map, slice_get, MatchResult, IfOk};
+ghost use Rattle.std.specs.Prelude.{◌≡◌, ◌<◌, ◌≤◌, List, [], None, length, map, slice_get, MatchResult, IfOk};
 ghost use Rattle.std.specs.List.{list_any};
 ghost use Rattle.cost_base.specs.Lists.{same_bytes};
-ghost use Rattle.lsdb_build.specs.Neighbours.{Port, shares_subnet};
+ghost use Rattle.lsdb_build.specs.Neighbours.{Port};
 ghost use Rattle.lsdb_build.specs.Tallies.{IsTally, same_subnet, same_trait, subnet_of, member_of, kind_on, rank_on};
-ghost use Rattle.lsdb_build.specs.Topology.{holds, is_second_of_router, is_second_of_address, is_mismatch, is_crowding, is_overlap, lacks_designated, first_where, at_port, at_config, past, second_of_name, Tells};
+ghost use Rattle.lsdb_build.specs.Topology.{is_second_of_router, is_second_of_address, is_mismatch, is_crowding, lacks_designated, first_where, at_port, at_config, past, second_of_name, Tells};
 
 use crate::TopologyStop;
 use crate::members::members_on;
-use crate::port::{Port, Subnet, is_broadcast, shares_subnet, subnet_of};
+use crate::port::{Port, Subnet, is_broadcast, subnet_of};
 use crate::tally::Tally;
 use cost_base::{Name, OutOfMemory};
-use interface_model::{RouterConfig, contains};
+use interface_model::RouterConfig;
 use std::alloc::Global;
 
-/// Whether the subnet of the first port contains that of the second, which is at least as long.
-fn holds(outer: &Port, inner: &Port) -> bool
-    ensures { result ≡ holds outer.now inner.now }
-{
-    let length = outer.interface.length;
-    length <= inner.interface.length && contains(outer.address, length, inner.address)
-}
-
-/// Whether two ports of different routers are on different subnets of which one contains the other.
-fn overlaps(port: &Port, other: &Port) -> bool
-    ensures { result ≡ (not (port.now.router == other.now.router) && not (shares_subnet port.now other.now) && (holds port.now other.now || holds other.now port.now)) }
-{
-    port.router != other.router
-        && !shares_subnet(port, other)
-        && (holds(port, other) || holds(other, port))
-}
-
-/// Whether a port before, of another router, has an overlapping subnet.
-fn is_overlap(before: &[Port], port: &Port) -> bool
-    ensures { result ≡ is_overlap before.now port.now }
-{
-    before.iter().any(|other| overlaps(other, port))
-}
-
 /// The refusal with a number at a port.
-fn refusal_at(number: u8, port: &Port) -> TopologyStop
+pub fn refusal_at(number: u8, port: &Port) -> TopologyStop
     ensures { result ≡ TopologyStop.Refused number port.now.router port.now.interface.line }
 {
     TopologyStop::Refused {
@@ -136,19 +112,6 @@ pub fn refuse_crowding(alloc: Global, ports: &[Port]) -> Result<(), TopologyStop
             return Err(refusal_at(13, port));
         }
         seen.add(subnet_of(port))?;
-    }
-    Ok(())
-}
-
-/// Refuses the first port of which an earlier one, of another router, has an overlapping subnet.
-pub fn refuse_overlap(ports: &[Port]) -> Result<(), TopologyStop>
-    ensures { let fault = at_port 16 (first_where is_overlap [] ports.now) in
-        MatchResult result (λ _. fault ≡ None) (Tells fault) }
-{
-    for (i, port) in ports.iter().enumerate() {
-        if is_overlap(&ports[..i], port) {
-            return Err(refusal_at(16, port));
-        }
     }
     Ok(())
 }

@@ -5,10 +5,11 @@ ghost use Rattle.lsdb_build.specs.Graphs.{IsDatabase};
 ghost use Rattle.lsdb_build.specs.Checks.{link_among};
 
 use crate::checks::{
-    refuse_crowding, refuse_many_configs, refuse_many_ports, refuse_mismatch, refuse_overlap,
-    refuse_second_name, refuse_second_of_address, refuse_second_of_router, refuse_undesignated,
+    refuse_crowding, refuse_many_configs, refuse_many_ports, refuse_mismatch, refuse_second_name,
+    refuse_second_of_address, refuse_second_of_router, refuse_undesignated,
 };
 use crate::links::{linked_ports, links_of, names_of, subnets_of, transit_ports};
+use crate::overlaps::refuse_overlap;
 use crate::port::{Port, active_ports};
 use crate::{Lsdb, TopologyStop};
 use cost_base::{Listed, OutOfMemory};
@@ -83,6 +84,6 @@ pub fn build(alloc: Global, configs: &[RouterConfig], area: u32) -> Result<Lsdb,
     let links = linked_ports(alloc, &ports)?;
     let transit = transit_ports(alloc, &links)?;
     refuse_undesignated(alloc, &ports, &transit)?;
-    refuse_overlap(&ports)?;
+    refuse_overlap(alloc, &ports)?;
     Ok(assemble(alloc, configs, &links, &transit)?)
 }

@@ -1,4 +1,4 @@
-use Rattle.std.proofs.Common.{◌≡◌, take, reverse, map}
+use Rattle.std.proofs.Common.{take, reverse, map}
 use Rattle.lsdb_build.specs.Tallies.{IsTally, same_trait, rank_on}
 use Rattle.lsdb_build.proofs.checks.count_ranks.Given as goal
 

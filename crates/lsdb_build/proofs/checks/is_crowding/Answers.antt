@@ -1,7 +1,7 @@
 use Rattle.std.proofs.Common.{ap, sym, ◌∙◌, ◌&&◌, not, nat_le, count_by}
 use Rattle.lsdb_build.specs.Neighbours.{Port, shares_subnet}
 use Rattle.lsdb_build.proofs.Pairs.{count_agree}
-use Rattle.lsdb_build.proofs.Tallies.{shares_swap}
+use Rattle.lsdb_build.proofs.Subnets.{shares_swap}
 use Rattle.lsdb_build.proofs.checks.is_crowding.Goals as goal
 
 pub returns-then-not-is_broadcast : goal.returns-then-not-is_broadcast

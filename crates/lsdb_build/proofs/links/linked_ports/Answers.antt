@@ -1,5 +1,5 @@
-use Rattle.std.proofs.Common.{◌≡◌, ◌∷◌, ◌++◌, [], not, true, is_ok, ap, sym, ◌∙◌}
-use Rattle.lsdb_build.specs.Neighbours.{Port, is_linked}
+use Rattle.std.proofs.Common.{◌≡◌, not, true, is_ok, ap, sym, ◌∙◌}
+use Rattle.lsdb_build.specs.Neighbours.{is_linked}
 use Rattle.lsdb_build.proofs.Firsts.{filter_kept, filter_passed}
 use Rattle.lsdb_build.proofs.links.linked_ports.Goals as goal
 use Rattle.lsdb_build.proofs.links.linked_ports.Goals.{else-is_linked-via-then-is_linked+else-is_err, else-is_linked-via-else-is_linked}

@@ -1,4 +1,4 @@
-use Rattle.std.proofs.Common.{◌≡◌, take, reverse, map}
+use Rattle.std.proofs.Common.{take, reverse, map}
 use Rattle.lsdb_build.specs.Tallies.{IsTally, same_subnet, subnet_of}
 use Rattle.lsdb_build.proofs.members.count_members.Given as goal
 
