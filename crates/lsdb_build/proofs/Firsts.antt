@@ -1,48 +1,39 @@
 -- The first place that a check meets, one step of a loop on.
-use Rattle.std.proofs.Common.{◌≡◌, ℕ, ◌+◌, ◌<◌, Bool, cond, ◌&&◌, not, List, [], ◌∷◌, Some, length, get_or, take, drop, reverse, count_by, refl, sym, ap, ◌∙◌, map}
+use Rattle.std.proofs.Common.{append-nil, ◌≡◌, ℕ, ◌+◌, ◌<◌, ◌++◌, Bool, true, false, filter, cond, ◌&&◌, not, List, [], ◌∷◌, Some, length, get_or, take, drop, reverse, count_by, refl, sym, ap, ◌∙◌, map}
 use Rattle.std.specs.List.{list_any}
 use Rattle.std.proofs.lemmas.List.{at_drop_more, take_more, reverse-append, map-append}
+use Rattle.std.proofs.lemmas.List.Elements.{filter_more}
 use Rattle.std.proofs.lemmas.List.Sorted.{list_any-IsPermutation, sum_by-IsPermutation, IsPermutation-reverse}
 use Rattle.cost_base.specs.Lists.{same_bytes}
 use Rattle.interface_model.specs.Records.{Router}
-use Rattle.lsdb_build.specs.declared.checks.Check.{Check}
-use Rattle.lsdb_build.specs.declared.checks.Check.TheVariants.{SameRouterTwice, AddressTwice, TypeMismatch, CrowdedLink, OverlapPrefix}
 use Rattle.lsdb_build.specs.Neighbours.{Port, shares_subnet, is_broadcast, first_members}
 use Rattle.lsdb_build.specs.Topology.{first_where, second_of_name}
-use Rattle.lsdb_build.specs.Checks.{meets}
 
 -- a list turned round passes a test alike
 pub list_any-reverse : {X : Type 0} (p : X → Bool) (xs : List X) → list_any p (reverse xs) ≡ list_any p xs
 list_any-reverse p xs = sym (list_any-IsPermutation p xs (reverse xs) (IsPermutation-reverse xs))
 
 -- a list turned round has as many that pass
-count_by-reverse : {X : Type 0} (p : X → Bool) (xs : List X) → count_by p (reverse xs) ≡ count_by p xs
+pub count_by-reverse : {X : Type 0} (p : X → Bool) (xs : List X) → count_by p (reverse xs) ≡ count_by p xs
 count_by-reverse p xs = sum_by-IsPermutation (λ x. cond (p x) 1 0) xs (reverse xs) (IsPermutation-reverse xs)
 
--- a check doesn't ask for the order of the ports before
-pub meets-reverse : (check : Check) (before : List Port) (p : Port) → meets check (reverse before) p ≡ meets check before p
-meets-reverse SameRouterTwice before p = list_any-reverse _ before
-meets-reverse AddressTwice before p = list_any-reverse _ before
-meets-reverse TypeMismatch before p = list_any-reverse _ before
-meets-reverse CrowdedLink before p = rw (count_by-reverse (λ q. shares_subnet q p) before) refl
-meets-reverse OverlapPrefix before p = list_any-reverse _ before
-
 -- one more in front of the list turned round
-reverse_more : {X : Type 0} (xs : List X) (i : ℕ) (x : X) → i < length xs → x ≡ get_or xs i x → x ∷ reverse (take i xs) ≡ reverse (take (i + 1) xs)
+pub reverse_more : {X : Type 0} (xs : List X) (i : ℕ) (x : X) → i < length xs → x ≡ get_or xs i x → x ∷ reverse (take i xs) ≡ reverse (take (i + 1) xs)
 reverse_more xs i x within is = sym (ap reverse (take_more xs i x within) ∙ reverse-append (take i xs) (get_or xs i x ∷ []) ∙ ap (λ y. y ∷ reverse (take i xs)) (sym is))
 
-pub first_where-more : (f : List Port → Port → Bool) (xs : List Port) (i : ℕ) (p : Port) → i < length xs → p ≡ get_or xs i p → first_where f (reverse (take i xs)) (drop i xs) ≡ cond (f (reverse (take i xs)) p) (Some p) (first_where f (reverse (take (i + 1) xs)) (drop (i + 1) xs))
-first_where-more f xs i p within is =
+pub first_where-more : (f : List Port → Port → Bool) (xs : List Port) (i : ℕ) (p : Port) → i < length xs → p ≡ get_or xs i p → (b : Bool) → f (reverse (take i xs)) p ≡ b → first_where f (reverse (take i xs)) (drop i xs) ≡ cond b (Some p) (first_where f (reverse (take (i + 1) xs)) (drop (i + 1) xs))
+first_where-more f xs i p within is b b_is =
     at_drop_more (first_where f (reverse (take i xs))) xs i p within
     ∙ ap (λ q. cond (f (reverse (take i xs)) q) (Some q) (first_where f (q ∷ reverse (take i xs)) (drop (i + 1) xs))) (sym is)
-    ∙ ap (λ before. cond (f (reverse (take i xs)) p) (Some p) (first_where f before (drop (i + 1) xs))) (reverse_more xs i p within is)
+    ∙ ap (λ c. cond c (Some p) (first_where f (p ∷ reverse (take i xs)) (drop (i + 1) xs))) b_is
+    ∙ ap (λ before. cond b (Some p) (first_where f before (drop (i + 1) xs))) (reverse_more xs i p within is)
 
-pub first_members-more : (xs : List Port) (i : ℕ) (p : Port) → i < length xs → p ≡ get_or xs i p → first_members (reverse (take i xs)) (drop i xs) ≡ cond (is_broadcast p && not (list_any (shares_subnet p) (take i xs))) (p ∷ first_members (reverse (take (i + 1) xs)) (drop (i + 1) xs)) (first_members (reverse (take (i + 1) xs)) (drop (i + 1) xs))
-first_members-more xs i p within is =
+pub first_members-more : (xs : List Port) (i : ℕ) (p : Port) → i < length xs → p ≡ get_or xs i p → (b : Bool) → b ≡ (is_broadcast p && not (list_any (shares_subnet p) (reverse (take i xs)))) → first_members (reverse (take i xs)) (drop i xs) ≡ cond b (p ∷ first_members (reverse (take (i + 1) xs)) (drop (i + 1) xs)) (first_members (reverse (take (i + 1) xs)) (drop (i + 1) xs))
+first_members-more xs i p within is b b_is =
     at_drop_more (first_members (reverse (take i xs))) xs i p within
     ∙ ap (λ (q : Port). cond (is_broadcast q && not (list_any (shares_subnet q) (reverse (take i xs)))) (q ∷ first_members (q ∷ reverse (take i xs)) (drop (i + 1) xs)) (first_members (q ∷ reverse (take i xs)) (drop (i + 1) xs))) (sym is)
-    ∙ ap (λ b. cond (is_broadcast p && not b) (p ∷ first_members (p ∷ reverse (take i xs)) (drop (i + 1) xs)) (first_members (p ∷ reverse (take i xs)) (drop (i + 1) xs))) (list_any-reverse (shares_subnet p) (take i xs))
-    ∙ ap (λ before. cond (is_broadcast p && not (list_any (shares_subnet p) (take i xs))) (p ∷ first_members before (drop (i + 1) xs)) (first_members before (drop (i + 1) xs))) (reverse_more xs i p within is)
+    ∙ ap (λ c. cond c (p ∷ first_members (p ∷ reverse (take i xs)) (drop (i + 1) xs)) (first_members (p ∷ reverse (take i xs)) (drop (i + 1) xs))) (sym b_is)
+    ∙ ap (λ before. cond b (p ∷ first_members before (drop (i + 1) xs)) (first_members before (drop (i + 1) xs))) (reverse_more xs i p within is)
 
 -- a test of what a function gives
 list_any-map : {X Y : Type 0} (p : Y → Bool) (f : X → Y) (xs : List X) → list_any p (map f xs) ≡ list_any (λ x. p (f x)) xs
@@ -60,3 +51,12 @@ second_of_name-more xs i r within is =
     ∙ ap (λ (q : Router). cond (list_any (same_bytes q.name) (reverse (map (λ x. x.name) (take i xs)))) (Some i) (second_of_name (q.name ∷ reverse (map (λ x. x.name) (take i xs))) (i + 1) (drop (i + 1) xs))) (sym is)
     ∙ ap (λ b. cond b (Some i) (second_of_name (r.name ∷ reverse (map (λ x. x.name) (take i xs))) (i + 1) (drop (i + 1) xs))) (list_any-reverse (same_bytes r.name) (map (λ x. x.name) (take i xs)) ∙ list_any-map (same_bytes r.name) (λ (x : Router). x.name) (take i xs))
     ∙ ap (λ before. cond (list_any (λ x. same_bytes r.name x.name) (take i xs)) (Some i) (second_of_name before (i + 1) (drop (i + 1) xs))) (names_more xs i r within is)
+
+-- one element further, which passes or not
+pub filter_kept : {X : Type 0} (f : X → Bool) (xs : List X) (i : ℕ) (x : X) → i < length xs → x ≡ get_or xs i x → f x ≡ true → filter f (take (i + 1) xs) ≡ filter f (take i xs) ++ x ∷ []
+filter_kept f xs i x within is passes =
+    filter_more f xs i x within ∙ ap (λ y. filter f (take i xs) ++ cond (f y) (y ∷ []) []) (sym is) ∙ ap (λ b. filter f (take i xs) ++ cond b (x ∷ []) []) passes
+
+pub filter_passed : {X : Type 0} (f : X → Bool) (xs : List X) (i : ℕ) (x : X) → i < length xs → x ≡ get_or xs i x → f x ≡ false → filter f (take (i + 1) xs) ≡ filter f (take i xs)
+filter_passed f xs i x within is fails =
+    filter_more f xs i x within ∙ ap (λ y. filter f (take i xs) ++ cond (f y) (y ∷ []) []) (sym is) ∙ ap (λ b. filter f (take i xs) ++ cond b (x ∷ []) []) fails ∙ append-nil (filter f (take i xs))

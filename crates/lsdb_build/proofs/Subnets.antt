@@ -37,6 +37,9 @@ shares_itself p = shares_from p p (record { length = refl; subnet = refl })
 pub shares_back : (p q : Port) → shares_subnet p q ≡ true → shares_subnet q p ≡ true
 shares_back p q h = let s = shares_tells p q h in shares_from q p (record { length = sym s.length; subnet = sym s.subnet })
 
+pub shares_swap : (p q : Port) → shares_subnet p q ≡ shares_subnet q p
+shares_swap p q = same_tests (shares_subnet p q) (shares_subnet q p) (shares_back p q) (shares_back q p)
+
 pub shares_on : (p q r : Port) → shares_subnet p q ≡ true → shares_subnet q r ≡ true → shares_subnet p r ≡ true
 shares_on p q r h k =
     let s = shares_tells p q h in

@@ -1,29 +1,12 @@
--- The checks of a topology by name, and the links between given linked ports.
-use Rattle.std.specs.Prelude.{ℕ, List, Bool, Option, None, unwrap_or}
+-- The links between given linked ports.
+use Rattle.std.specs.Prelude.{ℕ, List, Option, None, unwrap_or}
 use Rattle.interface_model.specs.declared.Kind.{Kind}
 use Rattle.interface_model.specs.declared.Kind.TheVariants.{PointToPoint, Broadcast}
 use Rattle.lsdb_build.specs.declared.Far.{Far}
 use Rattle.lsdb_build.specs.declared.Far.TheVariants.{Router as ToRouter, Subnet as ToSubnet}
 use Rattle.lsdb_build.specs.declared.Linked.{Linked}
-use Rattle.lsdb_build.specs.declared.checks.Check.{Check}
-use Rattle.lsdb_build.specs.declared.checks.Check.TheVariants.{SameRouterTwice, AddressTwice, TypeMismatch, CrowdedLink, OverlapPrefix}
 use Rattle.lsdb_build.specs.Neighbours.{Port, shares_subnet, place_from, is_other}
-use Rattle.lsdb_build.specs.Topology.{is_second_of_router, is_second_of_address, is_mismatch, is_crowding, is_overlap, router_at}
-
--- what a check asks of a port, with the ports before it
-abbrev pub meets : Check → List Port → Port → Bool
-meets SameRouterTwice = is_second_of_router
-meets AddressTwice = is_second_of_address
-meets TypeMismatch = is_mismatch
-meets CrowdedLink = is_crowding
-meets OverlapPrefix = is_overlap
-
-abbrev pub number_of : Check → ℕ
-number_of SameRouterTwice = 14
-number_of AddressTwice = 11
-number_of TypeMismatch = 12
-number_of CrowdedLink = 13
-number_of OverlapPrefix = 16
+use Rattle.lsdb_build.specs.Topology.{router_at}
 
 -- where a link leads, among given linked ports and first members of transit subnets
 abbrev pub far_among : List Port → List Port → Port → Kind → Far

@@ -1,133 +1,20 @@
-ghost use Rattle.std.specs.Prelude.{◌&&◌, ◌||◌, ◌==◌, not, ◌≡◌, ℕ, ◌<◌, ◌≤◌, ◌^◌, [], length, map, slice_get, MatchResult, option_copied};
+ghost use Rattle.std.specs.Prelude.{◌≡◌, ◌<◌, ◌≤◌, List, [], None, length, map, slice_get, MatchResult, IfOk};
 ghost use Rattle.std.specs.List.{list_any};
 ghost use Rattle.cost_base.specs.Lists.{same_bytes};
-ghost use Rattle.lsdb_build.specs.Neighbours.{shares_subnet};
-ghost use Rattle.lsdb_build.specs.Topology.{same_kind, holds, is_second_of_router, is_second_of_address, is_mismatch, is_crowding, is_overlap, lacks_designated, first_where, at_port, at_config, past, second_of_name, Tells};
-ghost use Rattle.lsdb_build.specs.Checks.{meets, number_of};
+ghost use Rattle.lsdb_build.specs.Neighbours.{Port};
+ghost use Rattle.lsdb_build.specs.Tallies.{IsTally, same_subnet, same_trait, subnet_of, member_of, kind_on, rank_on};
+ghost use Rattle.lsdb_build.specs.Topology.{is_second_of_router, is_second_of_address, is_mismatch, is_crowding, lacks_designated, first_where, at_port, at_config, past, second_of_name, Tells};
 
 use crate::TopologyStop;
-use crate::port::{Port, is_broadcast, shares_subnet};
-use cost_base::Name;
-use interface_model::{Kind, RouterConfig, contains};
-
-/// A check that looks at each port and the ports before it.
-#[derive(Clone, Copy)]
-pub enum Check {
-    SameRouterTwice,
-    AddressTwice,
-    TypeMismatch,
-    CrowdedLink,
-    OverlapPrefix,
-}
-
-impl Check {
-    /// The number of the refusal.
-    fn number(self) -> u8
-        ensures { result ≡ number_of self }
-    {
-        match self {
-            Check::SameRouterTwice => 14,
-            Check::AddressTwice => 11,
-            Check::TypeMismatch => 12,
-            Check::CrowdedLink => 13,
-            Check::OverlapPrefix => 16,
-        }
-    }
-}
-
-/// Whether two network kinds are one.
-fn same_kind(kind: Kind, other: Kind) -> bool
-    ensures { result ≡ same_kind kind other }
-{
-    match (kind, other) {
-        (Kind::PointToPoint, Kind::PointToPoint) => true,
-        (Kind::Broadcast, Kind::Broadcast) => true,
-        (Kind::PointToPoint, Kind::Broadcast) => false,
-        (Kind::Broadcast, Kind::PointToPoint) => false,
-    }
-}
-
-/// Whether the subnet of the first port contains that of the second, which is at least as long.
-fn holds(outer: &Port, inner: &Port) -> bool
-    ensures { result ≡ holds outer.now inner.now }
-{
-    let length = outer.interface.length;
-    length <= inner.interface.length && contains(outer.address, length, inner.address)
-}
-
-/// Whether a port before is of the same router and on the same subnet.
-fn is_second_of_router(before: &[Port], port: &Port) -> bool
-    ensures { result ≡ is_second_of_router before.now port.now }
-{
-    before.iter().any(|other| other.router == port.router && shares_subnet(other, port))
-}
-
-/// Whether a port before has the same address.
-fn is_second_of_address(before: &[Port], port: &Port) -> bool
-    ensures { result ≡ is_second_of_address before.now port.now }
-{
-    before.iter().any(|other| other.address == port.address)
-}
-
-/// Whether a port before on the same subnet has another network kind.
-fn is_mismatch(before: &[Port], port: &Port) -> bool
-    ensures { result ≡ is_mismatch before.now port.now }
-{
-    before.iter().any(|other| differs_in_kind(other, port))
-}
-
-/// Whether two ports on one subnet have different network kinds.
-fn differs_in_kind(port: &Port, other: &Port) -> bool
-    ensures { result ≡ (shares_subnet port.now other.now && not (same_kind port.now.interface.kind other.now.interface.kind)) }
-{
-    shares_subnet(port, other) && !same_kind(port.interface.kind, other.interface.kind)
-}
-
-/// Whether two ports before are on the same point-to-point subnet.
-fn is_crowding(before: &[Port], port: &Port) -> bool
-    ensures { result ≡ is_crowding before.now port.now }
-{
-    if is_broadcast(port) {
-        return false;
-    }
-    let members = before
-        .iter()
-        .filter(|other| shares_subnet(other, port))
-        .count();
-    members >= 2
-}
-
-/// Whether two ports of different routers are on different subnets of which one contains the other.
-fn overlaps(port: &Port, other: &Port) -> bool
-    ensures { result ≡ (not (port.now.router == other.now.router) && not (shares_subnet port.now other.now) && (holds port.now other.now || holds other.now port.now)) }
-{
-    port.router != other.router
-        && !shares_subnet(port, other)
-        && (holds(port, other) || holds(other, port))
-}
-
-/// Whether a port before, of another router, has an overlapping subnet.
-fn is_overlap(before: &[Port], port: &Port) -> bool
-    ensures { result ≡ is_overlap before.now port.now }
-{
-    before.iter().any(|other| overlaps(other, port))
-}
-
-/// Whether a port meets a check, with the ports before it.
-fn meets(check: Check, before: &[Port], port: &Port) -> bool
-    ensures { result ≡ meets check before.now port.now }
-{
-    match check {
-        Check::SameRouterTwice => is_second_of_router(before, port),
-        Check::AddressTwice => is_second_of_address(before, port),
-        Check::TypeMismatch => is_mismatch(before, port),
-        Check::CrowdedLink => is_crowding(before, port),
-        Check::OverlapPrefix => is_overlap(before, port),
-    }
-}
+use crate::members::members_on;
+use crate::port::{Port, Subnet, is_broadcast, subnet_of};
+use crate::tally::Tally;
+use cost_base::{Name, OutOfMemory};
+use interface_model::RouterConfig;
+use std::alloc::Global;
 
 /// The refusal with a number at a port.
-fn refusal_at(number: u8, port: &Port) -> TopologyStop
+pub fn refusal_at(number: u8, port: &Port) -> TopologyStop
     ensures { result ≡ TopologyStop.Refused number port.now.router port.now.interface.line }
 {
     TopologyStop::Refused {
@@ -137,33 +24,137 @@ fn refusal_at(number: u8, port: &Port) -> TopologyStop
     }
 }
 
-/// Refuses the first port that meets a check.
-pub fn refuse_first(check: Check, ports: &[Port]) -> Result<(), TopologyStop>
-    ensures { let fault = at_port (number_of check) (first_where (meets check) [] ports.now) in
+/// A router on a subnet.
+fn member_of(port: &Port) -> (u32, Subnet)
+    ensures { result ≡ member_of port.now }
+{
+    (port.router, subnet_of(port))
+}
+
+/// Refuses the first port of which an earlier one is of the same router and on the same subnet.
+pub fn refuse_second_of_router(alloc: Global, ports: &[Port]) -> Result<(), TopologyStop>
+    requires { length ports.now ≤ 4000 }
+    ensures { let fault = at_port 14 (first_where is_second_of_router [] ports.now) in
         MatchResult result (λ _. fault ≡ None) (Tells fault) }
 {
-    for (i, port) in ports.iter().enumerate() {
-        if meets(check, &ports[..i], port) {
-            return Err(refusal_at(check.number(), port));
+    let mut seen = Tally::new(alloc);
+    for port in ports {
+        if seen.add(member_of(port))? > 0 {
+            return Err(refusal_at(14, port));
         }
     }
     Ok(())
 }
 
-/// Whether no member of a port's subnet may become its designated router (RFC 2328, 9.4).
-fn lacks_designated(ports: &[Port], port: &Port) -> bool
-    ensures { result ≡ lacks_designated ports.now port.now }
+/// Refuses the first port of which an earlier one has the address.
+pub fn refuse_second_of_address(alloc: Global, ports: &[Port]) -> Result<(), TopologyStop>
+    requires { length ports.now ≤ 4000 }
+    ensures { let fault = at_port 11 (first_where is_second_of_address [] ports.now) in
+        MatchResult result (λ _. fault ≡ None) (Tells fault) }
 {
-    ports.iter().all(|other| !shares_subnet(other, port) || other.interface.priority == 0)
+    let mut seen = Tally::new(alloc);
+    for port in ports {
+        if seen.add(port.address)? > 0 {
+            return Err(refusal_at(11, port));
+        }
+    }
+    Ok(())
+}
+
+/// A port's subnet, with whether the port is broadcast.
+fn kind_on(port: &Port) -> (bool, Subnet)
+    ensures { result ≡ kind_on port.now }
+{
+    (is_broadcast(port), subnet_of(port))
+}
+
+/// Whether a port before on the same subnet has another network kind.
+fn is_mismatch(seen: &Tally<(bool, Subnet)>, port: &Port) -> bool
+    ensures { (before : List Port) → IsTally same_trait seen.now.counts (map kind_on before) → result ≡ is_mismatch before port.now }
+{
+    let (broadcast, subnet) = kind_on(port);
+    seen.count((!broadcast, subnet)) > 0
+}
+
+/// Refuses the first port of which an earlier one on the same subnet has another network kind.
+pub fn refuse_mismatch(alloc: Global, ports: &[Port]) -> Result<(), TopologyStop>
+    requires { length ports.now ≤ 4000 }
+    ensures { let fault = at_port 12 (first_where is_mismatch [] ports.now) in
+        MatchResult result (λ _. fault ≡ None) (Tells fault) }
+{
+    let mut seen = Tally::new(alloc);
+    for port in ports {
+        if is_mismatch(&seen, port) {
+            return Err(refusal_at(12, port));
+        }
+        seen.add(kind_on(port))?;
+    }
+    Ok(())
+}
+
+/// Whether two ports before are on the same point-to-point subnet.
+fn is_crowding(seen: &Tally<Subnet>, port: &Port) -> bool
+    ensures { (before : List Port) → IsTally same_subnet seen.now.counts (map subnet_of before) → result ≡ is_crowding before port.now }
+{
+    let members = members_on(seen, port);
+    !is_broadcast(port) && members >= 2
+}
+
+/// Refuses the first port of which two earlier ones are on the same point-to-point subnet.
+pub fn refuse_crowding(alloc: Global, ports: &[Port]) -> Result<(), TopologyStop>
+    requires { length ports.now ≤ 4000 }
+    ensures { let fault = at_port 13 (first_where is_crowding [] ports.now) in
+        MatchResult result (λ _. fault ≡ None) (Tells fault) }
+{
+    let mut seen = Tally::new(alloc);
+    for port in ports {
+        if is_crowding(&seen, port) {
+            return Err(refusal_at(13, port));
+        }
+        seen.add(subnet_of(port))?;
+    }
+    Ok(())
+}
+
+/// A port's subnet, with whether the port may become its designated router (RFC 2328, 9.4).
+fn rank_on(port: &Port) -> (bool, Subnet)
+    ensures { result ≡ rank_on port.now }
+{
+    (port.interface.priority > 0, subnet_of(port))
+}
+
+/// Counts the ports on each subnet that may become its designated router, and those that may not.
+fn count_ranks(alloc: Global, ports: &[Port]) -> Result<Tally<(bool, Subnet)>, OutOfMemory>
+    requires { length ports.now ≤ 4000 }
+    ensures { IfOk result (λ ranks. IsTally same_trait ranks.counts (map rank_on ports.now)) }
+{
+    let mut ranks = Tally::new(alloc);
+    for port in ports {
+        ranks.add(rank_on(port))?;
+    }
+    Ok(ranks)
+}
+
+/// Whether no member of a port's subnet may become its designated router.
+fn lacks_designated(ranks: &Tally<(bool, Subnet)>, port: &Port) -> bool
+    ensures { (all : List Port) → IsTally same_trait ranks.now.counts (map rank_on all) → result ≡ lacks_designated all port.now }
+{
+    ranks.count((true, subnet_of(port))) == 0
 }
 
 /// Refuses the first transit subnet at which every member has priority 0, at its first member.
-pub fn refuse_undesignated(ports: &[Port], transit: &[Port]) -> Result<(), TopologyStop>
+pub fn refuse_undesignated(
+    alloc: Global,
+    ports: &[Port],
+    transit: &[Port],
+) -> Result<(), TopologyStop>
+    requires { length ports.now ≤ 4000 }
     ensures { let fault = at_port 15 (first_where (λ before p. lacks_designated ports.now p) [] transit.now) in
         MatchResult result (λ _. fault ≡ None) (Tells fault) }
 {
+    let ranks = count_ranks(alloc, ports)?;
     for port in transit {
-        if lacks_designated(ports, port) {
+        if lacks_designated(&ranks, port) {
             return Err(refusal_at(15, port));
         }
     }

@@ -1,65 +1,70 @@
-ghost use Rattle.std.specs.Prelude.{◌≡◌, ℕ, ◌<◌, ◌≤◌, ◌&&◌, not, [], length, map, IfOk};
+ghost use Rattle.std.specs.Prelude.{◌≡◌, ℕ, ◌<◌, ◌≤◌, ◌&&◌, not, List, [], length, map, IfOk};
 ghost use Rattle.std.specs.List.{list_any};
-ghost use Rattle.lsdb_build.specs.Neighbours.{is_linked, linked, is_broadcast, first_members, shares_subnet, is_other, is_port, place_from};
+ghost use Rattle.lsdb_build.specs.Neighbours.{Port, is_linked_kind, is_linked, linked, is_broadcast, first_members, shares_subnet, is_other, is_port, place_from};
 ghost use Rattle.lsdb_build.specs.Topology.{places_from, router_at};
+ghost use Rattle.lsdb_build.specs.Tallies.{IsTally, same_subnet, subnet_of};
 ghost use Rattle.lsdb_build.specs.Checks.{far_among, mate_among, link_among};
 
-use crate::port::{Port, is_broadcast, shares_subnet};
+use crate::members::{count_members, members_on};
+use crate::port::{Port, Subnet, is_broadcast, shares_subnet, subnet_of};
+use crate::tally::Tally;
 use crate::{Far, Linked};
 use cost_base::{Listed, Name, OutOfMemory};
 use interface_model::{Kind, RouterConfig};
 use std::alloc::Global;
 
-/// Whether a port is linked: a point-to-point subnet links exactly two, a broadcast subnet two or more.
-fn is_linked(ports: &[Port], port: &Port) -> bool
-    ensures { result ≡ is_linked ports.now port.now }
+/// Whether a subnet of so many members links them: a point-to-point subnet links exactly two, a broadcast subnet two or more.
+fn links_members(kind: Kind, members: u32) -> bool
+    ensures { result ≡ is_linked_kind kind members }
 {
-    let members = ports
-        .iter()
-        .filter(|other| shares_subnet(port, other))
-        .count();
-    match port.interface.kind {
+    match kind {
         Kind::PointToPoint => members == 2,
         Kind::Broadcast => members >= 2,
     }
 }
 
+/// Whether a port is linked, from how many ports stand on each subnet.
+fn is_linked(members: &Tally<Subnet>, port: &Port) -> bool
+    ensures { (all : List Port) → IsTally same_subnet members.now.counts (map subnet_of all) → result ≡ is_linked all port.now }
+{
+    links_members(port.interface.kind, members_on(members, port))
+}
+
 /// The linked ports, in order.
 pub fn linked_ports<'a>(alloc: Global, ports: &[Port<'a>]) -> Result<Vec<Port<'a>>, OutOfMemory>
+    requires { length ports.now ≤ 4000 }
     ensures { IfOk result (λ found. found.items ≡ linked ports.now) }
 {
+    let members = count_members(alloc, ports)?;
     let mut found = Vec::new(alloc);
     for port in ports {
-        if is_linked(ports, port) && found.push(port.again()).is_err() {
+        if is_linked(&members, port) && found.push(port.again()).is_err() {
             return Err(OutOfMemory);
         }
     }
     Ok(found)
 }
 
-/// Whether one of the ports before stands on the port's subnet.
-fn has_member(before: &[Port], port: &Port) -> bool
-    ensures { result ≡ list_any (shares_subnet port.now) before.now }
+/// Whether a port is a transit subnet's first member, from how many linked ports before it stand on each subnet.
+fn is_first_member(seen: &Tally<Subnet>, port: &Port) -> bool
+    ensures { (before : List Port) → IsTally same_subnet seen.now.counts (map subnet_of before) → result ≡ (is_broadcast port.now && not (list_any (shares_subnet port.now) before)) }
 {
-    before.iter().any(|other| shares_subnet(port, other))
-}
-
-/// Whether a port is a transit subnet's first member, after the linked ports before it.
-fn is_first_member(before: &[Port], port: &Port) -> bool
-    ensures { result ≡ (is_broadcast port.now && not (list_any (shares_subnet port.now) before.now)) }
-{
-    is_broadcast(port) && !has_member(before, port)
+    let members = members_on(seen, port);
+    is_broadcast(port) && members == 0
 }
 
 /// The first members of the transit subnets among linked ports, in order.
 pub fn transit_ports<'a>(alloc: Global, links: &[Port<'a>]) -> Result<Vec<Port<'a>>, OutOfMemory>
+    requires { length links.now ≤ 4000 }
     ensures { IfOk result (λ found. found.items ≡ first_members [] links.now) }
 {
+    let mut seen = Tally::new(alloc);
     let mut found = Vec::new(alloc);
-    for (i, port) in links.iter().enumerate() {
-        if is_first_member(&links[..i], port) && found.push(port.again()).is_err() {
+    for port in links {
+        if is_first_member(&seen, port) && found.push(port.again()).is_err() {
             return Err(OutOfMemory);
         }
+        seen.add(subnet_of(port))?;
     }
     Ok(found)
 }

@@ -1,6 +1,7 @@
 ghost use Rattle.std.specs.Prelude.{◌≡◌, ℕ, ◌+◌, ◌<◌, ◌≤◌, ◌++◌, List, [], ◌∷◌, length, All, IfOk, OnOk, option_to_list, vec_len};
 ghost use Rattle.interface_model.specs.Records.{IsRouter};
 ghost use Rattle.lsdb_build.specs.Neighbours.{port_of, ports_of, ports, shares_subnet, is_broadcast};
+ghost use Rattle.lsdb_build.specs.Tallies.{subnet_of};
 
 use cost_base::OutOfMemory;
 use interface_model::{Interface, Kind, RouterConfig, is_active, subnet};
@@ -90,6 +91,24 @@ pub fn active_ports<'a>(
         router += 1;
     }
     Ok(found)
+}
+
+/// An address under a prefix length.
+#[derive(Clone, Copy, PartialEq, Eq, Hash)]
+pub struct Subnet {
+    pub length: u8,
+    pub address: u32,
+}
+
+/// The subnet of a port.
+pub fn subnet_of(port: &Port) -> Subnet
+    ensures { result ≡ subnet_of port.now }
+{
+    let length = port.interface.length;
+    Subnet {
+        length,
+        address: subnet(port.address, length),
+    }
 }
 
 /// Whether two ports stand on one subnet.

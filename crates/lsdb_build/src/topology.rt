@@ -5,10 +5,11 @@ ghost use Rattle.lsdb_build.specs.Graphs.{IsDatabase};
 ghost use Rattle.lsdb_build.specs.Checks.{link_among};
 
 use crate::checks::{
-    Check, refuse_first, refuse_many_configs, refuse_many_ports, refuse_second_name,
-    refuse_undesignated,
+    refuse_crowding, refuse_many_configs, refuse_many_ports, refuse_mismatch, refuse_second_name,
+    refuse_second_of_address, refuse_second_of_router, refuse_undesignated,
 };
 use crate::links::{linked_ports, links_of, names_of, subnets_of, transit_ports};
+use crate::overlaps::refuse_overlap;
 use crate::port::{Port, active_ports};
 use crate::{Lsdb, TopologyStop};
 use cost_base::{Listed, OutOfMemory};
@@ -16,7 +17,7 @@ use interface_model::RouterConfig;
 use std::alloc::Global;
 
 /// Refuses what the checks before the designated routers refuse.
-fn refuse_ports(configs: &[RouterConfig], ports: &[Port]) -> Result<(), TopologyStop>
+fn refuse_ports(alloc: Global, configs: &[RouterConfig], ports: &[Port]) -> Result<(), TopologyStop>
     requires { length configs.now ≤ 1000 }
     ensures fault { let fault = first_some (at_port 17 (slice_get ports.now 4000)
         ∷ at_config 10 (second_of_name [] 0 configs.now)
@@ -30,10 +31,10 @@ fn refuse_ports(configs: &[RouterConfig], ports: &[Port]) -> Result<(), Topology
 {
     refuse_many_ports(ports)?;
     refuse_second_name(configs)?;
-    refuse_first(Check::SameRouterTwice, ports)?;
-    refuse_first(Check::AddressTwice, ports)?;
-    refuse_first(Check::TypeMismatch, ports)?;
-    refuse_first(Check::CrowdedLink, ports)?;
+    refuse_second_of_router(alloc, ports)?;
+    refuse_second_of_address(alloc, ports)?;
+    refuse_mismatch(alloc, ports)?;
+    refuse_crowding(alloc, ports)?;
     Ok(())
 }
 
@@ -79,10 +80,10 @@ pub fn build(alloc: Global, configs: &[RouterConfig], area: u32) -> Result<Lsdb,
 {
     refuse_many_configs(configs)?;
     let ports = active_ports(alloc, configs, area)?;
-    refuse_ports(configs, &ports)?;
+    refuse_ports(alloc, configs, &ports)?;
     let links = linked_ports(alloc, &ports)?;
     let transit = transit_ports(alloc, &links)?;
-    refuse_undesignated(&ports, &transit)?;
-    refuse_first(Check::OverlapPrefix, &ports)?;
+    refuse_undesignated(alloc, &ports, &transit)?;
+    refuse_overlap(alloc, &ports)?;
     Ok(assemble(alloc, configs, &links, &transit)?)
 }

@@ -1,4 +1,4 @@
-use Rattle.std.proofs.Common.{◌+◌, cond, List, Some, drop, take, reverse, ap, sym, ◌∙◌}
+use Rattle.std.proofs.Common.{List, take, reverse, ap, sym, ◌∙◌}
 use Rattle.std.proofs.lemmas.List.{at_drop_all}
 use Rattle.lsdb_build.specs.Neighbours.{Port}
 use Rattle.lsdb_build.specs.Topology.{first_where, lacks_designated, at_port}
@@ -7,22 +7,14 @@ use Rattle.lsdb_build.proofs.checks.refuse_undesignated.Goals as goal
 
 pub loop-port-preserved : goal.loop-port-preserved
 loop-port-preserved c =
-    let transit = c.args.transit.now in
-    let i = c.loop-port.port-index in
-    let p = c.port-item.result in
     let test = λ (before : List Port) (q : Port). lacks_designated c.args.ports.now q in
-    c.loop-port.invariant ∙ first_where-more test transit i p c.loop-port-test.true c.port-item.is
-    ∙ ap (λ b. cond b (Some p) (first_where test (reverse (take (i + 1) transit)) (drop (i + 1) transit))) (sym c.lacks_designated.ensures ∙ c.if-lacks_designated.false)
+    c.loop-port.invariant ∙ first_where-more test c.args.transit.now c.loop-port.port-index c.port-item.result c.loop-port-test.true c.port-item.is _ (sym (c.lacks_designated.ensures c.args.ports.now c.in_ok-ranks.ensures) ∙ c.if-lacks_designated.false)
 
 pub returns-then-lacks_designated : goal.returns-then-lacks_designated
 returns-then-lacks_designated c =
-    let transit = c.args.transit.now in
-    let i = c.loop-port.port-index in
-    let p = c.port-item.result in
     let test = λ (before : List Port) (q : Port). lacks_designated c.args.ports.now q in
     rw c.refusal_at.ensures
-    (ap (at_port 15) (c.loop-port.invariant ∙ first_where-more test transit i p c.loop-port-test.true c.port-item.is
-    ∙ ap (λ b. cond b (Some p) (first_where test (reverse (take (i + 1) transit)) (drop (i + 1) transit))) (sym c.lacks_designated.ensures ∙ c.if-lacks_designated.true)))
+    (ap (at_port 15) (c.loop-port.invariant ∙ first_where-more test c.args.transit.now c.loop-port.port-index c.port-item.result c.loop-port-test.true c.port-item.is _ (sym (c.lacks_designated.ensures c.args.ports.now c.in_ok-ranks.ensures) ∙ c.if-lacks_designated.true)))
 
 pub returns : goal.returns
 returns c =

@@ -1,6 +1,10 @@
-use Rattle.std.proofs.Common.{◌≡◌, ◌++◌, [], take, drop, reverse}
+use Rattle.std.proofs.Common.{◌≡◌, ◌++◌, [], take, drop, reverse, map}
 use Rattle.lsdb_build.specs.Neighbours.{first_members}
+use Rattle.lsdb_build.specs.Tallies.{IsTally, same_subnet, subnet_of}
 use Rattle.lsdb_build.proofs.links.transit_ports.Given as goal
 
-abbrev pub invariant-loop-i : goal.invariant-loop-i
-invariant-loop-i l = l.found.items ++ first_members (reverse (take l.i l.links)) (drop l.i l.links) ≡ first_members [] l.links
+abbrev pub invariant-loop-port : goal.invariant-loop-port
+invariant-loop-port l = record {
+  seen : IsTally same_subnet l.seen.counts (map subnet_of (reverse (take l.port-index l.links)));
+  left : l.found.items ++ first_members (reverse (take l.port-index l.links)) (drop l.port-index l.links) ≡ first_members [] l.links;
+}

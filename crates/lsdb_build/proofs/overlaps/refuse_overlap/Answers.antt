@@ -1,0 +1,43 @@
+use Rattle.std.proofs.Common.{◌≡◌, false, take, reverse, map, All, ap, sym, ◌∙◌, subst}
+use Rattle.std.proofs.lemmas.Bool.{false≢true, false_from_ne_true}
+use Rattle.std.proofs.lemmas.List.{at_drop_all}
+use Rattle.std.proofs.lemmas.List.Elements.{All-cons, All-weaker}
+use Rattle.lsdb_build.specs.Tallies.{same_subnet, subnet_of, prefix_of, HasPrefixes}
+use Rattle.lsdb_build.specs.Topology.{first_where, is_overlap, at_port}
+use Rattle.lsdb_build.proofs.Firsts.{first_where-more, list_any-reverse, reverse_more}
+use Rattle.lsdb_build.proofs.Tallies.{tally_on, tally_few}
+use Rattle.lsdb_build.proofs.overlaps.refuse_overlap.Goals as goal
+use Rattle.lsdb_build.proofs.overlaps.refuse_overlap.Goals.{else-may_overlap-via-then-may_overlap+else-is_overlap, else-may_overlap-via-else-may_overlap}
+
+pub add-requires : goal.add-requires
+add-requires c = record { few = tally_few same_subnet subnet_of c.loop-i.seen.counts c.args.ports.now c.loop-i.i c.loop-i.invariant.seen c.requires c.subnet_of.result }
+
+pub loop-i-preserved : goal.loop-i-preserved
+loop-i-preserved c =
+    let ports = c.args.ports.now in
+    let i = c.loop-i.i in
+    let p = c.index-ports-i.result in
+    let before = reverse (take i ports) in
+    let old = HasPrefixes c.loop-i.enclosing.counts in
+    let new = HasPrefixes c.note_prefixes.new.enclosing.counts in
+    let fails : is_overlap before p ≡ false = elim c.else-may_overlap.branch [
+      | else-may_overlap-via-then-may_overlap+else-is_overlap w ↦ list_any-reverse _ (take i ports) ∙ sym w.is_overlap.ensures ∙ w.if-is_overlap.false
+      | else-may_overlap-via-else-may_overlap w ↦ false_from_ne_true (is_overlap before p) (λ does. false≢true (sym w.if-may_overlap.false ∙ c.may_overlap.ensures before c.loop-i.invariant.seen c.loop-i.invariant.noted does))
+    ] in
+    record {
+      seen = tally_on same_subnet subnet_of c.add.new.self.counts ports i p c.loop-i-test.true c.index-ports-i.is c.subnet_of.result c.subnet_of.ensures (c.in_ok-add.ensures.added (map subnet_of before) c.loop-i.invariant.seen);
+      noted = subst (All new) (reverse_more ports i p c.loop-i-test.true c.index-ports-i.is)
+          (All-cons new p before c.in_ok-note_prefixes.ensures.noted (All-weaker old new (λ q has l below. c.in_ok-note_prefixes.ensures.kept (prefix_of q l) (has l below)) before c.loop-i.invariant.noted));
+      left = c.loop-i.invariant.left ∙ first_where-more is_overlap ports i p c.loop-i-test.true c.index-ports-i.is _ fails;
+    }
+
+pub returns-then-is_overlap : goal.returns-then-is_overlap
+returns-then-is_overlap c =
+    let ports = c.args.ports.now in
+    let i = c.loop-i.i in
+    rw c.refusal_at.ensures
+    (ap (at_port 16) (c.loop-i.invariant.left ∙ first_where-more is_overlap ports i c.index-ports-i.result c.loop-i-test.true c.index-ports-i.is _ (list_any-reverse _ (take i ports) ∙ sym c.is_overlap.ensures ∙ c.if-is_overlap.true)))
+
+pub returns : goal.returns
+returns c =
+    ap (at_port 16) (c.loop-i.invariant.left ∙ at_drop_all (first_where is_overlap (reverse (take c.loop-i.i c.args.ports.now))) c.args.ports.now c.loop-i.i c.loop-i-test.false)

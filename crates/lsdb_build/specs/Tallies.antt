@@ -1,0 +1,52 @@
+-- How often keys came, and the keys of ports.
+use Rattle.std.specs.Prelude.{◌≡◌, ℕ, ◌<◌, Bool, ◌==◌, ◌&&◌, nat_lt, List, unwrap_or, count_by}
+use Rattle.std.specs.Bool.{beq}
+use Rattle.indexmap.specs.IndexMap.{IndexMap, get}
+use Rattle.interface_model.specs.Addresses.{subnet}
+use Rattle.lsdb_build.specs.declared.port.Subnet.{Subnet}
+use Rattle.lsdb_build.specs.Neighbours.{Port, is_broadcast}
+
+module _ {K S : Type 0} (eq : K → K → Bool) where
+  -- how often a key came
+  abbrev pub count_of : IndexMap K ℕ S → K → ℕ
+  count_of counts key = unwrap_or (get eq counts key) 0
+
+  -- the map counts the keys of a list
+  abbrev pub IsTally : IndexMap K ℕ S → List K → Type 0
+  IsTally counts keys = (key : K) → count_of counts key ≡ count_by (λ k. eq k key) keys
+
+-- the address under a prefix length
+abbrev pub prefix_of : Port → ℕ → Subnet
+prefix_of p length = record { length = length; address = subnet p.address length }
+
+abbrev pub subnet_of : Port → Subnet
+subnet_of p = prefix_of p p.interface.length
+
+abbrev pub same_subnet : Subnet → Subnet → Bool
+same_subnet s t = s.length == t.length && s.address == t.address
+
+-- a router on a subnet
+abbrev pub member_of : Port → ℕ × Subnet
+member_of p = (p.router, subnet_of p)
+
+abbrev pub same_member : ℕ × Subnet → ℕ × Subnet → Bool
+same_member a b = a.0 == b.0 && same_subnet a.1 b.1
+
+-- a subnet with what is true or not of a port on it
+abbrev pub same_trait : Bool × Subnet → Bool × Subnet → Bool
+same_trait a b = beq a.0 b.0 && same_subnet a.1 b.1
+
+-- whether the port is broadcast
+abbrev pub kind_on : Port → Bool × Subnet
+kind_on p = (is_broadcast p, subnet_of p)
+
+-- whether the port may become the designated router
+abbrev pub rank_on : Port → Bool × Subnet
+rank_on p = (nat_lt 0 p.interface.priority, subnet_of p)
+
+abbrev pub address_of : Port → ℕ
+address_of p = p.address
+
+-- the shorter prefixes in which a port's subnet lies are there
+abbrev pub HasPrefixes : {S : Type 0} → IndexMap Subnet ℕ S → Port → Type 0
+HasPrefixes counts p = (length : ℕ) → length < p.interface.length → 0 < count_of same_subnet counts (prefix_of p length)
