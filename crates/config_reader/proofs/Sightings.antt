@@ -39,6 +39,7 @@ lines_with old new ws w each put k = put k ∙ go (names_prefix k w) refl ∙ sy
   where
     own : NetworkPrefix
     own = prefix_at w.address w.length
+
     go : (b : Bool) → names_prefix k w ≡ b →
         cond b (Some (noted (length ws) w (old own))) (old k) ≡ cond b (Some (noted (0 + length ws) w (lines_of k ws))) (lines_of k ws)
     go true e = ap (λ found. Some (noted (length ws) w found)) (ap old (same_prefix-true own k e) ∙ each k) ∙ ap (λ m. Some (noted m w (lines_of k ws))) (omega arith)
@@ -52,6 +53,7 @@ kept_first n k l (w ∷ ws) = go (names_prefix k w) (kept_first (n + 1) k (noted
   where
     first_is : Option PrefixLines → Type 0
     first_is found = option_map (λ lines. lines.first) (lines_from (n + 1) k found ws) ≡ Some l.first
+
     go : (b : Bool) → first_is (Some (noted n w (Some l))) → first_is (Some l) → first_is (cond b (Some (noted n w (Some l))) (Some l))
     go true one none = one
     go false one none = none
@@ -81,6 +83,7 @@ full_stays n k f o (w ∷ ws) = go (names_prefix k w) (full_stays (n + 1) k f o 
   where
     full : PrefixLines
     full = record { first = f; other = Some o }
+
     go : (b : Bool) → lines_from (n + 1) k (Some full) ws ≡ Some full → lines_from (n + 1) k (cond b (Some (noted n w (Some full))) (Some full)) ws ≡ Some full
     go true more = more
     go false more = more
@@ -97,17 +100,23 @@ open_other n k area f (w ∷ ws) = go (names_prefix k w) (is_elsewhere f.line.ar
   where
     here : Sighted
     here = record { place = n; line = w }
+
     alone : Option PrefixLines
     alone = Some (record { first = f; other = None })
+
     found : Bool → Bool → Option PrefixLines
     found b e = cond b (Some (record { first = f; other = other_after None e here })) alone
+
     more : Option Sighted
     more = first_at (n + 1) (elsewhere_of k area) ws
+
     not_false : (b : Bool) → not b ≡ false → b ≡ true
     not_false true p = refl
     not_false false p = sym p
+
     same_area : is_elsewhere f.line.area w ≡ false → eqb f.line.area area ≡ true → is_elsewhere area w ≡ false
     same_area at is = ap not (eq-eqb w.area area (eqb-true w.area f.line.area (not_false (eqb w.area f.line.area) at) ∙ eqb-true f.line.area area is))
+
     go : (b e : Bool) → is_elsewhere f.line.area w ≡ e → (same : Bool) → eqb f.line.area area ≡ same →
         other_in area (lines_from (n + 1) k alone ws) ≡ cond (eqb f.line.area area) more (Some f) →
         other_in area (lines_from (n + 1) k (found b e) ws) ≡ cond same (cond (b && is_elsewhere area w) (Some here) more) (Some f)
@@ -126,8 +135,10 @@ other_named n k area (w ∷ ws) = go (names_prefix k w) (other_named (n + 1) k a
   where
     here : Sighted
     here = record { place = n; line = w }
+
     more : Option Sighted
     more = first_at (n + 1) (elsewhere_of k area) ws
+
     go : (b : Bool) → other_in area (lines_from (n + 1) k None ws) ≡ more → other_in area (lines_from (n + 1) k (cond b (Some (noted n w None)) None) ws) ≡ cond (b && is_elsewhere area w) (Some here) more
     go true rest = open_other (n + 1) k area here ws ∙ cond_not (eqb w.area area) more (Some here)
     go false rest = rest
@@ -162,8 +173,10 @@ stays_first n m w test (v ∷ ws) before = go (test v) (stays_first n (m + 1) w 
   where
     here : Option Sighted
     here = Some (record { place = n; line = w })
+
     there : Option Sighted
     there = Some (record { place = m; line = v })
+
     go : (b : Bool) → lesser here (first_at (m + 1) test ws) ≡ here → lesser here (cond b there (first_at (m + 1) test ws)) ≡ here
     go true rest = ap (λ b. cond b there here) (le-ltb m n before)
     go false rest = rest
@@ -175,8 +188,10 @@ comes_first n m w test (v ∷ ws) before = go (test v) (comes_first n (m + 1) w 
   where
     here : Option Sighted
     here = Some (record { place = n; line = w })
+
     there : Option Sighted
     there = Some (record { place = m; line = v })
+
     go : (b : Bool) → lesser (first_at (m + 1) test ws) here ≡ here → lesser (cond b there (first_at (m + 1) test ws)) here ≡ here
     go true rest = ap (λ b. cond b here there) (lt-ltb n m before)
     go false rest = rest
@@ -188,6 +203,7 @@ first_of_two n f g (w ∷ ws) = go (f w) (g w) (first_of_two (n + 1) f g ws)
   where
     here : Option Sighted
     here = Some (record { place = n; line = w })
+
     go : (a b : Bool) → first_at (n + 1) (λ v. f v || g v) ws ≡ lesser (first_at (n + 1) f ws) (first_at (n + 1) g ws) →
         cond (a || b) here (first_at (n + 1) (λ v. f v || g v) ws) ≡ lesser (cond a here (first_at (n + 1) f ws)) (cond b here (first_at (n + 1) g ws))
     go true true rest = sym (ap (λ b. cond b here here) (le-ltb n n (omega arith)))
@@ -211,27 +227,31 @@ pub covers_more : (m address : ℕ) (w : NetworkLine) → covers_below (m + 1) a
 covers_more m address w =
     elim (cases_order w.length m) [
       | inl same ↦
-        ap (λ b. b && inside) (lt-ltb w.length (m + 1) (omega (arith, same)))
-        ∙ sym (ap (λ b. b || names_prefix (prefix_at address m) w) (ap (λ b. b && inside) (le-ltb w.length m (omega (arith, same)))) ∙ ap (λ b. eqb own (subnet address m) && b) (eq-eqb w.length m same) ∙ and_true (eqb own (subnet address m)) ∙ ap (λ l. eqb own (subnet address l)) (sym same))
+          ap (λ b. b && inside) (lt-ltb w.length (m + 1) (omega (arith, same)))
+          ∙ sym (ap (λ b. b || names_prefix (prefix_at address m) w) (ap (λ b. b && inside) (le-ltb w.length m (omega (arith, same)))) ∙ ap (λ b. eqb own (subnet address m) && b) (eq-eqb w.length m same) ∙ and_true (eqb own (subnet address m)) ∙ ap (λ l. eqb own (subnet address l)) (sym same))
       | inr apart ↦ elim apart [
         | inl before ↦
-          ap (λ b. b && inside) (lt-ltb w.length (m + 1) (omega (arith, before)))
-          ∙ sym (ap (λ b. (b && inside) || names_prefix (prefix_at address m) w) (lt-ltb w.length m before) ∙ ap (λ b. inside || b) (other (λ e. omega (arith, e, before))) ∙ or_false inside)
+            ap (λ b. b && inside) (lt-ltb w.length (m + 1) (omega (arith, before)))
+            ∙ sym (ap (λ b. (b && inside) || names_prefix (prefix_at address m) w) (lt-ltb w.length m before) ∙ ap (λ b. inside || b) (other (λ e. omega (arith, e, before))) ∙ or_false inside)
         | inr after ↦
-          ap (λ b. b && inside) (le-ltb w.length (m + 1) (omega (arith, after)))
-          ∙ sym (ap (λ b. (b && inside) || names_prefix (prefix_at address m) w) (le-ltb w.length m (omega (arith, after))) ∙ other (λ e. omega (arith, e, after)))
+            ap (λ b. b && inside) (le-ltb w.length (m + 1) (omega (arith, after)))
+            ∙ sym (ap (λ b. (b && inside) || names_prefix (prefix_at address m) w) (le-ltb w.length m (omega (arith, after))) ∙ other (λ e. omega (arith, e, after)))
       ]
     ]
   where
     own : ℕ
     own = subnet w.address w.length
+
     inside : Bool
     inside = contains w.address w.length address
+
     other : (w.length ≡ m → ⊥) → names_prefix (prefix_at address m) w ≡ false
     other apart = and_right (eqb own (subnet address m)) (eqb w.length m) (ne_eqb w.length m apart)
+
     and_true : (b : Bool) → (b && true) ≡ b
     and_true true = refl
     and_true false = refl
+
     or_false : (b : Bool) → (b || false) ≡ b
     or_false true = refl
     or_false false = refl
@@ -266,8 +286,10 @@ next_elsewhere m address area ws found other so_far here =
   where
     before : NetworkLine → Bool
     before w = covers_below m address w && is_elsewhere area w
+
     now : NetworkLine → Bool
     now w = names_prefix (prefix_at address m) w && is_elsewhere area w
+
     spread : (a b c : Bool) → ((a && c) || (b && c)) ≡ ((a || b) && c)
     spread true true true = refl
     spread true true false = refl
@@ -319,11 +341,14 @@ clash_first n p (w ∷ ws) = go (covers p w) refl (clash_first (n + 1) p ws)
   where
     here : Sighted
     here = record { place = n; line = w }
+
     skip : (area : ℕ) → (covers p w && is_elsewhere area w) ≡ false → elsewhere_first (n + 1) p ws area ≡ elsewhere_first n p (w ∷ ws) area
     skip area e = sym (ap (λ b. option_map (λ found. found.line.line) (cond b (Some here) (first_at (n + 1) (λ v. covers p v && is_elsewhere area v) ws))) e)
+
     later : (o : Option Sighted) → covers p w ≡ false → clash_from (n + 1) p ws o ≡ clash_from n p (w ∷ ws) o
     later None e = refl
     later (Some found) e = skip found.line.area (ap (λ b. b && is_elsewhere found.line.area w) e)
+
     go : (b : Bool) → covers p w ≡ b → clash p None ws ≡ clash_from (n + 1) p ws (first_at (n + 1) (covers p) ws) →
         cond b (clash p (Some w.area) ws) (clash p None ws) ≡ clash_from n p (w ∷ ws) (cond b (Some here) (first_at (n + 1) (covers p) ws))
     go true e rest = clash_behind (n + 1) p w.area ws ∙ skip w.area (and_right (covers p w) (is_elsewhere w.area w) (ap not (eq-eqb w.area w.area refl)))

@@ -96,7 +96,12 @@ fn audit_of_pair(rt: HostRuntime) -> Result<(), Fail> {
     let one =
         "interface eth0\n ip address 10.0.0.2/30\n ip ospf area 0\n ip ospf network point-to-point\n ip ospf cost 1\n";
     let cases = [
-        (two_blocks, one, Status::Done, "path 0 cost 20 least 20 only\n"),
+        (
+            two_blocks,
+            one,
+            Status::Done,
+            "path 0 cost 20 least 20 only\n",
+        ),
         (ten, B, Status::InputRefused, "refused 26 B.conf 1\n"),
     ];
     for (a, b, status, text) in cases {

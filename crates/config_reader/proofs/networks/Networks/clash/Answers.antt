@@ -11,9 +11,9 @@ pub returns-in_err-other : goal.returns-in_err-other
 returns-in_err-other c =
     c.from_residual-in_err-other.ensures
     ∙ clash_found (prefix_of c.args.address) c.args.self.now c.in_ok-first.first None
-      (sym c.in_ok-first.was ∙ c.first_match.ensures) (sym c.in_err-other.was ∙ c.first_elsewhere.ensures)
+    (sym c.in_ok-first.was ∙ c.first_match.ensures) (sym c.in_err-other.was ∙ c.first_elsewhere.ensures)
 
 pub returns : goal.returns
 returns c =
     clash_found (prefix_of c.args.address) c.args.self.now c.in_ok-first.first (Some c.in_ok-other.other)
-      (sym c.in_ok-first.was ∙ c.first_match.ensures) (sym c.in_ok-other.was ∙ c.first_elsewhere.ensures)
+    (sym c.in_ok-first.was ∙ c.first_match.ensures) (sym c.in_ok-other.was ∙ c.first_elsewhere.ensures)

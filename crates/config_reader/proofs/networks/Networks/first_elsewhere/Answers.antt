@@ -13,14 +13,14 @@ pub loop-length-preserved : goal.loop-length-preserved
 loop-length-preserved c =
     c.lesser-shorter.ensures
     ∙ next_elsewhere c.loop-length.length c.args.address.address c.args.area c.args.self.now c.loop-length.shorter c.other_of.result c.loop-length.invariant
-      (c.other_of.ensures ∙ ap (λ k. first_at 0 (λ w. names_prefix k w && is_elsewhere c.args.area w) c.args.self.now) c.prefix_at-prefix.ensures)
+    (c.other_of.ensures ∙ ap (λ k. first_at 0 (λ w. names_prefix k w && is_elsewhere c.args.area w) c.args.self.now) c.prefix_at-prefix.ensures)
 
 pub returns : goal.returns
 returns c =
     let at_end : c.loop-length.length ≡ c.args.address.length = omega (arith, c.loop-length-test.false, c.loop-length.auto.length-end) in
     c.lesser.ensures
     ∙ next_elsewhere c.args.address.length c.args.address.address c.args.area c.args.self.now c.loop-length.shorter c.other_of-longest.result
-      (c.loop-length.invariant ∙ ap (λ n. first_at 0 (λ w. covers_below n c.args.address.address w && is_elsewhere c.args.area w) c.args.self.now) at_end)
-      (c.other_of-longest.ensures ∙ ap (λ k. first_at 0 (λ w. names_prefix k w && is_elsewhere c.args.area w) c.args.self.now) c.prefix_at.ensures)
+    (c.loop-length.invariant ∙ ap (λ n. first_at 0 (λ w. covers_below n c.args.address.address w && is_elsewhere c.args.area w) c.args.self.now) at_end)
+    (c.other_of-longest.ensures ∙ ap (λ k. first_at 0 (λ w. names_prefix k w && is_elsewhere c.args.area w) c.args.self.now) c.prefix_at.ensures)
     ∙ first_same 0 (λ w. covers_below (c.args.address.length + 1) c.args.address.address w && is_elsewhere c.args.area w) (λ w. covers (prefix_of c.args.address) w && is_elsewhere c.args.area w) c.args.self.now
-      (λ w. ap (λ b. b && is_elsewhere c.args.area w) (covers_all (prefix_of c.args.address) w))
+    (λ w. ap (λ b. b && is_elsewhere c.args.area w) (covers_all (prefix_of c.args.address) w))

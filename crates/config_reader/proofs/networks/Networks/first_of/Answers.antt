@@ -8,9 +8,9 @@ pub returns-in_err-lines : goal.returns-in_err-lines
 returns-in_err-lines c =
     c.from_residual.ensures
     ∙ first_lacks c.args.prefix c.args.self.now
-      (ap option_copied (sym c.in_err-lines.was) ∙ c.get.ensures.value ∙ c.self.invariant c.args.prefix ∙ ap (lines_of c.args.prefix) c.self.view_is)
+    (ap option_copied (sym c.in_err-lines.was) ∙ c.get.ensures.value ∙ c.self.invariant c.args.prefix ∙ ap (lines_of c.args.prefix) c.self.view_is)
 
 pub returns : goal.returns
 returns c =
     first_found c.args.prefix c.args.self.now c.in_ok-lines.lines.now
-      (ap option_copied (sym c.in_ok-lines.was) ∙ c.get.ensures.value ∙ c.self.invariant c.args.prefix ∙ ap (lines_of c.args.prefix) c.self.view_is)
+    (ap option_copied (sym c.in_ok-lines.was) ∙ c.get.ensures.value ∙ c.self.invariant c.args.prefix ∙ ap (lines_of c.args.prefix) c.self.view_is)
