@@ -8,7 +8,8 @@ use Rattle.text_lines.specs.Numbers.{split}
 use Rattle.evidence_text.specs.Parts.{part_word, tree_line}
 use Rattle.evidence_text.specs.declared.TreePart.{TreePart}
 use Rattle.evidence_text.specs.declared.TreePart.TheVariants.{Proof, Unfinished}
-use Rattle.evidence_text.proofs.SpacedWords.{IsSpaceless, spaceless-from, decimal-spaceless, numbers-spaceless, to-words}
+use Rattle.evidence_text.specs.Words.{IsSpaceless}
+use Rattle.evidence_text.proofs.SpacedWords.{spaceless-from, decimal-spaceless, numbers-spaceless, to-words}
 
 part-spaceless : (part : TreePart) → IsSpaceless (part_word part)
 part-spaceless Proof = spaceless-from (codes "proof") refl

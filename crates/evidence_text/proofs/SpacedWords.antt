@@ -11,11 +11,8 @@ use Rattle.text_lines.specs.Lines.{grow}
 use Rattle.text_lines.specs.Numbers.{split}
 use Rattle.text_lines.proofs.Pieces.{split-some}
 use Rattle.text_lines.proofs.WordLaws.{decimal-word}
+use Rattle.evidence_text.specs.Words.{IsSpaceless}
 use Rattle.evidence_text.proofs.LineFronts.{split-front}
-
--- no byte is a space
-abbrev pub IsSpaceless : List ℕ → Type 0
-IsSpaceless w = All (λ c. eqb c 32 ≡ false) w
 
 not_space : (c : ℕ) → ends_a_word c ≡ false → eqb c 32 ≡ false
 not_space c h =
