@@ -37,6 +37,11 @@ extends-some : (begun k n : ℕ) → 0 < begun → Extends begun k n → 0 < n
 extends-some begun zero n some is = omega (arith, is.0)
 extends-some begun (suc k) n some is = omega (arith, extends-some begun k (n / 10) some (extends-tenth begun k n is))
 
+-- a number that extends another is no less
+pub extends-le : (begun k n : ℕ) → Extends begun k n → begun ≤ n
+extends-le begun zero n is = omega (arith, is.0)
+extends-le begun (suc k) n is = omega (arith, extends-le begun k (n / 10) (extends-tenth begun k n is))
+
 -- 39 digits more are too many
 pub too_many_digits : (begun k n : ℕ) → 0 < begun → 39 ≤ k → n < 2 ^ 128 → Extends begun k n → ⊥
 too_many_digits begun k n some many small is =
@@ -154,10 +159,6 @@ pub missing_none : (numbers : Numbers) (word : List ℕ) → word ≢ [] → ((n
 missing_none numbers word some none = λ more number.
     let cut = cut_number (length more) number.0 word more refl (sym number.2) some in
     none cut.number (omega (arith, extends-le cut.number (length more) number.0 cut.extends, number.1.greatest)) cut.is
-  where
-    extends-le : (begun k n : ℕ) → Extends begun k n → begun ≤ n
-    extends-le begun zero n is = omega (arith, is.0)
-    extends-le begun (suc k) n is = omega (arith, extends-le begun k (n / 10) (extends-tenth begun k n is))
 
 -- what a search for the digits behind a positive number found
 abbrev FoundDigits : Numbers → ℕ → Option ℕ → Type 0

@@ -185,7 +185,9 @@ step_behind word spaceless b v vs n least first None (inr tight) = λ more w ws 
     omega (arith, on.few, tight.1)
 
 alone_is : (word : List ℕ → Type 0) (ps : List (List ℕ)) → Alone word ps → (w : List ℕ) × word w × (ps ≡ w ∷ [])
+alone_is word [] is = absurd is
 alone_is word (w ∷ []) is = (w, is, refl)
+alone_is word (w ∷ (v ∷ vs)) is = absurd is
 
 -- a line that may not end with a word
 pub last_never : (word : List ℕ → Type 0) (text v : List ℕ) (vs : List (List ℕ)) (room : ℕ) → split 32 text ≡ v ∷ vs → Never word v → IsTrue false ↔ GoesOn (Alone word) text room

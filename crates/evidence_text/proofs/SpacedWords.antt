@@ -42,7 +42,7 @@ numbers-spaceless [] = All-nil IsSpaceless
 numbers-spaceless (n ∷ ns) = All-cons IsSpaceless (decimal n) (map decimal ns) (decimal-spaceless n) (numbers-spaceless ns)
 
 -- a word without spaces is its only piece
-split-alone : (w : List ℕ) → IsSpaceless w → split 32 w ≡ w ∷ []
+pub split-alone : (w : List ℕ) → IsSpaceless w → split 32 w ≡ w ∷ []
 split-alone [] whole = refl
 split-alone (c ∷ cs) whole =
     let other : eqb c 32 ≡ false = All-head (λ x. eqb x 32 ≡ false) c cs whole in

@@ -1,4 +1,4 @@
-use Rattle.std.proofs.Common.{◌≡◌, List, ℕ}
+use Rattle.std.proofs.Common.{◌≡◌, length}
 use Rattle.evidence_text.proofs.BegunWords.{no_step, step_behind, never_name, least_name, name-spaceless}
 use Rattle.evidence_text.proofs.begun_line.Begun.name.Goals as goal
 
@@ -9,5 +9,5 @@ returns-in_err-missing c =
 
 pub returns : goal.returns
 returns c =
-    step_behind (λ w. w ≡ c.args.wanted.now) (name-spaceless c.args.wanted.now c.requires) c.args.self c.first_word.result.now c.first_word.ensures.0 c.behind.missing
-    ? c.first_word.ensures.1 c.behind.result c.behind.ensures
+    step_behind (λ w. w ≡ c.args.wanted.now) (name-spaceless c.args.wanted.now c.requires) c.args.self c.first_word.result.now c.first_word.ensures.0 (length c.in_ok-missing.missing.now)
+    (least_name c.args.wanted.now c.first_word.result.now c.in_ok-missing.missing.now c.in_ok-missing.ensures) c.first_word.ensures.1 c.behind.result c.behind.ensures
