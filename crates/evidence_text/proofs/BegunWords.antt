@@ -45,12 +45,12 @@ word_behind text w rest more parts spaceless =
     ap (λ l. split 32 (l ++ more)) parts ∙ ap (split 32) (append_assoc w (32 ∷ rest) more) ∙ split-front 32 w (rest ++ more) spaceless
 
 -- a text's pieces
-record Cut (text : List ℕ) : Type 0 where
-  w : List ℕ
-  ws : List (List ℕ)
-  is : split 32 text ≡ w ∷ ws
+pub record Cut (text : List ℕ) : Type 0 where
+  pub w : List ℕ
+  pub ws : List (List ℕ)
+  pub is : split 32 text ≡ w ∷ ws
 
-cut_of : (text : List ℕ) → Cut text
+pub cut_of : (text : List ℕ) → Cut text
 cut_of text = cases (split 32 text) refl
   where
     cases : (ps : List (List ℕ)) → split 32 text ≡ ps → Cut text

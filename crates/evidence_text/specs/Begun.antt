@@ -5,6 +5,7 @@ use Rattle.text_lines.specs.Numbers.{split}
 use Rattle.whole_numbers.specs.Fractions.{gcd}
 use Rattle.cost_base.specs.declared.Ratio.{Ratio}
 use Rattle.cost_base.specs.declared.StepName.{StepName}
+use Rattle.cost_base.specs.declared.StepName.TheVariants.{Mul, Div, Lcm, Scale}
 use Rattle.path_rows.specs.declared.tree.Side.{Side}
 use Rattle.path_rows.specs.declared.tree.Member.{Member}
 use Rattle.path_rows.specs.declared.tree.Entry.{Entry}
@@ -14,9 +15,13 @@ use Rattle.evidence_text.specs.Words.{SaysEntry}
 use Rattle.evidence_text.specs.declared.begun_line.Begun.{Begun}
 use Rattle.evidence_text.specs.declared.begun_numbers.Numbers.{Numbers}
 
--- words of a kind go on with a begun line, in the room that it has
+-- with some bytes more, for which there is room, a text has words of a kind
 abbrev pub GoesOn : (List (List ℕ) → Type 0) → List ℕ → ℕ → Type 0
 GoesOn said text room = (more : List ℕ) × said (split 32 (text ++ more)) × (length more ≤ room)
+
+-- in the room that it has, a begun line may become one of these words
+abbrev pub Becomes : (List (List ℕ) → Type 0) → Begun → Type 0
+Becomes said line = GoesOn said line.text.now line.room
 
 -- a word, and then words
 abbrev pub Then : (List ℕ → Type 0) → (List (List ℕ) → Type 0) → List (List ℕ) → Type 0
@@ -82,6 +87,12 @@ IsSide w = (side : Side) × (w ≡ side_word side)
 abbrev pub IsStepWord : List ℕ → Type 0
 IsStepWord w = (step : StepName) × (w ≡ step_word step)
 
+abbrev pub IsEitherStep : StepName → StepName → List ℕ → Type 0
+IsEitherStep first second w = (w ≡ step_word first) ⊎ (w ≡ step_word second)
+
+abbrev pub IsLaterStep : List ℕ → Type 0
+IsLaterStep w = IsEitherStep Mul Div w ⊎ IsEitherStep Lcm Scale w
+
 abbrev pub vars : Numbers
 vars = range 0 4294967295
 
@@ -124,12 +135,12 @@ RefuteWords ws = Then (λ w. w ≡ codes "refute") (PartsWords 0) ws
 abbrev pub MemberWords : List (List ℕ) → Type 0
 MemberWords ws = (member : Member) × BoundsMember member × (ws ≡ member_words member)
 
--- the member of a row, and that of a bound at a side
+-- the member of a row, and what follows the side of a bound
 abbrev pub RowWords : List (List ℕ) → Type 0
 RowWords ws = Then (λ w. w ≡ codes "row") (Alone (IsNumber (rows_from 0))) ws
 
-abbrev pub EndWords : Side → List (List ℕ) → Type 0
-EndWords side ws = Then (λ w. w ≡ side_word side) (Then (IsNumber vars) (Alone (IsNumber values))) ws
+abbrev pub EndWords : List (List ℕ) → Type 0
+EndWords ws = Then (IsNumber vars) (Alone (IsNumber values)) ws
 
 abbrev pub MembersWords : List (List ℕ) → Type 0
 MembersWords ws = (members : List Member) × (members ≢ []) × All BoundsMember members × (ws ≡ members_words members)
@@ -140,6 +151,16 @@ BasisWords ws = Then IsRatio (Then IsRatio MembersWords) ws
 
 abbrev pub HalveWords : List (List ℕ) → Type 0
 HalveWords ws = Then (λ w. w ≡ codes "halve") (Then (IsNumber vars) (Then (IsNumber values) (Then IsStepWord BasisWords))) ws
+
+-- entries without a subtree, with two, and with one or two
+abbrev pub LeafWords : List (List ℕ) → Type 0
+LeafWords ws = RefuteWords ws ⊎ OpenWords ws
+
+abbrev pub PartingWords : List (List ℕ) → Type 0
+PartingWords ws = SplitWords ws ⊎ HalveWords ws
+
+abbrev pub ParentWords : List (List ℕ) → Type 0
+ParentWords ws = TightenWords ws ⊎ PartingWords ws
 
 abbrev pub EntryWords : List (List ℕ) → Type 0
 EntryWords ws = (entry : Entry) × SaysEntry ws entry

@@ -3,7 +3,7 @@ ghost use Rattle.std.specs.Prelude.{◌≡◌, ◌≢◌, ◌+◌, ◌^◌, ◌<
 ghost use Rattle.text_lines.specs.Numbers.{split};
 ghost use Rattle.whole_numbers.specs.Fractions.{gcd};
 ghost use Rattle.evidence_text.specs.Words.{IsSpaceless};
-ghost use Rattle.evidence_text.specs.Begun.{IsStep, IsNoStep, GoesOn, Alone, IsNumber, IsRatio};
+ghost use Rattle.evidence_text.specs.Begun.{IsStep, IsNoStep, Becomes, Alone, IsNumber, IsRatio};
 
 use crate::begun_numbers::{Numbers, missing_digits};
 use crate::begun_ratio::missing_of_ratio;
@@ -30,7 +30,7 @@ impl<'a> Begun<'a> {
     /// Whether the line may end with this name.
     pub(crate) fn last_name(self, wanted: &[u8]) -> bool
         requires { IsSpaceless wanted.now }
-        ensures { IsTrue result ↔ GoesOn (Alone (λ w. w ≡ wanted.now)) self.entry.text.now self.entry.room }
+        ensures { IsTrue result ↔ Becomes (Alone (λ w. w ≡ wanted.now)) self.entry }
     {
         match after(wanted, self.first_word()) {
             Some(missing) => self.ends(missing.len()),
@@ -52,7 +52,7 @@ impl<'a> Begun<'a> {
     pub(crate) fn last_number(self, numbers: Numbers) -> bool
         requires coprime { gcd numbers.coprime_to numbers.least ≡ 1 }
         requires fits { numbers.greatest < 2 ^ 128 }
-        ensures { IsTrue result ↔ GoesOn (Alone (IsNumber numbers)) self.entry.text.now self.entry.room }
+        ensures { IsTrue result ↔ Becomes (Alone (IsNumber numbers)) self.entry }
     {
         match missing_digits(self.first_word(), numbers) {
             Some(missing) => self.ends(missing),
