@@ -22,7 +22,12 @@ use Rattle.evidence_text.specs.Grammar.{Place, AtTree}
 use Rattle.evidence_text.specs.Refusals.{IsLawful}
 use Rattle.evidence_text.specs.Places.{Begins}
 use Rattle.evidence_text.specs.Words.{entry_words, SaysEntry}
-use Rattle.evidence_text.specs.Begun.{GoesOn, Then, Alone, IsAmong, IsNumber, IsSide, IsStepWord, IsEitherStep, IsLaterStep, IsRatio, range, vars, values, rows_from, multipliers, IsRising, OpenWords, SplitWords, BoundWords, TightenWords, PartsWords, RefuteWords, RowWords, EndWords, MemberWords, MembersWords, BasisWords, HalveWords, EntryWords}
+use Rattle.evidence_text.specs.Begun.{GoesOn, Then, Alone, IsAmong, IsNumber, IsSide, IsStepWord, IsEitherStep, IsLaterStep, IsRatio, range, vars, values, rows_from, multipliers, IsRising, OpenWords, SplitWords, BoundWords, TightenWords, LeafWords, ParentWords, PartsWords, RefuteWords, RowWords, EndWords, MemberWords, MembersWords, BasisWords, HalveWords, EntryWords}
+use Rattle.path_rows.specs.Trees.{subtree_count}
+use Rattle.evidence_text.proofs.BegunWords.{alone_is}
+use Rattle.evidence_text.proofs.EntryWords.{entry_line-words}
+use Rattle.evidence_text.proofs.LineEntries.{pieces-entry}
+use Rattle.evidence_text.proofs.SpacedWords.{spaced-split}
 use Rattle.evidence_text.proofs.Chains.{head-is, tail-is, not-both}
 
 -- a number up to the greatest of a range
@@ -139,3 +144,172 @@ member_kinds ws is = cases is.0 is.1 is.2
     cases (High v b) bounds e =
         inr (subst (Then IsSide EndWords) (sym e) ((HighSide, refl), ((v, upto 4294967295 v (omega (arith, bounds.0)), refl), (b, upto 65535 b (omega (arith, bounds.1)), refl))))
     cases (Row row) bounds e = inl (subst RowWords (sym e) (refl, (row, upto 18446744073709551615 row (omega (arith, bounds)), refl)))
+
+-- the first word of words, and those behind it
+record FirstOf (word : List ℕ → Type 0) (said : List (List ℕ) → Type 0) (ws : List (List ℕ)) : Type 0 where
+  w : List ℕ
+  rest : List (List ℕ)
+  first : word w
+  left : said rest
+  is : ws ≡ w ∷ rest
+
+first_of : (word : List ℕ → Type 0) (said : List (List ℕ) → Type 0) (ws : List (List ℕ)) → Then word said ws → FirstOf word said ws
+first_of word said [] is = absurd is
+first_of word said (w ∷ ws) is = record { w = w; rest = ws; first = is.0; left = is.1; is = refl }
+
+joined : (ws rest vs : List (List ℕ)) (w v : List ℕ) → ws ≡ w ∷ rest → w ≡ v → rest ≡ vs → ws ≡ v ∷ vs
+joined ws rest vs w v is same left = is ∙ ap (λ x. x ∷ rest) same ∙ ap (λ l. v ∷ l) left
+
+pub row_member : (ws : List (List ℕ)) → RowWords ws → MemberWords ws
+row_member ws is =
+    let name = first_of (λ w. w ≡ codes "row") (Alone (IsNumber (rows_from 0))) ws is in
+    let row = alone_is (IsNumber (rows_from 0)) name.rest name.left in
+    (Row row.1.0, omega (arith, row.1.1.greatest), joined ws name.rest (decimal row.1.0 ∷ []) name.w (codes "row") name.is name.first (row.2 ∙ ap (λ w. w ∷ []) row.1.2))
+
+pub bound_member : (ws : List (List ℕ)) → Then IsSide EndWords ws → MemberWords ws
+bound_member ws is =
+    let name = first_of IsSide EndWords ws is in
+    let var = first_of (IsNumber vars) (Alone (IsNumber values)) name.rest name.left in
+    let value = alone_is (IsNumber values) var.rest var.left in
+    let numbers : name.rest ≡ decimal var.first.0 ∷ decimal value.1.0 ∷ [] =
+    joined name.rest var.rest (decimal value.1.0 ∷ []) var.w (decimal var.first.0) var.is var.first.2 (value.2 ∙ ap (λ w. w ∷ []) value.1.2) in
+    member name.first.0 var.first.0 value.1.0 (omega (arith, var.first.1.greatest)) (omega (arith, value.1.1.greatest))
+    (joined ws name.rest (decimal var.first.0 ∷ decimal value.1.0 ∷ []) name.w (side_word name.first.0) name.is name.first.1 numbers)
+  where
+    member : (side : Side) (v b : ℕ) → IsThing v → IsCost b → ws ≡ side_word side ∷ decimal v ∷ decimal b ∷ [] → MemberWords ws
+    member LowSide v b small few e = (Low v b, (small, few), e)
+    member HighSide v b small few e = (High v b, (small, few), e)
+
+-- words of an entry, by its subtrees
+pub entry_kinds : (ws : List (List ℕ)) → EntryWords ws → LeafWords ws ⊎ ParentWords ws
+entry_kinds ws is = cases is.0 is.1.bounds is.1.fits is.1.is
+  where
+    cases : (entry : Entry) → BoundsEntry entry → FitsEntry entry → ws ≡ entry_words entry → LeafWords ws ⊎ ParentWords ws
+    cases (Tighten v side b row) bounds fits e =
+        let var : IsNumber vars (decimal v) = (v, upto 4294967295 v (omega (arith, bounds.0)), refl) in
+        let value : IsNumber values (decimal b) = (b, upto 65535 b (omega (arith, bounds.1)), refl) in
+        let last : IsNumber (rows_from 0) (decimal row) = (row, upto 18446744073709551615 row (omega (arith, bounds.2)), refl) in
+        let name : IsSide (side_word side) = (side, refl) in
+        inr (inl (subst TightenWords (sym e) (refl, (var, (name, (value, last))))))
+    cases (Split v b) bounds fits e =
+        let var : IsNumber vars (decimal v) = (v, upto 4294967295 v (omega (arith, bounds.0)), refl) in
+        let value : IsNumber values (decimal b) = (b, upto 65535 b (omega (arith, bounds.1)), refl) in
+        inr (inr (inl (subst SplitWords (sym e) (refl, (var, value)))))
+    cases (Halve v b wide) bounds fits e =
+        let var : IsNumber vars (decimal v) = (v, upto 4294967295 v (omega (arith, bounds.0)), refl) in
+        let value : IsNumber values (decimal b) = (b, upto 65535 b (omega (arith, bounds.1)), refl) in
+        let step : IsStepWord (step_word wide.step) = (wide.step, refl) in
+        let left : IsRatio (ratio_word wide.left) = (wide.left, fits.0, refl) in
+        let right : IsRatio (ratio_word wide.right) = (wide.right, fits.1, refl) in
+        let members : MembersWords (members_words wide.basis) = (wide.basis, fits.2, bounds.2, refl) in
+        inr (inr (inr (subst HalveWords (sym e) (refl, (var, (value, (step, (left, (right, members)))))))))
+    cases (Refute ps) bounds fits e =
+        let parts : PartsWords 0 (part_words ps) = (ps, fits.0, rising-from 0 ps (λ i d within. omega arith) bounds fits.1, refl) in
+        inl (inl (subst RefuteWords (sym e) (refl, parts)))
+    cases Undone bounds fits e = inl (inr (subst OpenWords (sym e) refl))
+
+tighten_entry : (ws : List (List ℕ)) → TightenWords ws → EntryWords ws
+tighten_entry ws is =
+    let name = first_of (λ w. w ≡ codes "tighten") (Then (IsNumber vars) (Then IsSide BoundWords)) ws is in
+    let var = first_of (IsNumber vars) (Then IsSide BoundWords) name.rest name.left in
+    let side = first_of IsSide BoundWords var.rest var.left in
+    let value = first_of (IsNumber values) (Alone (IsNumber (rows_from 0))) side.rest side.left in
+    let row = alone_is (IsNumber (rows_from 0)) value.rest value.left in
+    (
+      Tighten var.first.0 side.first.0 value.first.0 row.1.0,
+      record {
+        bounds = (omega (arith, var.first.1.greatest), omega (arith, value.first.1.greatest), omega (arith, row.1.1.greatest));
+        fits = tt;
+        is =
+            joined ws name.rest _ name.w (codes "tighten") name.is name.first
+            (joined name.rest var.rest _ var.w _ var.is var.first.2
+            (joined var.rest side.rest _ side.w _ side.is side.first.1
+            (joined side.rest value.rest _ value.w _ value.is value.first.2 (row.2 ∙ ap (λ w. w ∷ []) row.1.2))));
+      },
+    )
+
+split_entry : (ws : List (List ℕ)) → SplitWords ws → EntryWords ws
+split_entry ws is =
+    let name = first_of (λ w. w ≡ codes "split") (Then (IsNumber vars) (Alone (IsNumber values))) ws is in
+    let var = first_of (IsNumber vars) (Alone (IsNumber values)) name.rest name.left in
+    let value = alone_is (IsNumber values) var.rest var.left in
+    (
+      Split var.first.0 value.1.0,
+      record {
+        bounds = (omega (arith, var.first.1.greatest), omega (arith, value.1.1.greatest));
+        fits = tt;
+        is = joined ws name.rest _ name.w (codes "split") name.is name.first (joined name.rest var.rest _ var.w _ var.is var.first.2 (value.2 ∙ ap (λ w. w ∷ []) value.1.2));
+      },
+    )
+
+halve_entry : (ws : List (List ℕ)) → HalveWords ws → EntryWords ws
+halve_entry ws is =
+    let name = first_of (λ w. w ≡ codes "halve") (Then (IsNumber vars) (Then (IsNumber values) (Then IsStepWord BasisWords))) ws is in
+    let var = first_of (IsNumber vars) (Then (IsNumber values) (Then IsStepWord BasisWords)) name.rest name.left in
+    let value = first_of (IsNumber values) (Then IsStepWord BasisWords) var.rest var.left in
+    let step = first_of IsStepWord BasisWords value.rest value.left in
+    let left = first_of IsRatio (Then IsRatio MembersWords) step.rest step.left in
+    let right = first_of IsRatio MembersWords left.rest left.left in
+    let members = right.left in
+    (
+      Halve var.first.0 value.first.0 (record { step = step.first.0; left = left.first.0; right = right.first.0; basis = members.0 }),
+      record {
+        bounds = (omega (arith, var.first.1.greatest), omega (arith, value.first.1.greatest), members.2);
+        fits = (left.first.1, right.first.1, members.1);
+        is =
+            joined ws name.rest _ name.w (codes "halve") name.is name.first
+            (joined name.rest var.rest _ var.w _ var.is var.first.2
+            (joined var.rest value.rest _ value.w _ value.is value.first.2
+            (joined value.rest step.rest _ step.w _ step.is step.first.1
+            (joined step.rest left.rest _ left.w _ left.is left.first.2 (joined left.rest right.rest _ right.w _ right.is right.first.2 members.3)))));
+      },
+    )
+
+refute_entry : (ws : List (List ℕ)) → RefuteWords ws → EntryWords ws
+refute_entry ws is =
+    let name = first_of (λ w. w ≡ codes "refute") (PartsWords 0) ws is in
+    let parts = name.left in
+    let rising = rising-to 0 parts.0 parts.2 in
+    (
+      Refute parts.0,
+      record { bounds = rising.bounds; fits = (parts.1, rising.small); is = joined ws name.rest (part_words parts.0) name.w (codes "refute") name.is name.first parts.3 },
+    )
+
+pub leaf_entry : (ws : List (List ℕ)) → LeafWords ws → EntryWords ws
+leaf_entry ws (inl is) = refute_entry ws is
+leaf_entry ws (inr is) =
+    let name = alone_is (λ w. w ≡ codes "open") ws is in
+    (Undone, record { bounds = tt; fits = tt; is = name.2 ∙ ap (λ w. w ∷ []) name.1 })
+
+pub parent_entry : (ws : List (List ℕ)) → ParentWords ws → EntryWords ws
+parent_entry ws (inl is) = tighten_entry ws is
+parent_entry ws (inr (inl is)) = split_entry ws is
+parent_entry ws (inr (inr is)) = halve_entry ws is
+
+-- a lawful tree line, by its words
+pub begins_by_words : (part : TreePart) (places left : ℕ) (rest : List ℕ) (room : ℕ) → length rest + room ≡ 65536 → (r : Bool) → IsTrue r ↔ GoesOn EntryWords rest room → IsTrue r ↔ Begins (AtTree part (suc places) (suc left)) rest
+begins_by_words part places left rest room size r h = (λ is. forth (h.0 is), λ on. h.1 (back on))
+  where
+    forth : GoesOn EntryWords rest room → Begins (AtTree part (suc places) (suc left)) rest
+    forth on =
+        let entry = on.1.0 in
+        let says = on.1.1 in
+        let line : rest ++ on.0 ≡ entry_line entry = sym (spaced-split (rest ++ on.0)) ∙ ap spaced says.is ∙ sym (entry_line-words entry) in
+        (
+          on.0,
+          AtTree part (subtree_count entry + places) left,
+          record { is = record { entry = entry; bounds = says.bounds; fits = says.fits; is = line; leads = refl }; short = omega (arith, size, on.2, length-append rest on.0) },
+        )
+    back : Begins (AtTree part (suc places) (suc left)) rest → GoesOn EntryWords rest room
+    back on =
+        let leads = on.2 in
+        let entry = leads.is.entry in
+        (
+          on.0,
+          (entry, record { bounds = leads.is.bounds; fits = leads.is.fits; is = ap (split 32) (leads.is.is ∙ entry_line-words entry) ∙ pieces-entry entry }),
+          omega (arith, size, leads.short, length-append rest on.0),
+        )
+
+-- a line that is too long begins none
+pub too_long : (part : TreePart) (places left : ℕ) (rest : List ℕ) → 65536 < length rest → IsTrue false ↔ Begins (AtTree part (suc places) (suc left)) rest
+too_long part places left rest long = (λ no. absurd (cc), λ on. absurd (omega (arith, long, on.2.short, length-append rest on.0)))

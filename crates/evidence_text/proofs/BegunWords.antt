@@ -184,7 +184,8 @@ step_behind word spaceless b v vs n least first None (inr tight) = λ more w ws 
     let on = onward word b.text.now more w ws n (subst (λ u. IsLeast word u n) same least) tight.0 is some e in
     omega (arith, on.few, tight.1)
 
-alone_is : (word : List ℕ → Type 0) (ps : List (List ℕ)) → Alone word ps → (w : List ℕ) × word w × (ps ≡ w ∷ [])
+-- one word alone
+pub alone_is : (word : List ℕ → Type 0) (ps : List (List ℕ)) → Alone word ps → (w : List ℕ) × word w × (ps ≡ w ∷ [])
 alone_is word [] is = absurd is
 alone_is word (w ∷ []) is = (w, is, refl)
 alone_is word (w ∷ (v ∷ vs)) is = absurd is

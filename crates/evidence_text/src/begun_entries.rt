@@ -1,5 +1,5 @@
 //! Tree lines of an answer that are begun.
-ghost use Rattle.std.specs.Prelude.{◌≡◌, ◌≢◌, ℕ, ◌+◌, ◌<◌, ◌≤◌, ◌∷◌, ◌++◌, List, MatchOption, IsTrue, ◌↔◌, length};
+ghost use Rattle.std.specs.Prelude.{◌≡◌, ◌≢◌, ℕ, suc, ◌+◌, ◌<◌, ◌≤◌, ◌∷◌, ◌++◌, List, MatchOption, IsTrue, ◌↔◌, length};
 ghost use Rattle.cost_base.specs.Decimal.{decimal};
 ghost use Rattle.path_rows.specs.declared.tree.Member.{Member};
 ghost use Rattle.path_rows.specs.Bounds.{BoundsMember};
@@ -46,7 +46,7 @@ const MULTIPLIERS: Numbers = Numbers {
 
 /// Whether a lawful tree line begins with these bytes.
 pub(crate) fn begins_entry(rest: &[u8]) -> bool
-    ensures { (part : TreePart) (places left : ℕ) → (IsTrue result ↔ Begins (AtTree part (places + 1) (left + 1)) rest.now) }
+    ensures { (part : TreePart) (places left : ℕ) → (IsTrue result ↔ Begins (AtTree part (suc places) (suc left)) rest.now) }
 {
     match LONGEST.checked_sub(rest.len()) {
         Some(room) => becomes_entry(Begun { text: rest, room }),
