@@ -39,8 +39,8 @@ pub goes_as : {first second : List (List ℕ) → Type 0} → ((ws : List (List 
 goes_as {first} {second} to text room on = (on.0, to (split 32 (text ++ on.0)) on.1, on.2)
 
 -- where the first of two tests holds
-pub first_holds : {said first : List (List ℕ) → Type 0} → ((ws : List (List ℕ)) → first ws → said ws) → (text : List ℕ) (room : ℕ) (a : Bool) → a ≡ true → IsTrue a ↔ GoesOn first text room → IsTrue true ↔ GoesOn said text room
-first_holds {said} {first} to text room a is h = (λ _. goes_as to text room (h.0 is), λ _. refl)
+pub first_holds : {said first : List (List ℕ) → Type 0} → ((ws : List (List ℕ)) → first ws → said ws) → (text : List ℕ) (room : ℕ) (a : Bool) → a ≡ true → IsTrue a ↔ GoesOn first text room → IsTrue a ↔ GoesOn said text room
+first_holds {said} {first} to text room a is h = (λ _. goes_as to text room (h.0 is), λ _. is)
 
 -- where the first of two tests fails
 pub first_fails : {said first second : List (List ℕ) → Type 0} → ((ws : List (List ℕ)) → said ws → first ws ⊎ second ws) → ((ws : List (List ℕ)) → second ws → said ws) → (text : List ℕ) (room : ℕ) (a b : Bool) →
@@ -297,12 +297,14 @@ begins_by_words part places left rest room size r h = (λ is. forth (h.0 is), λ
         let line : rest ++ on.0 ≡ entry_line entry = sym (spaced-split (rest ++ on.0)) ∙ ap spaced says.is ∙ sym (entry_line-words entry) in
         (
           on.0,
-          AtTree part (subtree_count entry + places) left,
-          record { is = record { entry = entry; bounds = says.bounds; fits = says.fits; is = line; leads = refl }; short = omega (arith, size, on.2, length-append rest on.0) },
+          (
+            AtTree part (subtree_count entry + places) left,
+            record { is = record { entry = entry; bounds = says.bounds; fits = says.fits; is = line; leads = refl }; short = omega (arith, size, on.2, length-append rest on.0) },
+          ),
         )
     back : Begins (AtTree part (suc places) (suc left)) rest → GoesOn EntryWords rest room
     back on =
-        let leads = on.2 in
+        let leads = on.1.1 in
         let entry = leads.is.entry in
         (
           on.0,
@@ -312,4 +314,4 @@ begins_by_words part places left rest room size r h = (λ is. forth (h.0 is), λ
 
 -- a line that is too long begins none
 pub too_long : (part : TreePart) (places left : ℕ) (rest : List ℕ) → 65536 < length rest → IsTrue false ↔ Begins (AtTree part (suc places) (suc left)) rest
-too_long part places left rest long = (λ no. absurd (cc), λ on. absurd (omega (arith, long, on.2.short, length-append rest on.0)))
+too_long part places left rest long = (λ no. absurd (cc), λ on. absurd (omega (arith, long, on.1.1.short, length-append rest on.0)))

@@ -4,7 +4,7 @@ use Rattle.evidence_text.specs.Begun.{GoesOn, MembersWords}
 use Rattle.evidence_text.proofs.begun_entries.goes_on_with_members.Given as goal
 
 abbrev pub invariant-loop-rest : goal.invariant-loop-rest
-invariant-loop-rest l = GoesOn MembersWords l.text.now l.line.room ↔ GoesOn MembersWords l.line.text.now l.line.room
+invariant-loop-rest l = GoesOn MembersWords l.text l.line.room ↔ GoesOn MembersWords l.line.text.now l.line.room
 
 abbrev pub decreases-loop-rest : goal.decreases-loop-rest
-decreases-loop-rest l = length (split 32 l.text.now)
+decreases-loop-rest l = length (split 32 l.text)
