@@ -1,5 +1,5 @@
 -- Tree lines that are begun.
-use Rattle.std.proofs.Common.{◌≡◌, ◌≢◌, ℕ, zero, suc, ◌+◌, ◌-◌, ◌<◌, ◌≤◌, ◌^◌, List, [], ◌∷◌, ◌++◌, All, length, codes, Bool, true, false, ◌||◌, IsTrue, ◌↔◌, MatchOption, Option, Some, None, Bor, refl, sym, ap, subst, ◌∙◌, arith, inl, inr, append_assoc, append-nil, length-append}
+use Rattle.std.proofs.Common.{◌≡◌, ◌≢◌, ℕ, ◌+◌, ◌<◌, ◌≤◌, List, [], ◌∷◌, ◌++◌, All, length, codes, Bool, false, IsTrue, ◌↔◌, MatchOption, Option, Some, None, Bor, refl, sym, ap, subst, ◌∙◌, arith, inl, inr, append_assoc, append-nil, length-append}
 use Rattle.std.specs.Prelude.{◌⊎◌}
 use Rattle.std.proofs.lemmas.List.Elements.{All-nil, All-cons, All-head, All-tail}
 use Rattle.cost_base.specs.Decimal.{decimal}
@@ -10,7 +10,7 @@ use Rattle.path_rows.specs.Bounds.{BoundsMember}
 use Rattle.path_rows.specs.Text.{spaced, member_words, members_words, part_words}
 use Rattle.text_lines.specs.Numbers.{split}
 use Rattle.text_lines.proofs.Pieces.{split-some}
-use Rattle.evidence_text.specs.Begun.{GoesOn, Then, Alone, IsAmong, IsNumber, rows_from, multipliers, IsRising, PartsWords, MemberWords, MembersWords}
+use Rattle.evidence_text.specs.BegunLines.{GoesOn, Then, Alone, IsAmong, IsNumber, rows_from, multipliers, IsRising, PartsWords, MemberWords, MembersWords}
 use Rattle.evidence_text.proofs.Chains.{head-is, tail-is}
 use Rattle.evidence_text.proofs.LineFronts.{split-front, split-whole}
 use Rattle.evidence_text.proofs.SpacedWords.{split-alone, spaced-split}
@@ -29,7 +29,7 @@ words_before [] text rest more e =
 words_before (w ∷ ws) text rest more e =
     let first = first_word text w (ws ++ split 32 rest) e in
     elim first.parts [
-      inl one ↦ absurd (some_more ws (split 32 rest) (split-some 32 rest) one.0)
+      | inl one ↦ absurd (some_more ws (split 32 rest) (split-some 32 rest) one.0)
       | inr behind ↦ word_behind text w behind.0 more behind.1 first.spaceless ∙ ap (λ l. w ∷ l) (words_before ws behind.0 rest more (sym behind.2))
     ]
 
@@ -64,7 +64,7 @@ one_word w vs text more some e =
     let cut = cut_of text in
     let first = first_word text cut.w cut.ws cut.is in
     elim first.parts [
-      inr behind ↦
+      | inr behind ↦
           let longer = word_behind text cut.w behind.0 more behind.1 first.spaceless in
           let same : w ≡ cut.w = head-is w cut.w vs (split 32 (behind.0 ++ more)) (sym e ∙ longer) in
           inl (behind.0, cut.is ∙ ap (λ l. cut.w ∷ l) behind.2 ∙ ap (λ l. l ∷ split 32 behind.0) (sym same))
@@ -72,7 +72,7 @@ one_word w vs text more some e =
           let alone : split 32 text ≡ text ∷ [] = cut.is ∙ ap (λ l. cut.w ∷ l) one.0 ∙ ap (λ l. l ∷ []) (sym one.1) in
           let grown = grown_word text more w vs alone e in
           elim grown.parts [
-            inl last ↦ absurd (some last.0)
+            | inl last ↦ absurd (some last.0)
             | inr behind ↦
                 inr (
                   grown.grown,
@@ -88,7 +88,7 @@ first_words w (v ∷ ws) vs text more some e =
     let cut = cut_of text in
     let first = first_word text cut.w cut.ws cut.is in
     elim first.parts [
-      inr behind ↦
+      | inr behind ↦
           let longer = word_behind text cut.w behind.0 more behind.1 first.spaceless in
           let same : w ≡ cut.w = head-is w cut.w (v ∷ (ws ++ vs)) (split 32 (behind.0 ++ more)) (sym e ∙ longer) in
           let rest : split 32 (behind.0 ++ more) ≡ v ∷ (ws ++ vs) = tail-is cut.w w (split 32 (behind.0 ++ more)) (v ∷ (ws ++ vs)) (sym longer ∙ e) in
@@ -98,7 +98,7 @@ first_words w (v ∷ ws) vs text more some e =
           let alone : split 32 text ≡ text ∷ [] = cut.is ∙ ap (λ l. cut.w ∷ l) one.0 ∙ ap (λ l. l ∷ []) (sym one.1) in
           let grown = grown_word text more w (v ∷ (ws ++ vs)) alone e in
           elim grown.parts [
-            inl last ↦ absurd (cc)
+            | inl last ↦ absurd (cc)
             | inr behind ↦ begun_before text grown.grown behind.0 more w v ws (v ∷ (ws ++ vs)) e grown.word behind.1 (first_words v ws vs [] behind.0 some (sym behind.2))
           ]
     ]
@@ -112,6 +112,7 @@ member_skip text rest room m bounds e = (λ on. forth on.0 on.1.0 on.1.1 on.1.2 
     forth more (x ∷ xs) some all is within =
         let same : split 32 (rest ++ more) ≡ members_words xs = same_rest m x (split 32 (rest ++ more)) (members_words xs) (sym (words_before (member_words m) text rest more e) ∙ is) in
         (more, (xs, λ none. split-some 32 (rest ++ more) (same ∙ ap members_words none), All-tail BoundsMember x xs all, same), within)
+
     back : (more : List ℕ) (ms : List Member) → All BoundsMember ms → split 32 (rest ++ more) ≡ members_words ms → length more ≤ room → GoesOn MembersWords text room
     back more ms all is within =
         (more, (m ∷ ms, λ none. cc, All-cons BoundsMember m ms bounds all, words_before (member_words m) text rest more e ∙ ap (λ l. member_words m ++ l) is), within)
@@ -128,9 +129,11 @@ member_last text room none r h = (λ is. forth (h.0 is), λ on. h.1 (back on.0 o
   where
     forth : GoesOn MemberWords text room → GoesOn MembersWords text room
     forth on = (on.0, (on.1.0 ∷ [], λ e. cc, All-cons BoundsMember on.1.0 [] on.1.1 (All-nil BoundsMember), on.1.2 ∙ sym (append-nil (member_words on.1.0))), on.2)
+
     ends : (m : Member) (more : List ℕ) → BoundsMember m → length more ≤ room → StandsOrGrows (member_words m) text more → GoesOn MemberWords text room
     ends m more bounds within (inl stands) = absurd (none m stands.0 bounds stands.1)
     ends m more bounds within (inr grows) = (grows.0, (m, bounds, grows.1), omega (arith, grows.2))
+
     back : (more : List ℕ) (ms : List Member) → ms ≢ [] → All BoundsMember ms → split 32 (text ++ more) ≡ members_words ms → length more ≤ room → GoesOn MemberWords text room
     back more [] some all is within = absurd (some refl)
     back more (x ∷ []) some all is within = (more, (x, All-head BoundsMember x [] all, is ∙ append-nil (member_words x)), within)
@@ -145,6 +148,7 @@ part_skip text rest room least row m above among positive e = (λ on. forth on.0
   where
     words : (more : List ℕ) → split 32 (text ++ more) ≡ decimal row ∷ decimal m ∷ split 32 (rest ++ more)
     words more = words_before (decimal row ∷ decimal m ∷ []) text rest more e
+
     forth : (more : List ℕ) (ps : List (ℕ × ℕ)) → ps ≢ [] → IsRising least ps → split 32 (text ++ more) ≡ part_words ps → length more ≤ room → GoesOn (PartsWords (row + 1)) rest room
     forth more [] some rising is within = absurd (some refl)
     forth more (p ∷ ps) some rising is within =
@@ -152,6 +156,7 @@ part_skip text rest room least row m above among positive e = (λ on. forth on.0
         let same : row ≡ p.0 = decimal-same row p.0 (head-is _ _ _ _ both) in
         let left : split 32 (rest ++ more) ≡ part_words ps = tail-is _ _ _ _ (tail-is _ _ _ _ both) in
         (more, (ps, λ none. split-some 32 (rest ++ more) (left ∙ ap part_words none), subst (λ n. IsRising (n + 1) ps) (sym same) rising.2, left), within)
+
     back : (more : List ℕ) (ps : List (ℕ × ℕ)) → IsRising (row + 1) ps → split 32 (rest ++ more) ≡ part_words ps → length more ≤ room → GoesOn (PartsWords least) text room
     back more ps rising is within =
         let here : IsAmong (rows_from least) row = record { least = above; greatest = among.greatest; coprime = among.coprime } in
@@ -174,18 +179,23 @@ part_last text room least none r h = (λ is. forth (h.0 is), λ on. h.1 (back on
   where
     one : List (List ℕ) → Type 0
     one ws = Then (IsNumber (rows_from least)) (Alone (IsNumber multipliers)) ws
+
     said : (ws : List (List ℕ)) → one ws → PartsWords least ws
     said [] is = absurd is
     said (w ∷ []) is = absurd is.1
     said (w ∷ (v ∷ [])) is = ((is.0.0, is.1.0) ∷ [], λ e. cc, (is.0.1, is.1.1, tt), ap (λ l. l ∷ v ∷ []) is.0.2 ∙ ap (λ l. decimal is.0.0 ∷ l ∷ []) is.1.2)
     said (w ∷ (v ∷ (u ∷ us))) is = absurd is.1
+
     forth : GoesOn one text room → GoesOn (PartsWords least) text room
     forth on = (on.0, said (split 32 (text ++ on.0)) on.1, on.2)
+
     from : (row m : ℕ) (ws : List (List ℕ)) → IsAmong (rows_from least) row → IsAmong multipliers m → ws ≡ decimal row ∷ decimal m ∷ [] → one ws
     from row m ws among positive e = subst one (sym e) ((row, among, refl), (m, positive, refl))
+
     ends : (row m : ℕ) (more : List ℕ) → IsAmong (rows_from least) row → IsAmong multipliers m → length more ≤ room → StandsOrGrows (decimal row ∷ decimal m ∷ []) text more → GoesOn one text room
     ends row m more among positive within (inl stands) = absurd (none row m stands.0 (record { least = omega arith; greatest = among.greatest; coprime = among.coprime }) positive stands.1)
     ends row m more among positive within (inr grows) = (grows.0, from row m (split 32 (text ++ grows.0)) among positive grows.1, omega (arith, grows.2))
+
     back : (more : List ℕ) (ps : List (ℕ × ℕ)) → ps ≢ [] → IsRising least ps → split 32 (text ++ more) ≡ part_words ps → length more ≤ room → GoesOn one text room
     back more [] some rising is within = absurd (some refl)
     back more (p ∷ []) some rising is within = (more, from p.0 p.1 (split 32 (text ++ more)) rising.0 rising.1 is, within)

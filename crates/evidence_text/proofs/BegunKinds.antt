@@ -1,5 +1,5 @@
 -- The kinds of begun tree lines.
-use Rattle.std.proofs.Common.{◌≡◌, ◌≢◌, ℕ, zero, suc, ◌+◌, ◌-◌, ◌<◌, ◌≤◌, ◌^◌, List, [], ◌∷◌, ◌++◌, All, AllPairs, length, codes, get_or, Bool, true, false, ◌||◌, IsTrue, ◌↔◌, refl, sym, ap, subst, ◌∙◌, arith, inl, inr, length-append}
+use Rattle.std.proofs.Common.{◌≡◌, ℕ, suc, ◌+◌, ◌<◌, ◌≤◌, ◌^◌, List, [], ◌∷◌, ◌++◌, All, length, codes, Bool, true, false, IsTrue, ◌↔◌, refl, sym, ap, subst, ◌∙◌, arith, inl, inr, length-append}
 use Rattle.std.specs.Prelude.{◌⊎◌}
 use Rattle.std.proofs.lemmas.List.Elements.{All-nil, All-cons, All-head, All-tail, All-weaker}
 use Rattle.std.proofs.lemmas.List.Kept.{AllPairs-cons}
@@ -12,23 +12,21 @@ use Rattle.path_rows.specs.declared.tree.Member.{Member}
 use Rattle.path_rows.specs.declared.tree.Member.TheVariants.{Low, High, Row}
 use Rattle.path_rows.specs.declared.tree.Entry.{Entry}
 use Rattle.path_rows.specs.declared.tree.Entry.TheVariants.{Tighten, Split, Halve, Refute, Undone}
-use Rattle.path_rows.specs.declared.tree.WideAt.{WideAt}
 use Rattle.path_rows.specs.Bounds.{IsThing, IsCost, IsRowNumber, BoundsMember, BoundsParts, BoundsEntry}
 use Rattle.path_rows.specs.Text.{side_word, step_word, ratio_word, member_words, members_words, part_words, entry_line, spaced, FitsEntry}
 use Rattle.text_lines.specs.Numbers.{split}
 use Rattle.whole_numbers.proofs.Divisors.{one-gcd}
 use Rattle.evidence_text.specs.declared.TreePart.{TreePart}
-use Rattle.evidence_text.specs.Grammar.{Place, AtTree}
-use Rattle.evidence_text.specs.Refusals.{IsLawful}
+use Rattle.evidence_text.specs.Grammar.{AtTree}
 use Rattle.evidence_text.specs.Places.{Begins}
-use Rattle.evidence_text.specs.Words.{entry_words, SaysEntry}
-use Rattle.evidence_text.specs.Begun.{GoesOn, Then, Alone, IsAmong, IsNumber, IsSide, IsStepWord, IsEitherStep, IsLaterStep, IsRatio, range, vars, values, rows_from, multipliers, IsRising, OpenWords, SplitWords, BoundWords, TightenWords, LeafWords, ParentWords, PartsWords, RefuteWords, RowWords, EndWords, MemberWords, MembersWords, BasisWords, HalveWords, EntryWords}
+use Rattle.evidence_text.specs.Words.{entry_words}
+use Rattle.evidence_text.specs.BegunLines.{GoesOn, Then, Alone, IsAmong, IsNumber, IsSide, IsStepWord, IsEitherStep, IsLaterStep, IsRatio, range, vars, values, rows_from, IsRising, OpenWords, SplitWords, BoundWords, TightenWords, LeafWords, ParentWords, PartsWords, RefuteWords, RowWords, EndWords, MemberWords, MembersWords, BasisWords, HalveWords, EntryWords}
 use Rattle.path_rows.specs.Trees.{subtree_count}
 use Rattle.evidence_text.proofs.BegunWords.{alone_is}
 use Rattle.evidence_text.proofs.EntryWords.{entry_line-words}
 use Rattle.evidence_text.proofs.LineEntries.{pieces-entry}
 use Rattle.evidence_text.proofs.SpacedWords.{spaced-split}
-use Rattle.evidence_text.proofs.Chains.{head-is, tail-is, not-both}
+use Rattle.evidence_text.proofs.Chains.{not-both}
 
 -- a number up to the greatest of a range
 upto : (greatest n : ℕ) → n ≤ greatest → IsAmong (range 0 greatest) n
@@ -99,12 +97,12 @@ rising-from least (p ∷ ps) above bounds small = (
   record { least = All-head (λ q. least ≤ q.0) p ps above; greatest = omega (arith, All-head (λ q. IsRowNumber q.0) p ps bounds.rows); coprime = one-gcd p.0 },
   record { least = omega (arith, All-head (λ q. 0 < q.1) p ps bounds.positive); greatest = omega (arith, All-head (λ q. q.1 < 10 ^ 31) p ps small); coprime = one-gcd p.1 },
   rising-from (p.0 + 1) ps (λ i d within. omega (arith, bounds.rising 0 (suc i) d (omega arith) (omega arith)))
-  (record {
-    rows = All-tail (λ q. IsRowNumber q.0) p ps bounds.rows;
-    rising = λ i j d before within. bounds.rising (suc i) (suc j) d (omega arith) (omega arith);
-    positive = All-tail (λ q. 0 < q.1) p ps bounds.positive;
-  })
-  (All-tail (λ q. q.1 < 10 ^ 31) p ps small),
+      (record {
+        rows = All-tail (λ q. IsRowNumber q.0) p ps bounds.rows;
+        rising = λ i j d before within. bounds.rising (suc i) (suc j) d (omega arith) (omega arith);
+        positive = All-tail (λ q. 0 < q.1) p ps bounds.positive;
+      })
+      (All-tail (λ q. q.1 < 10 ^ 31) p ps small),
 )
 
 -- what rising rows say of each
@@ -214,8 +212,7 @@ tighten_entry ws is =
     let var = first_of (IsNumber vars) (Then IsSide BoundWords) name.rest name.left in
     let side = first_of IsSide BoundWords var.rest var.left in
     let value = first_of (IsNumber values) (Alone (IsNumber (rows_from 0))) side.rest side.left in
-    let row = alone_is (IsNumber (rows_from 0)) value.rest value.left in
-    (
+    let row = alone_is (IsNumber (rows_from 0)) value.rest value.left in (
       Tighten var.first.0 side.first.0 value.first.0 row.1.0,
       record {
         bounds = (omega (arith, var.first.1.greatest), omega (arith, value.first.1.greatest), omega (arith, row.1.1.greatest));
@@ -232,8 +229,7 @@ split_entry : (ws : List (List ℕ)) → SplitWords ws → EntryWords ws
 split_entry ws is =
     let name = first_of (λ w. w ≡ codes "split") (Then (IsNumber vars) (Alone (IsNumber values))) ws is in
     let var = first_of (IsNumber vars) (Alone (IsNumber values)) name.rest name.left in
-    let value = alone_is (IsNumber values) var.rest var.left in
-    (
+    let value = alone_is (IsNumber values) var.rest var.left in (
       Split var.first.0 value.1.0,
       record {
         bounds = (omega (arith, var.first.1.greatest), omega (arith, value.1.1.greatest));
@@ -250,8 +246,7 @@ halve_entry ws is =
     let step = first_of IsStepWord BasisWords value.rest value.left in
     let left = first_of IsRatio (Then IsRatio MembersWords) step.rest step.left in
     let right = first_of IsRatio MembersWords left.rest left.left in
-    let members = right.left in
-    (
+    let members = right.left in (
       Halve var.first.0 value.first.0 (record { step = step.first.0; left = left.first.0; right = right.first.0; basis = members.0 }),
       record {
         bounds = (omega (arith, var.first.1.greatest), omega (arith, value.first.1.greatest), members.2);
@@ -269,8 +264,7 @@ refute_entry : (ws : List (List ℕ)) → RefuteWords ws → EntryWords ws
 refute_entry ws is =
     let name = first_of (λ w. w ≡ codes "refute") (PartsWords 0) ws is in
     let parts = name.left in
-    let rising = rising-to 0 parts.0 parts.2 in
-    (
+    let rising = rising-to 0 parts.0 parts.2 in (
       Refute parts.0,
       record { bounds = rising.bounds; fits = (parts.1, rising.small); is = joined ws name.rest (part_words parts.0) name.w (codes "refute") name.is name.first parts.3 },
     )
@@ -294,19 +288,18 @@ begins_by_words part places left rest room size r h = (λ is. forth (h.0 is), λ
     forth on =
         let entry = on.1.0 in
         let says = on.1.1 in
-        let line : rest ++ on.0 ≡ entry_line entry = sym (spaced-split (rest ++ on.0)) ∙ ap spaced says.is ∙ sym (entry_line-words entry) in
-        (
+        let line : rest ++ on.0 ≡ entry_line entry = sym (spaced-split (rest ++ on.0)) ∙ ap spaced says.is ∙ sym (entry_line-words entry) in (
           on.0,
           (
             AtTree part (subtree_count entry + places) left,
             record { is = record { entry = entry; bounds = says.bounds; fits = says.fits; is = line; leads = refl }; short = omega (arith, size, on.2, length-append rest on.0) },
           ),
         )
+
     back : Begins (AtTree part (suc places) (suc left)) rest → GoesOn EntryWords rest room
     back on =
         let leads = on.1.1 in
-        let entry = leads.is.entry in
-        (
+        let entry = leads.is.entry in (
           on.0,
           (entry, record { bounds = leads.is.bounds; fits = leads.is.fits; is = ap (split 32) (leads.is.is ∙ entry_line-words entry) ∙ pieces-entry entry }),
           omega (arith, size, leads.short, length-append rest on.0),

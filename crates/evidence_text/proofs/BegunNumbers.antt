@@ -8,7 +8,7 @@ use Rattle.text_lines.proofs.Digits.{decimal-step, decimal-small, decimal_value-
 use Rattle.text_lines.proofs.NumberLaws.{length-decimal-some}
 use Rattle.text_lines.proofs.Printed.{decimal-digits, decimal-begins, decimal_value-decimal, decimal-same}
 use Rattle.whole_numbers.specs.Fractions.{gcd}
-use Rattle.evidence_text.specs.Begun.{Never, IsLeast, IsMissing, IsAmong, IsNumber, Extends}
+use Rattle.evidence_text.specs.BegunLines.{Never, IsMissing, IsAmong, IsNumber, Extends}
 use Rattle.evidence_text.specs.declared.begun_numbers.Numbers.{Numbers}
 use Rattle.evidence_text.proofs.Chains.{head-is, tail-is}
 
@@ -171,10 +171,12 @@ missing_more numbers word begun found is some h = subst (λ w. IsMissing (IsNumb
   where
     digit : decimal begun ≢ []
     digit e = omega (arith, length-decimal-some begun, ap length e)
+
     extended : (more : List ℕ) (n : ℕ) → decimal begun ++ more ≡ decimal n → Extends begun (length more) n
     extended more n e =
         let cut = cut_number (length more) n (decimal begun) more refl (sym e) digit in
         subst (λ b. Extends b (length more) n) (sym (decimal-same begun cut.number cut.is)) cut.extends
+
     cases : (found : Option ℕ) → FoundDigits numbers begun found → IsMissing (IsNumber numbers) (decimal begun) found
     cases None h = λ more number. h (length more) number.0 (extended more number.0 number.2) number.1
     cases (Some count) h =

@@ -1,17 +1,16 @@
 -- Fractions that are begun.
-use Rattle.std.proofs.Common.{◌≡◌, ◌≢◌, ℕ, zero, suc, ◌+◌, ◌<◌, ◌≤◌, ◌^◌, List, [], ◌∷◌, ◌++◌, All, length, eqb, true, false, codes, ℤ, pos, negsuc, nat_abs, MatchOption, Option, Some, None, ◌↔◌, refl, sym, ap, subst, ◌∙◌, arith, append_assoc, append-nil, length-append}
+use Rattle.std.proofs.Common.{◌≡◌, ◌≢◌, ℕ, zero, suc, ◌+◌, ◌<◌, ◌≤◌, ◌^◌, List, [], ◌∷◌, ◌++◌, All, length, eqb, false, codes, ℤ, pos, negsuc, nat_abs, Option, Some, None, ◌↔◌, refl, sym, ap, subst, ◌∙◌, arith, append_assoc, length-append}
 use Rattle.std.proofs.lemmas.Bool.{eq-eqb}
 use Rattle.std.proofs.lemmas.List.Elements.{All-head, All-tail}
 use Rattle.std.specs.List.{list_all}
 use Rattle.cost_base.specs.Decimal.{decimal, is_digit}
-use Rattle.cost_base.specs.declared.Ratio.{Ratio}
-use Rattle.path_rows.specs.Text.{integer, ratio_word, IsPrinted}
+use Rattle.path_rows.specs.Text.{integer}
 use Rattle.text_lines.specs.Numbers.{split}
 use Rattle.text_lines.proofs.NumberLaws.{length-decimal-some}
 use Rattle.text_lines.proofs.Printed.{decimal-digits, decimal-same}
 use Rattle.whole_numbers.specs.Fractions.{gcd}
 use Rattle.whole_numbers.proofs.Divisors.{gcd-one}
-use Rattle.evidence_text.specs.Begun.{Never, IsLeast, IsMissing, IsAmong, IsNumber, IsRatio}
+use Rattle.evidence_text.specs.BegunLines.{Never, IsLeast, IsMissing, IsAmong, IsNumber, IsRatio}
 use Rattle.evidence_text.specs.declared.begun_numbers.Numbers.{Numbers}
 use Rattle.evidence_text.proofs.Chains.{head-is, tail-is, not-both}
 use Rattle.evidence_text.proofs.LineFronts.{split-front, split-whole}
@@ -169,6 +168,7 @@ missing_below word above below z numbers found parts pieces small is among missi
         let around = around_slash word above below more parts pieces ratio in
         let same : around.numerator ≡ z = integer-same around.numerator z (sym around.above_is ∙ is) in
         (around.denominator, (among around.denominator).1 (around.positive, around.fits, ap (λ y. gcd (nat_abs y) around.denominator) (sym same) ∙ around.coprime), around.below_is)
+
     cases : (found : Option ℕ) → IsMissing (IsNumber numbers) below found → IsMissing IsRatio word found
     cases None never = λ more ratio. never more (denominator more ratio)
     cases (Some count) least =

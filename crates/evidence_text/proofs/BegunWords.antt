@@ -1,15 +1,13 @@
 -- Lines that are begun, word by word.
-use Rattle.std.proofs.Common.{◌≡◌, ◌≢◌, ℕ, suc, ◌+◌, ◌<◌, ◌≤◌, List, [], ◌∷◌, ◌++◌, All, length, eqb, Bool, true, false, MatchOption, Option, Some, None, ◌↔◌, IsTrue, refl, sym, ap, subst, ◌∙◌, arith, inl, inr, append_assoc, append-nil, length-append}
+use Rattle.std.proofs.Common.{◌≡◌, ◌≢◌, ℕ, ◌+◌, ◌<◌, ◌≤◌, List, [], ◌∷◌, ◌++◌, length, eqb, Bool, false, MatchOption, Option, Some, None, ◌↔◌, IsTrue, refl, sym, ap, subst, ◌∙◌, arith, inl, inr, append_assoc, append-nil, length-append}
 use Rattle.std.specs.Prelude.{◌⊎◌}
-use Rattle.std.proofs.lemmas.Bool.{true≢false}
-use Rattle.std.proofs.lemmas.List.{append_cancel_left}
 use Rattle.std.proofs.lemmas.List.Elements.{All-head, All-tail}
 use Rattle.path_rows.specs.Text.{spaced}
 use Rattle.text_lines.specs.Lines.{grow}
 use Rattle.text_lines.specs.Numbers.{split}
 use Rattle.text_lines.proofs.Pieces.{split-some}
 use Rattle.evidence_text.specs.Words.{IsSpaceless}
-use Rattle.evidence_text.specs.Begun.{GoesOn, Then, Alone, Never, IsLeast, IsMissing, IsStep, IsNoStep, IsNumber, IsRatio}
+use Rattle.evidence_text.specs.BegunLines.{GoesOn, Then, Alone, Never, IsLeast, IsStep, IsNoStep, IsNumber, IsRatio}
 use Rattle.evidence_text.specs.declared.begun_numbers.Numbers.{Numbers}
 use Rattle.evidence_text.specs.declared.begun_line.Begun.{Begun}
 use Rattle.evidence_text.proofs.Chains.{head-is, tail-is}
@@ -83,7 +81,7 @@ pub grown_first : (text more v w : List ℕ) (vs ws : List (List ℕ)) → split
 grown_first text more v w vs ws first e =
     let whole = first_word text v vs first in
     elim whole.parts [
-      inl one ↦
+      | inl one ↦
           let here = grown_word v more w ws (split-alone v whole.spaceless) (ap (λ l. split 32 (l ++ more)) (sym one.1) ∙ e) in
           record { grown = here.grown; word = here.word }
       | inr more_words ↦
@@ -135,7 +133,7 @@ onward : (word : List ℕ → Type 0) (text more w : List ℕ) (ws : List (List 
 onward word text more w ws n least alone is some e =
     let grown = grown_word text more w ws alone e in
     elim grown.parts [
-      inl one ↦ absurd (some one.0)
+      | inl one ↦ absurd (some one.0)
       | inr behind ↦
           record {
             rest = behind.0;
@@ -155,8 +153,7 @@ step_grown word spaceless b after n least alone empty room = record {
       λ left within.
       let grown : List ℕ = b.text.now ++ least.more in
       let cut : split 32 (b.text.now ++ (least.more ++ 32 ∷ left)) ≡ grown ∷ split 32 left =
-      ap (split 32) (sym (append_assoc b.text.now least.more (32 ∷ left))) ∙ split-front 32 grown left (spaceless grown least.fits) in
-      (
+      ap (split 32) (sym (append_assoc b.text.now least.more (32 ∷ left))) ∙ split-front 32 grown left (spaceless grown least.fits) in (
         least.more ++ 32 ∷ left,
         grown,
         least.fits,
@@ -174,7 +171,7 @@ step_behind word spaceless b v vs n least first (Some after) (inr grown) =
     step_grown word spaceless b after n (subst (λ u. IsLeast word u n) is least) grown.0 grown.1 grown.2
 step_behind word spaceless b v vs n least first None (inl not) = λ more w ws is some e within.
     elim (first_word b.text.now v vs first).parts [
-      inl one ↦ not.0 (first ∙ ap (λ us. v ∷ us) one.0 ∙ ap (λ u. u ∷ []) (sym one.1))
+      | inl one ↦ not.0 (first ∙ ap (λ us. v ∷ us) one.0 ∙ ap (λ u. u ∷ []) (sym one.1))
       | inr behind ↦
           let same : w ≡ v = head-is w v ws (split 32 (behind.0 ++ more)) (sym e ∙ word_behind b.text.now v behind.0 more behind.1 (first_word b.text.now v vs first).spaceless) in
           not.1 (omega (arith, least.least [] (subst word (same ∙ sym (append-nil v)) is)))
@@ -195,9 +192,9 @@ pub last_never : (word : List ℕ → Type 0) (text v : List ℕ) (vs : List (Li
 last_never word text v vs room first never = (
   λ no. absurd (cc),
   λ on.
-  let is = alone_is word (split 32 (text ++ on.0)) on.1 in
-  let grown = grown_first text on.0 v is.0 vs [] first is.2 in
-  absurd (never grown.grown (subst word grown.word is.1)),
+      let is = alone_is word (split 32 (text ++ on.0)) on.1 in
+      let grown = grown_first text on.0 v is.0 vs [] first is.2 in
+      absurd (never grown.grown (subst word grown.word is.1)),
 )
 
 -- a line that may end with a word
@@ -210,15 +207,16 @@ last_word word spaceless text v vs room n first least r h = (λ yes_it. forth (h
         let is : v ≡ text = head-is v text vs [] (sym first ∙ p.0) in
         let fits : word (text ++ least.more) = subst (λ u. word (u ++ least.more)) is least.fits in
         (least.more, subst (Alone word) (sym (split-alone (text ++ least.more) (spaceless (text ++ least.more) fits))) fits, omega (arith, least.count_is, p.1))
+
     back : GoesOn (Alone word) text room → (split 32 text ≡ text ∷ []) × (n ≤ room)
     back on =
         let is = alone_is word (split 32 (text ++ on.0)) on.1 in
         elim (first_word text v vs first).parts [
-          inl one ↦
+          | inl one ↦
               let alone : split 32 text ≡ text ∷ [] = first ∙ ap (λ us. v ∷ us) one.0 ∙ ap (λ u. u ∷ []) (sym one.1) in
               let grown = grown_word text on.0 is.0 [] alone is.2 in
               elim grown.parts [
-                inl here ↦ (alone, omega (arith, least.least grown.grown (subst word (grown.word ∙ ap (λ u. u ++ grown.grown) one.1) is.1), ap length here.1, on.2))
+                | inl here ↦ (alone, omega (arith, least.least grown.grown (subst word (grown.word ∙ ap (λ u. u ++ grown.grown) one.1) is.1), ap length here.1, on.2))
                 | inr behind ↦ absurd (split-some 32 behind.0 (sym behind.2))
               ]
           | inr behind ↦
@@ -231,9 +229,9 @@ pub stops : (word : List ℕ → Type 0) (said : List (List ℕ) → Type 0) (b 
 stops word said b none some = (
   λ no. absurd (cc),
   λ on.
-  let cut = cut_of (b.text.now ++ on.0) in
-  let says : Then word said (cut.w ∷ cut.ws) = subst (Then word said) cut.is on.1 in
-  absurd (none on.0 cut.w cut.ws says.0 (λ e. some (subst said e says.1)) cut.is on.2),
+      let cut = cut_of (b.text.now ++ on.0) in
+      let says : Then word said (cut.w ∷ cut.ws) = subst (Then word said) cut.is on.1 in
+      absurd (none on.0 cut.w cut.ws says.0 (λ e. some (subst said e says.1)) cut.is on.2),
 )
 
 -- a line that goes on with a word and what follows it
@@ -245,6 +243,7 @@ goes word said b after step some r h = (λ yes_it. forth (h.0 yes_it), λ on. h.
     forth on =
         let to = step.back on.0 on.2 in
         (to.0, subst (Then word said) (sym to.3) (to.2, on.1), to.4)
+
     back : GoesOn (Then word said) b.text.now b.room → GoesOn said after.text.now after.room
     back on =
         let cut = cut_of (b.text.now ++ on.0) in

@@ -1,5 +1,5 @@
 -- Tree lines by their words.
-use Rattle.std.proofs.Common.{◌≡◌, ◌≢◌, ℕ, ◌+◌, List, [], ◌∷◌, ◌++◌, All, codes, eqb, false, ℤ, pos, negsuc, MatchOption, Option, Some, None, refl, sym, ap, ◌∙◌}
+use Rattle.std.proofs.Common.{◌≡◌, ◌≢◌, ℕ, ◌+◌, List, [], ◌∷◌, All, codes, eqb, false, ℤ, pos, negsuc, MatchOption, Option, Some, None, refl, sym, ap, ◌∙◌}
 use Rattle.std.proofs.lemmas.List.Elements.{All-nil, All-cons, All-append}
 use Rattle.cost_base.specs.Decimal.{decimal}
 use Rattle.cost_base.specs.declared.Ratio.{Ratio}
@@ -12,7 +12,7 @@ use Rattle.path_rows.specs.declared.tree.Member.TheVariants.{Low, High, Row}
 use Rattle.path_rows.specs.declared.tree.Entry.{Entry}
 use Rattle.path_rows.specs.declared.tree.Entry.TheVariants.{Tighten, Split, Halve, Refute, Undone}
 use Rattle.path_rows.specs.Bounds.{BoundsEntry}
-use Rattle.path_rows.specs.Text.{spaced, integer, side_word, step_word, ratio_word, member_words, members_words, part_words, entry_line, FitsEntry}
+use Rattle.path_rows.specs.Text.{spaced, integer, side_word, step_word, ratio_word, members_words, part_words, entry_line, FitsEntry}
 use Rattle.text_lines.specs.Numbers.{split}
 use Rattle.evidence_text.specs.Words.{IsSpaceless, entry_words, SaysEntry, SaysNoEntry}
 use Rattle.evidence_text.proofs.EntryWords.{entry_line-words}

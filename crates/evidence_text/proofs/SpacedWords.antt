@@ -1,9 +1,9 @@
 -- Lines of words without spaces, cut at their spaces.
-use Rattle.std.proofs.Common.{◌≡◌, ◌≢◌, ℕ, List, [], ◌∷◌, ◌++◌, All, eqb, ◌||◌, Bool, cond, true, false, map, codes, refl, sym, ap, ◌∙◌}
+use Rattle.std.proofs.Common.{◌≡◌, ℕ, List, [], ◌∷◌, All, eqb, ◌||◌, Bool, cond, true, false, map, refl, sym, ap, ◌∙◌}
 use Rattle.std.proofs.lemmas.Bool.{or_parts, eqb-true, and_parts, true≢false}
 use Rattle.std.proofs.lemmas.List.Elements.{All-nil, All-cons, All-head, All-tail, All-weaker}
-use Rattle.std.specs.List.{list_all, join_with_byte}
-use Rattle.std.specs.Prelude.{not, ◌&&◌}
+use Rattle.std.specs.List.{list_all}
+use Rattle.std.specs.Prelude.{not}
 use Rattle.cost_base.specs.Words.{is_blank, ends_a_word, IsOneWord}
 use Rattle.cost_base.specs.Decimal.{decimal}
 use Rattle.path_rows.specs.Text.{spaced}

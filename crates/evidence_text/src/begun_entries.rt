@@ -8,12 +8,14 @@ ghost use Rattle.text_lines.specs.Numbers.{split};
 ghost use Rattle.evidence_text.specs.declared.TreePart.{TreePart};
 ghost use Rattle.evidence_text.specs.Grammar.{AtTree};
 ghost use Rattle.evidence_text.specs.Places.{Begins};
-ghost use Rattle.evidence_text.specs.Begun.{Becomes, Then, Alone, IsAmong, IsNumber, IsSide, IsStepWord, IsEitherStep, IsLaterStep, rows_from, multipliers, LeafWords, ParentWords, PartingWords, SplitWords, BoundWords, TightenWords, PartsWords, RefuteWords, RowWords, EndWords, MemberWords, MembersWords, BasisWords, HalveWords, EntryWords};
+ghost use Rattle.evidence_text.specs.BegunLines.{Becomes, Then, Alone, IsAmong, IsNumber, IsSide, IsStepWord, IsEitherStep, IsLaterStep, rows_from, multipliers, LeafWords, ParentWords, PartingWords, SplitWords, BoundWords, TightenWords, PartsWords, RefuteWords, RowWords, EndWords, MemberWords, MembersWords, BasisWords, HalveWords, EntryWords};
 
 use crate::begun_line::Begun;
 use crate::begun_numbers::Numbers;
 use crate::lines::{side_word, step_word};
-use crate::read_entries::{GREATEST_MULTIPLIER, GREATEST_ROW, GREATEST_VALUE, GREATEST_VAR, member_of, part_of};
+use crate::read_entries::{
+    GREATEST_MULTIPLIER, GREATEST_ROW, GREATEST_VALUE, GREATEST_VAR, member_of, part_of,
+};
 use crate::words::Pieces;
 use path_rows::{Side, StepName};
 
@@ -148,7 +150,13 @@ fn goes_on_with_parts(line: Begun<'_>) -> bool
         least = u128::from(row) + 1;
         text = rest;
     }
-    ends_with_part(Begun { text, room: line.room }, least)
+    ends_with_part(
+        Begun {
+            text,
+            room: line.room,
+        },
+        least,
+    )
 }
 
 /// The row of the next two words, and the text behind them, where there is one.
@@ -238,7 +246,10 @@ fn goes_on_with_members(line: Begun<'_>) -> bool
     while let Some(rest) = behind_member(text) {
         text = rest;
     }
-    ends_with_member(Begun { text, room: line.room })
+    ends_with_member(Begun {
+        text,
+        room: line.room,
+    })
 }
 
 /// The text behind the next member of a basis, where there is one.

@@ -3,7 +3,7 @@ ghost use Rattle.std.specs.Prelude.{◌≡◌, ◌≢◌, ◌+◌, ◌^◌, ◌<
 ghost use Rattle.text_lines.specs.Numbers.{split};
 ghost use Rattle.whole_numbers.specs.Fractions.{gcd};
 ghost use Rattle.evidence_text.specs.Words.{IsSpaceless};
-ghost use Rattle.evidence_text.specs.Begun.{IsStep, IsNoStep, Becomes, Alone, IsNumber, IsRatio};
+ghost use Rattle.evidence_text.specs.BegunLines.{IsStep, IsNoStep, Becomes, Alone, IsNumber, IsRatio};
 
 use crate::begun_numbers::{Numbers, missing_digits};
 use crate::begun_ratio::missing_of_ratio;
@@ -83,7 +83,7 @@ impl<'a> Begun<'a> {
         ensures { MatchOption result
             (((split 32 self.entry.text.now ≢ self.entry.text.now ∷ []) × (missing ≢ 0)) ⊎ ((split 32 self.entry.text.now ≡ self.entry.text.now ∷ []) × (self.entry.room < missing + 1)))
             (λ after. ((word : List ℕ) × (self.entry.text.now ≡ word ++ 32 ∷ after.text.now) × (split 32 self.entry.text.now ≡ word ∷ split 32 after.text.now) × (missing ≡ 0) × (after.room ≡ self.entry.room))
-                ⊎ ((split 32 self.entry.text.now ≡ self.entry.text.now ∷ []) × (after.text.now ≡ []) × (after.room + missing + 1 ≡ self.entry.room))) }
+            ⊎ ((split 32 self.entry.text.now ≡ self.entry.text.now ∷ []) × (after.text.now ≡ []) × (after.room + missing + 1 ≡ self.entry.room))) }
     {
         match cut(self.text, b' ') {
             Some((_, text)) => {

@@ -2,7 +2,7 @@
 ghost use Rattle.std.specs.Prelude.{◌≡◌, ◌≢◌, ◌+◌, ◌-◌, ◌*◌, ◌^◌, ◌<◌, ◌≤◌, ◌↔◌, ℕ, MatchOption, IsTrue, length};
 ghost use Rattle.cost_base.specs.Decimal.{decimal};
 ghost use Rattle.whole_numbers.specs.Fractions.{gcd};
-ghost use Rattle.evidence_text.specs.Begun.{IsMissing, IsNumber, IsAmong, Extends};
+ghost use Rattle.evidence_text.specs.BegunLines.{IsMissing, IsNumber, IsAmong, Extends};
 
 use crate::read_ratio::greatest_common_divisor;
 use text_lines::{number_bytes, printed_number};

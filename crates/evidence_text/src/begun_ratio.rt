@@ -3,7 +3,7 @@ ghost use Rattle.std.specs.Prelude.{◌≡◌, ◌∷◌, [], ◌^◌, ◌<◌, 
 ghost use Rattle.cost_base.specs.Decimal.{decimal};
 ghost use Rattle.text_lines.specs.Numbers.{split};
 ghost use Rattle.whole_numbers.specs.Fractions.{gcd};
-ghost use Rattle.evidence_text.specs.Begun.{IsMissing, IsRatio, IsAmong};
+ghost use Rattle.evidence_text.specs.BegunLines.{IsMissing, IsRatio, IsAmong};
 
 use crate::begun_numbers::{Numbers, missing_digits};
 use crate::read_ratio::{GREATEST, integer_of};

@@ -1,4 +1,4 @@
-use Rattle.evidence_text.specs.Begun.{LeafWords, ParentWords, EntryWords}
+use Rattle.evidence_text.specs.BegunLines.{LeafWords, ParentWords, EntryWords}
 use Rattle.evidence_text.proofs.BegunKinds.{first_holds, first_fails, entry_kinds, leaf_entry, parent_entry}
 use Rattle.evidence_text.proofs.begun_entries.becomes_entry.Goals as goal
 

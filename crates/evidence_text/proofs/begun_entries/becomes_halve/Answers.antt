@@ -1,5 +1,5 @@
 use Rattle.std.proofs.Common.{◌≡◌, codes, false}
-use Rattle.evidence_text.specs.Begun.{Then, IsNumber, IsStepWord, vars, values, BasisWords}
+use Rattle.evidence_text.specs.BegunLines.{Then, IsNumber, IsStepWord, vars, values, BasisWords}
 use Rattle.evidence_text.proofs.BegunWords.{stops, goes}
 use Rattle.evidence_text.proofs.begun_entries.becomes_halve.Goals as goal
 

@@ -1,5 +1,5 @@
 use Rattle.std.proofs.Common.{inl, inr}
-use Rattle.evidence_text.specs.Begun.{LeafWords, RefuteWords, OpenWords}
+use Rattle.evidence_text.specs.BegunLines.{LeafWords, RefuteWords, OpenWords}
 use Rattle.evidence_text.proofs.BegunKinds.{first_holds, first_fails}
 use Rattle.evidence_text.proofs.begun_entries.becomes_leaf.Goals as goal
 

@@ -1,5 +1,5 @@
 use Rattle.std.proofs.Common.{inl, inr}
-use Rattle.evidence_text.specs.Begun.{ParentWords, TightenWords, PartingWords}
+use Rattle.evidence_text.specs.BegunLines.{ParentWords, TightenWords, PartingWords}
 use Rattle.evidence_text.proofs.BegunKinds.{first_holds, first_fails}
 use Rattle.evidence_text.proofs.begun_entries.becomes_parent.Goals as goal
 

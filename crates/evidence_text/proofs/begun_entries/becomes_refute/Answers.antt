@@ -1,5 +1,5 @@
 use Rattle.std.proofs.Common.{◌≡◌, codes, sym}
-use Rattle.evidence_text.specs.Begun.{PartsWords}
+use Rattle.evidence_text.specs.BegunLines.{PartsWords}
 use Rattle.evidence_text.proofs.EntryWords.{parts-some}
 use Rattle.evidence_text.proofs.BegunWords.{stops, goes}
 use Rattle.evidence_text.proofs.begun_entries.becomes_refute.Goals as goal

@@ -1,5 +1,5 @@
 use Rattle.std.proofs.Common.{◌≡◌, codes, false}
-use Rattle.evidence_text.specs.Begun.{Then, Alone, IsNumber, vars, values}
+use Rattle.evidence_text.specs.BegunLines.{Then, Alone, IsNumber, vars, values}
 use Rattle.evidence_text.proofs.BegunWords.{stops, goes}
 use Rattle.evidence_text.proofs.begun_entries.becomes_split.Goals as goal
 

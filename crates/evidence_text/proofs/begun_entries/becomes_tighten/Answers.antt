@@ -1,5 +1,5 @@
 use Rattle.std.proofs.Common.{◌≡◌, codes, false}
-use Rattle.evidence_text.specs.Begun.{Then, IsNumber, IsSide, vars, BoundWords}
+use Rattle.evidence_text.specs.BegunLines.{Then, IsNumber, IsSide, vars, BoundWords}
 use Rattle.evidence_text.proofs.BegunWords.{stops, goes}
 use Rattle.evidence_text.proofs.begun_entries.becomes_tighten.Goals as goal
 

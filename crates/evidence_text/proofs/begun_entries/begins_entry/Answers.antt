@@ -1,4 +1,4 @@
-use Rattle.std.proofs.Common.{length, arith}
+use Rattle.std.proofs.Common.{arith}
 use Rattle.evidence_text.proofs.BegunKinds.{begins_by_words, too_long}
 use Rattle.evidence_text.proofs.begun_entries.begins_entry.Goals as goal
 

@@ -1,6 +1,6 @@
 use Rattle.std.proofs.Common.{◌≡◌, false, subst}
 use Rattle.path_rows.specs.Text.{side_word}
-use Rattle.evidence_text.specs.Begun.{Then, Alone, IsStep, IsNumber, vars, values, rows_from, EndWords}
+use Rattle.evidence_text.specs.BegunLines.{Alone, IsStep, IsNumber, vars, values, EndWords}
 use Rattle.evidence_text.proofs.BegunWords.{stops, goes}
 use Rattle.evidence_text.proofs.begun_entries.ends_with_bound.Goals as goal
 

@@ -1,4 +1,4 @@
-use Rattle.evidence_text.specs.Begun.{Then, IsSide, RowWords, EndWords, MemberWords}
+use Rattle.evidence_text.specs.BegunLines.{Then, IsSide, RowWords, EndWords, MemberWords}
 use Rattle.evidence_text.proofs.BegunKinds.{first_holds, first_fails, member_kinds, row_member, bound_member}
 use Rattle.evidence_text.proofs.begun_entries.ends_with_member.Goals as goal
 

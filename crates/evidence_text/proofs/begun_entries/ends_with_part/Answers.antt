@@ -1,5 +1,5 @@
 use Rattle.whole_numbers.proofs.Divisors.{one-gcd}
-use Rattle.evidence_text.specs.Begun.{Alone, IsNumber, rows_from, multipliers}
+use Rattle.evidence_text.specs.BegunLines.{Alone, IsNumber, rows_from, multipliers}
 use Rattle.evidence_text.proofs.BegunWords.{goes}
 use Rattle.evidence_text.proofs.begun_entries.ends_with_part.Goals as goal
 

@@ -1,5 +1,5 @@
 use Rattle.std.proofs.Common.{◌≡◌, codes}
-use Rattle.evidence_text.specs.Begun.{Alone, IsNumber, rows_from}
+use Rattle.evidence_text.specs.BegunLines.{Alone, IsNumber, rows_from}
 use Rattle.evidence_text.proofs.BegunWords.{goes}
 use Rattle.evidence_text.proofs.begun_entries.ends_with_row.Goals as goal
 

@@ -1,7 +1,7 @@
 use Rattle.std.proofs.Common.{◌≡◌, inl, inr}
 use Rattle.path_rows.specs.Text.{step_word}
-use Rattle.evidence_text.specs.Begun.{Then, IsStepWord, IsEitherStep, IsLaterStep, BasisWords}
-use Rattle.evidence_text.proofs.BegunKinds.{first_holds, first_fails, then_as, then_either, either_step, one_of_two, one_of_four}
+use Rattle.evidence_text.specs.BegunLines.{Then, IsEitherStep, BasisWords}
+use Rattle.evidence_text.proofs.BegunKinds.{first_holds, first_fails, then_as, then_either}
 use Rattle.evidence_text.proofs.begun_entries.goes_on_with_either.Goals as goal
 
 pub returns-then-goes_on_with_step : goal.returns-then-goes_on_with_step

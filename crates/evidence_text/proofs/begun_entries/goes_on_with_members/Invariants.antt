@@ -1,6 +1,6 @@
 use Rattle.std.proofs.Common.{◌↔◌, length}
 use Rattle.text_lines.specs.Numbers.{split}
-use Rattle.evidence_text.specs.Begun.{GoesOn, MembersWords}
+use Rattle.evidence_text.specs.BegunLines.{GoesOn, MembersWords}
 use Rattle.evidence_text.proofs.begun_entries.goes_on_with_members.Given as goal
 
 abbrev pub invariant-loop-rest : goal.invariant-loop-rest

@@ -1,6 +1,6 @@
 use Rattle.std.proofs.Common.{◌↔◌, length}
 use Rattle.text_lines.specs.Numbers.{split}
-use Rattle.evidence_text.specs.Begun.{GoesOn, PartsWords}
+use Rattle.evidence_text.specs.BegunLines.{GoesOn, PartsWords}
 use Rattle.evidence_text.proofs.begun_entries.goes_on_with_parts.Given as goal
 
 abbrev pub invariant-loop-row : goal.invariant-loop-row

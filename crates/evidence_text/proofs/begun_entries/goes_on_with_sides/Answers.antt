@@ -1,7 +1,7 @@
 use Rattle.std.proofs.Common.{◌≡◌}
 use Rattle.path_rows.specs.declared.tree.Side.TheVariants.{Low, High}
 use Rattle.path_rows.specs.Text.{side_word}
-use Rattle.evidence_text.specs.Begun.{Then, IsSide, BoundWords}
+use Rattle.evidence_text.specs.BegunLines.{Then, IsSide, BoundWords}
 use Rattle.evidence_text.proofs.BegunKinds.{first_holds, first_fails, then_as, then_either, either_side}
 use Rattle.evidence_text.proofs.begun_entries.goes_on_with_sides.Goals as goal
 

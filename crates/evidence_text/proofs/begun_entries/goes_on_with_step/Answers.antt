@@ -1,6 +1,6 @@
 use Rattle.std.proofs.Common.{◌≡◌, false, subst, sym}
 use Rattle.path_rows.specs.Text.{step_word}
-use Rattle.evidence_text.specs.Begun.{Then, IsStep, IsRatio, MembersWords, BasisWords}
+use Rattle.evidence_text.specs.BegunLines.{Then, IsStep, IsRatio, MembersWords, BasisWords}
 use Rattle.evidence_text.proofs.EntryWords.{members-some}
 use Rattle.evidence_text.proofs.BegunWords.{stops, goes}
 use Rattle.evidence_text.proofs.begun_entries.goes_on_with_step.Goals as goal

@@ -1,5 +1,5 @@
 use Rattle.cost_base.specs.declared.StepName.TheVariants.{Add, Sub}
-use Rattle.evidence_text.specs.Begun.{Then, IsStepWord, IsEitherStep, IsLaterStep, BasisWords}
+use Rattle.evidence_text.specs.BegunLines.{Then, IsStepWord, IsEitherStep, IsLaterStep, BasisWords}
 use Rattle.evidence_text.proofs.BegunKinds.{first_holds, first_fails, then_as, then_either, either_step, one_of_two, one_of_four}
 use Rattle.evidence_text.proofs.begun_entries.goes_on_with_steps.Goals as goal
 

@@ -1,5 +1,5 @@
 use Rattle.std.proofs.Common.{ℕ, ◌<◌}
-use Rattle.evidence_text.specs.Begun.{IsAmong, Extends}
+use Rattle.evidence_text.specs.BegunLines.{IsAmong, Extends}
 use Rattle.evidence_text.proofs.begun_numbers.missing_behind.Given as goal
 
 abbrev pub invariant-loop-digits : goal.invariant-loop-digits

@@ -1,7 +1,7 @@
 use Rattle.std.proofs.Common.{◌≡◌, [], length, eqb, sym, subst, ap, ◌∙◌, arith}
 use Rattle.std.proofs.lemmas.Grind.{common_steps}
 use Rattle.cost_base.specs.Decimal.{decimal}
-use Rattle.evidence_text.specs.Begun.{IsMissing, IsNumber}
+use Rattle.evidence_text.specs.BegunLines.{IsMissing, IsNumber}
 use Rattle.evidence_text.proofs.Chains.{not-both}
 use Rattle.evidence_text.proofs.BegunNumbers.{missing_whole, missing_zero, missing_none, missing_more}
 use Rattle.evidence_text.proofs.begun_numbers.missing_digits.Goals as goal

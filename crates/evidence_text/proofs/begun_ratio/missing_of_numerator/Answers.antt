@@ -1,8 +1,8 @@
-use Rattle.std.proofs.Common.{◌≡◌, ◌≢◌, [], codes, length, eqb, subst, sym, ap, ◌∙◌, arith}
+use Rattle.std.proofs.Common.{◌≡◌, [], codes, length, eqb, subst, sym, ap, ◌∙◌, arith}
 use Rattle.std.specs.Cmp.Lexicographic.{pointwise_decides}
 use Rattle.std.proofs.lemmas.Bool.Decides.{Decides-eqb}
 use Rattle.std.proofs.lemmas.Grind.{common_steps}
-use Rattle.evidence_text.specs.Begun.{IsLeast, IsRatio}
+use Rattle.evidence_text.specs.BegunLines.{IsLeast, IsRatio}
 use Rattle.evidence_text.proofs.Chains.{not-both}
 use Rattle.evidence_text.proofs.BegunRatios.{least_nothing, least_minus, least_whole, never_whole}
 use Rattle.evidence_text.proofs.begun_ratio.missing_of_numerator.Goals as goal
@@ -11,7 +11,7 @@ use Rattle.evidence_text.proofs.begun_ratio.missing_of_numerator.Goals.{then-is_
 pub returns-then-is_empty : goal.returns-then-is_empty
 returns-then-is_empty c =
     elim c.then-is_empty.branch [
-      then-is_empty-via-then-is_empty w ↦
+      | then-is_empty-via-then-is_empty w ↦
           let empty : c.args.word.now ≡ [] = grind (arith, common_steps) in
           subst (λ l. IsLeast IsRatio l 3) (sym empty) least_nothing
       | then-is_empty-via-else-is_empty+then-eq w ↦

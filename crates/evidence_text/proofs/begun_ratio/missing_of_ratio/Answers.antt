@@ -1,8 +1,8 @@
-use Rattle.std.proofs.Common.{nat_abs, ◌≡◌, ◌^◌, ◌<◌, ◌↔◌, ℕ, subst, sym, ap, ◌∙◌, arith}
+use Rattle.std.proofs.Common.{nat_abs, ◌≡◌, ◌^◌, ◌<◌, ◌↔◌, ℕ, subst, ap, ◌∙◌}
 use Rattle.std.specs.Int.{w128}
 use Rattle.std.proofs.lemmas.Int.{to_z-of_z, fits_signed_from_abs}
 use Rattle.whole_numbers.specs.Fractions.{gcd}
-use Rattle.evidence_text.specs.Begun.{IsAmong}
+use Rattle.evidence_text.specs.BegunLines.{IsAmong}
 use Rattle.evidence_text.proofs.BegunRatios.{never_above, missing_below}
 use Rattle.evidence_text.proofs.begun_ratio.missing_of_ratio.Goals as goal
 

@@ -1,4 +1,4 @@
-use Rattle.evidence_text.specs.Begun.{IsNumber}
+use Rattle.evidence_text.specs.BegunLines.{IsNumber}
 use Rattle.evidence_text.proofs.BegunWords.{last_never, last_word, number-spaceless}
 use Rattle.evidence_text.proofs.begun_line.Begun.last_number.Goals as goal
 

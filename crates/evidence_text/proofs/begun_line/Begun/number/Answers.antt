@@ -1,4 +1,4 @@
-use Rattle.evidence_text.specs.Begun.{IsNumber}
+use Rattle.evidence_text.specs.BegunLines.{IsNumber}
 use Rattle.evidence_text.proofs.BegunWords.{no_step, step_behind, number-spaceless}
 use Rattle.evidence_text.proofs.begun_line.Begun.number.Goals as goal
 

@@ -1,4 +1,4 @@
-use Rattle.evidence_text.specs.Begun.{IsRatio}
+use Rattle.evidence_text.specs.BegunLines.{IsRatio}
 use Rattle.evidence_text.proofs.BegunWords.{no_step, step_behind, ratio_word-spaceless}
 use Rattle.evidence_text.proofs.begun_line.Begun.ratio.Goals as goal
 
