@@ -5,8 +5,9 @@ ghost use Rattle.path_rows.specs.Text.{text};
 ghost use Rattle.evidence_text.specs.Refusals.{IsStop};
 ghost use Rattle.evidence_text.specs.Grammar.{AtHead};
 
+use cost_base::OutOfMemory;
 use path_rows::Answer;
-use std::alloc::Global;
+use std::alloc::{AllocFailed, Global};
 
 /// Why a text wasn't read as an answer.
 #[derive(Clone, Copy, Debug, PartialEq, Eq)]
@@ -21,6 +22,28 @@ pub enum AnswerStop {
     },
     /// Want of memory.
     OutOfMemory,
+}
+
+impl From<OutOfMemory> for AnswerStop {
+    ghost use Rattle.std.specs.Prelude.{◌≡◌};
+    ghost use Rattle.evidence_text.specs.declared.read_whole.AnswerStop.TheVariants.{OutOfMemory as NoMemory};
+
+    ghost from_gives = { λ _ stop. stop ≡ NoMemory };
+
+    fn from(_error: OutOfMemory) -> AnswerStop {
+        AnswerStop::OutOfMemory
+    }
+}
+
+impl<T: Drop> From<AllocFailed<T>> for AnswerStop {
+    ghost use Rattle.std.specs.Prelude.{◌≡◌};
+    ghost use Rattle.evidence_text.specs.declared.read_whole.AnswerStop.TheVariants.{OutOfMemory as NoMemory};
+
+    ghost from_gives = { λ _ stop. stop ≡ NoMemory };
+
+    fn from(_error: AllocFailed<T>) -> AnswerStop {
+        AnswerStop::OutOfMemory
+    }
 }
 
 /// The answer whose text this is. Its rows' rivals start at 0, since a text says no start.
