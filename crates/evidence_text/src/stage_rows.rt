@@ -81,6 +81,8 @@ fn row_next(
     let Some((line, rest)) = text.line() else {
         return Ok(None);
     };
-    let row = row_of(alloc, line)?;
-    Ok(row.map(|row| (row, rest)))
+    let Some(row) = row_of(alloc, line)? else {
+        return Ok(None);
+    };
+    Ok(Some((row, rest)))
 }
