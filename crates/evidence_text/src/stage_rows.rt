@@ -52,7 +52,7 @@ fn each_row(
 {
     let mut rows = Vec::new(alloc);
     let mut left = text;
-    for _number in 0..count {
+    for _ in 0..count {
         let (row, rest) = row_at(alloc, left)?;
         rows.push(row)?;
         left = rest;
