@@ -85,7 +85,7 @@ pub(crate) fn read_sections(
 
 /// The cost line that these words say.
 fn cost_line_of(alloc: Global, words: CostWords<'_>) -> Result<CostLine, OutOfMemory>
-    ensures { IfOk result (λ line. line ≡ record { router = words.router.now; interface = words.interface.now; cost = words.cost }) }
+    ensures { IfOk result (λ line. line ≡ record { router = words.entry.router.now; interface = words.entry.interface.now; cost = words.entry.cost }) }
 {
     let router = Name::from_bytes(alloc, words.router)?;
     let interface = Name::from_bytes(alloc, words.interface)?;
