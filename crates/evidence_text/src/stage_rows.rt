@@ -6,7 +6,8 @@ ghost use Rattle.evidence_text.specs.Parts.{rows_line, rows_lines};
 ghost use Rattle.evidence_text.specs.Places.{LacksLawful};
 ghost use Rattle.evidence_text.specs.Going.{Goes, Stops};
 
-use crate::begun::{begins_row, begins_rows};
+use crate::begun::begins_rows;
+use crate::begun_rows::begins_row;
 use crate::faults::fault_at;
 use crate::read_heads::rows_next;
 use crate::read_rows::row_of;
