@@ -159,10 +159,7 @@ fn entry_in_place(alloc: Global, text: TextLeft<'_>) -> Result<(Entry, TextLeft<
     let found = entry_next(alloc, text)?;
     match found {
         Some(found) => Ok(found),
-        None => {
-            let begins = begins_entry(alloc, text.left)?;
-            Err(fault_at(text, begins))
-        }
+        None => Err(fault_at(text, begins_entry(text.left))),
     }
 }
 
