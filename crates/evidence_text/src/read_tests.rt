@@ -90,9 +90,21 @@ fn first_lines_are_refused(rt: HostRuntime) {
         (b"ospfcost answer 1\r\n", 30, 1),
         (b"ospfcost answer 1\nverdict imp", 31, 2),
         (b"ospfcost answer 1\nverdict optimal 2\ncosts 02\n", 30, 3),
-        (b"ospfcost answer 1\nverdict optimal 2\ncosts 2\nrouter A\nexit\n", 30, 5),
-        (b"ospfcost answer 1\nverdict optimal 2\ncosts 2\nrouter A\ninterface a\n ip ospf cost 0\n", 30, 6),
-        (b"ospfcost answer 1\nverdict optimal 2\ncosts 2\nrouter A\ninterface a\n ip ospf cost 2\nexit\nrouter A\n", 30, 8),
+        (
+            b"ospfcost answer 1\nverdict optimal 2\ncosts 2\nrouter A\nexit\n",
+            30,
+            5,
+        ),
+        (
+            b"ospfcost answer 1\nverdict optimal 2\ncosts 2\nrouter A\ninterface a\n ip ospf cost 0\n",
+            30,
+            6,
+        ),
+        (
+            b"ospfcost answer 1\nverdict optimal 2\ncosts 2\nrouter A\ninterface a\n ip ospf cost 2\nexit\nrouter A\n",
+            30,
+            8,
+        ),
     ];
     for (text, number, line) in cases {
         assert!(rt; is_refused(rt.alloc(), text, number, line));

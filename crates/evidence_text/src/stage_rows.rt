@@ -73,10 +73,7 @@ fn row_at(alloc: Global, text: TextLeft<'_>) -> Result<(Row, TextLeft<'_>), Answ
 }
 
 /// The row whose line is the next, if there is one.
-fn row_next(
-    alloc: Global,
-    text: TextLeft<'_>,
-) -> Result<Option<(Row, TextLeft<'_>)>, OutOfMemory>
+fn row_next(alloc: Global, text: TextLeft<'_>) -> Result<Option<(Row, TextLeft<'_>)>, OutOfMemory>
     ensures { IfOk result (λ found. (left : ℕ) → MatchOption found (LacksLawful (AtRow (suc left)) text.entry.left.now) (λ r. Goes (AtRow (suc left)) text.entry (row_line r.0 ∷ []) (AtRow left) r.1 × (r.0.rival.start ≡ 0))) }
 {
     let Some((line, rest)) = text.line() else {
