@@ -16,11 +16,10 @@ use crate::lines::{side_word, step_word};
 use crate::read_entries::{
     GREATEST_MULTIPLIER, GREATEST_ROW, GREATEST_VALUE, GREATEST_VAR, member_of, part_of,
 };
+use crate::text_left::LONGEST;
 use crate::words::Pieces;
 use path_rows::{Side, StepName};
 
-/// The greatest length of a line.
-const LONGEST: usize = 65_536;
 /// The numbers of variables.
 const VARS: Numbers = Numbers {
     least: 0,
