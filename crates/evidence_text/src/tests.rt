@@ -9,6 +9,7 @@ use crate::begun::{
     begins_interface, begins_open, begins_proof, begins_rows, begins_section, begins_verdict,
     begins_wide,
 };
+use crate::begun_entries::begins_entry;
 use crate::begun_rows::begins_row;
 use crate::read_entries::entry_of;
 use crate::read_heads::{floor_next, floor_of, rows_next, tree_head_of, verdict_next, verdict_of};
@@ -164,6 +165,37 @@ fn tree_lines_are_read(rt: HostRuntime) -> Result<(), Fail> {
         assert_eq!(rt; entry_of(alloc, line)?.is_some(), wanted);
     }
     Ok(())
+}
+
+#[test]
+fn begun_tree_lines_are_told(rt: HostRuntime) {
+    let cases: [(&[u8], bool); 22] = [
+        (b"", true),
+        (b"ope", true),
+        (b"open ", false),
+        (b"tighten 0 l", true),
+        (b"tighten 0 low 2 ", true),
+        (b"tighten 0 row", false),
+        (b"split 0 6553", true),
+        (b"split 0 65536", false),
+        (b"split 00", false),
+        (b"refute 0 0", false),
+        (b"refute 5 1 4", true),
+        (b"refute 5 1 0", false),
+        (b"refute 18446744073709551615 1 ", false),
+        (b"refute 18446744073709551614 1 1844674407370955161", true),
+        (b"halve 0 5 s", true),
+        (b"halve 0 5 scale -", true),
+        (b"halve 0 5 scale -0", false),
+        (b"halve 0 5 scale 4/2", true),
+        (b"halve 0 5 scale 0/2", false),
+        (b"halve 0 5 scale 0/1 1/3 row 7 hi", true),
+        (b"halve 0 5 scale 0/1 1/3 row 7 high 1 2", true),
+        (b"halve 0 5 scale 2/4 ", false),
+    ];
+    for (line, wanted) in cases {
+        assert_eq!(rt; begins_entry(line), wanted);
+    }
 }
 
 #[test]
