@@ -16,7 +16,8 @@ rows_begin count before bytes rows none =
     subst (λ n. IsRead (AtRow count) before bytes (map row_line rows) (AtRow n) before bytes) all
     (subst (λ (l : List Row). IsRead (AtRow count) before bytes (map row_line l) (AtRow count) before bytes) (sym none) (read-none (AtRow count) before bytes))
 
-one_left : (count i : ℕ) → i < count → suc (count - (i + 1)) ≡ count - i
+-- the lines that are left behind the next one
+pub one_left : (count i : ℕ) → i < count → suc (count - (i + 1)) ≡ count - i
 one_left count i h = omega arith
 
 -- one more row was read

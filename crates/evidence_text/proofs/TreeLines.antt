@@ -15,6 +15,7 @@ use Rattle.evidence_text.specs.declared.TreePart.{TreePart}
 use Rattle.evidence_text.specs.declared.TreePart.TheVariants.{Proof, Unfinished}
 use Rattle.evidence_text.specs.declared.read_whole.AnswerStop.{AnswerStop}
 use Rattle.evidence_text.proofs.Going.{go-then, stop-then, read-none}
+use Rattle.evidence_text.proofs.CountedLines.{one_left}
 
 -- the lines before a part are those that it begins with
 pub part_said : (part : TreePart) (line : List ℕ) (next : Place) → Next (before_part part) line next → IsPartNext part line next
@@ -51,9 +52,6 @@ entries_begin part count before bytes entries none =
     let all : count ≡ count - 0 = omega arith in
     subst (λ n. IsRead (AtTree part 1 count) before bytes (map entry_line entries) (AtTree part 1 n) before bytes) all
     (subst (λ (l : List Entry). IsRead (AtTree part 1 count) before bytes (map entry_line l) (AtTree part 1 count) before bytes) (sym none) (read-none (AtTree part 1 count) before bytes))
-
-one_left : (count i : ℕ) → i < count → suc (count - (i + 1)) ≡ count - i
-one_left count i h = omega arith
 
 -- one more tree line was read
 pub entry_more : (part : TreePart) (count i places : ℕ) (entries more : List Entry) (entry : Entry) {b0 b1 b2 : ℕ} {bytes middle left : List ℕ} → i < count → more ≡ entries ++ entry ∷ [] →

@@ -1,6 +1,6 @@
-use Rattle.std.proofs.Common.{ℕ, List, [], subst}
+use Rattle.std.proofs.Common.{ℕ, List, subst}
 use Rattle.std.proofs.lemmas.Result.{err_from_is_err_and, MatchResult-weaker}
-use Rattle.evidence_text.specs.Grammar.{AtTree, AtEnd, AfterEnd}
+use Rattle.evidence_text.specs.Grammar.{AtTree, AfterEnd}
 use Rattle.evidence_text.specs.Parts.{end_lines}
 use Rattle.evidence_text.specs.Refusals.{IsRead}
 use Rattle.evidence_text.specs.declared.TreePart.TheVariants.{Unfinished}

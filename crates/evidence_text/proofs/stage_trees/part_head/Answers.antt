@@ -1,4 +1,4 @@
-use Rattle.std.proofs.Common.{◌≡◌, ◌≢◌}
+use Rattle.std.proofs.Common.{◌≢◌}
 use Rattle.evidence_text.specs.Grammar.{AfterEnd}
 use Rattle.evidence_text.specs.Stages.{before_part}
 use Rattle.evidence_text.specs.declared.TreePart.{TreePart}

@@ -1,4 +1,3 @@
-use Rattle.std.proofs.Common.{refl}
 use Rattle.evidence_text.specs.Stages.{before_part, behind_part_head}
 use Rattle.evidence_text.proofs.Going.{lacks-short, lacks-first, read-one}
 use Rattle.evidence_text.proofs.TreeLines.{part_said, part_says}
