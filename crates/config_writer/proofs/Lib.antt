@@ -1,0 +1,3 @@
+pub mod CostMaps
+pub mod WholeLines
+pub mod Steps
