@@ -26,7 +26,7 @@ pub(crate) struct Writer<'a> {
 impl<'a> Writer<'a> {
     /// No line was gone over.
     pub(crate) fn new(alloc: Global, costs: NewCosts<'a>) -> Writer<'a>
-        ensures costs { result.costs ≡ costs }
+        ensures costs { result.costs ≡ costs.entry }
         ensures heads { result.heads ≡ [] }
         ensures named { result.in_named_block ≡ false }
         ensures out { result.out.items ≡ [] }
