@@ -1,3 +1,4 @@
 pub mod CostMaps
 pub mod WholeLines
 pub mod Steps
+pub mod NewLines
