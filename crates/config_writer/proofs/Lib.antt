@@ -5,3 +5,4 @@ pub mod NewLines
 pub mod CostStatements
 pub mod Alike
 pub mod Recosted
+pub mod Fine

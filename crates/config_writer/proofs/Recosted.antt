@@ -277,3 +277,9 @@ dropped costs file_name old new line alike replaced fine = record {
         let is : name ≡ out.h = same_bytes-true name out.h same_name in
         dropped_cost says.0 out.n (cost_after costs name None) (is_known old name) (about (said old) name)
         (ap (λ m. cost_after costs m None) is ∙ out.cost) (ap (is_known old) is ∙ known_open old out.h out.block)
+
+-- the block that a first head opens
+pub opened_here : (costs : List (List ℕ × ℕ)) (old new : List (List ℕ)) (line : List ℕ) (n : ℕ) → cost_behind costs old line ≡ Some n → (h : List ℕ) × (open_block (new ++ line ∷ []) ≡ OfInterface h)
+opened_here costs old new line n behind =
+    let first = first_head costs old line n behind in
+    (first.h, open_block-push new line ∙ ap (λ kind. block_with (is_head_kind kind) line (open_block new)) first.kind ∙ first.block)
