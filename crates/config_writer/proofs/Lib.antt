@@ -7,3 +7,4 @@ pub mod Alike
 pub mod Recosted
 pub mod Fine
 pub mod FaultPlaces
+pub mod ReadingBack
