@@ -1,5 +1,5 @@
 -- A rewritten configuration read back.
-use Rattle.std.proofs.Common.{◌≡◌, ℕ, ◌≤◌, List, [], ◌∷◌, ◌++◌, map, Bool, cond, true, false, ◌&&◌, not, refl, sym, ap, ◌∙◌, subst, Option, Some, None, is_some, All, append_assoc}
+use Rattle.std.proofs.Common.{◌≡◌, ℕ, ◌≤◌, List, [], ◌∷◌, ◌++◌, map, Bool, cond, true, false, ◌&&◌, not, refl, sym, ap, ◌∙◌, subst, Option, Some, None, is_some, All, append_assoc, Result, Ok, Err, IfOk}
 use Rattle.std.specs.Prelude.{◌||◌}
 use Rattle.std.specs.List.{filter, filter_map, cons_option, list_any}
 use Rattle.std.specs.Option.{option_or}
@@ -232,3 +232,8 @@ reads_back file_name bytes costs accepted within = record {
     fine =
         subst (λ f. AllFine f (area_twice (said new) (first_heads new)) [] new) (λ i block s. second_same costs file_name (lines bytes) new walk.alike block s i)
         (subst (λ f. AllFine second f [] new) (λ i earlier block s. twice_same costs file_name (lines bytes) new walk.alike earlier block s i) walk.fine)
+
+-- two facts on a value that came out well give a third
+pub ok_both : {T E : Type 0} (r : Result T E) {P Q R : T → Type 0} → IfOk r P → IfOk r Q → ((x : T) → P x → Q x → R x) → IfOk r R
+ok_both (Ok x) p q both = both x p q
+ok_both (Err e) p q both = tt

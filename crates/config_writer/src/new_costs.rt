@@ -1,5 +1,5 @@
 //! The new costs of interfaces.
-ghost use Rattle.std.specs.Prelude.{◌≡◌, ℕ, List, None, Some, [], if◌then◌else◌, IfOk, OnOk};
+ghost use Rattle.std.specs.Prelude.{◌≡◌, ◌≤◌, ℕ, List, All, None, Some, [], if◌then◌else◌, IfOk, OnOk};
 ghost use Rattle.cost_base.specs.Lists.{same_bytes};
 ghost use Rattle.config_reader.specs.Sections.{cost_after};
 ghost use Rattle.config_writer.specs.Rewriting.{costs_of};
@@ -40,7 +40,8 @@ impl<'a> NewCosts<'a> {
         alloc: Global,
         lines: &'a [CostLine],
     ) -> Result<NewCosts<'a>, OutOfMemory>
-        ensures { IfOk result (λ costs. (name : List ℕ) → look_up name costs ≡ cost_after (costs_of lines.now) name None) }
+        ensures costs { IfOk result (λ costs. (name : List ℕ) → look_up name costs ≡ cost_after (costs_of lines.now) name None) }
+        ensures within { IfOk result (λ costs. All (λ line. line.cost ≤ 65535) lines.now) }
     {
         let mut costs = NewCosts::new(alloc);
         for line in lines {
@@ -51,7 +52,8 @@ impl<'a> NewCosts<'a> {
 
     /// Gives an interface its cost.
     fn add(&mut self, interface: &'a [u8], cost: u16) -> Result<(), OutOfMemory>
-        ensures { OnOk result ((name : List ℕ) → look_up name self.new ≡ (if same_bytes name interface.now then Some cost else look_up name self.old)) }
+        ensures costs { OnOk result ((name : List ℕ) → look_up name self.new ≡ (if same_bytes name interface.now then Some cost else look_up name self.old)) }
+        ensures within { cost ≤ 65535 }
     {
         self.costs.insert(interface, cost)?;
         Ok(())

@@ -56,6 +56,7 @@ pub(crate) fn rewrite_lines(
     requires numbered { length lines.now < 2 ^ 32 - 1 }
     ensures written { IfOk result (λ out. out.items ≡ rewritten (costs_of lines.now) bytes.now) }
     ensures headed { IfOk result (λ out. first_missing (costs_of lines.now) bytes.now ≡ None) }
+    ensures within { IfOk result (λ out. All (λ line. line.cost ≤ 65535) lines.now) }
     ensures missing { IfErr result (TellsMissing (first_missing (costs_of lines.now) bytes.now)) }
 {
     let writer = write_lines(alloc, bytes, lines)?;
@@ -74,6 +75,7 @@ fn write_lines<'a>(
     requires { length bytes.now < 2 ^ 32 - 1 }
     ensures out { IfOk result (λ writer. writer.out.items ≡ rewritten (costs_of lines.now) bytes.now) }
     ensures heads { IfOk result (λ writer. writer.heads ≡ headed (text.lines bytes.now)) }
+    ensures within { IfOk result (λ writer. All (λ line. line.cost ≤ 65535) lines.now) }
 {
     let costs = NewCosts::of_lines(alloc, lines)?;
     let mut writer = Writer::new(alloc, costs);
