@@ -1,31 +1,23 @@
 -- A file and its rewritten lines say the same, but for the costs of named interfaces.
-use Rattle.std.proofs.Common.{◌≡◌, ℕ, suc, ◌+◌, ◌≤◌, List, [], ◌∷◌, ◌++◌, length, map, get_or, Bool, cond, true, false, ◌&&◌, not, refl, sym, ap, ◌∙◌, subst, arith, Option, Some, None, is_some, append-nil, append_assoc, length-append}
-use Rattle.std.specs.Prelude.{codes, ◌||◌}
-use Rattle.std.specs.List.{filter, list_any}
-use Rattle.std.proofs.lemmas.Bool.{and_parts, and_right, false≢true, false_from_ne_true}
+use Rattle.std.proofs.Common.{◌≡◌, ℕ, suc, ◌+◌, List, [], ◌∷◌, ◌++◌, length, Bool, cond, true, false, ◌&&◌, refl, sym, ap, ◌∙◌, arith, Some, append-nil, length-append}
+use Rattle.std.specs.Prelude.{codes}
+use Rattle.std.specs.List.{filter}
 use Rattle.std.proofs.lemmas.List.{get_or_at, get_or_append_left}
-use Rattle.std.proofs.lemmas.List.Elements.{filter-append}
-use Rattle.std.proofs.lemmas.List.Folds.{list_any-append}
-use Rattle.cost_base.specs.Lists.{numbers_from, same_bytes, last_of}
+use Rattle.cost_base.specs.Lists.{numbers_from, last_of}
 use Rattle.text_lines.specs.Lines.{words, kind_of, is_head, is_head_kind}
 use Rattle.text_lines.specs.declared.LineKind.{LineKind}
 use Rattle.text_lines.specs.declared.LineKind.TheVariants.{Blank, Comment, Head, Indented}
-use Rattle.config_reader.specs.Statements.{Statement, CostIs, Unread, Block, OfInterface, OfRouter, OfOther, block_of, begin_with, ip_ospf, statement_in, head_statement, word_at}
-use Rattle.config_reader.specs.Settings.{Said, said, said_by, about, about_router, cost_said, is_of, is_of_router}
-use Rattle.config_reader.specs.Configs.{first_heads}
+use Rattle.config_reader.specs.Statements.{Statement, Unread, Block, OfInterface, OfOther, block_of, begin_with, statement_in, head_statement, word_at}
+use Rattle.config_reader.specs.Settings.{said, said_by, about, about_router, is_of, is_of_router}
 use Rattle.config_reader.specs.Faults.{is_hostname_head, last_hostname, name_and_line, router_name}
-use Rattle.config_reader.specs.FaultList.{refused}
 use Rattle.config_reader.specs.Reading.{open_block}
-use Rattle.config_reader.specs.Sections.{cost_after}
-use Rattle.config_reader.proofs.Places.{any-map, same_bytes-true, same_bytes-refl, filter-numbers_more, last_of-push}
+use Rattle.config_reader.proofs.Places.{filter-numbers_more, last_of-push}
 use Rattle.config_reader.proofs.SaidSteps.{said_after, said-push, names_router, router_name-push}
 use Rattle.config_reader.proofs.SettingSteps.{about-push, about_router-push, said_where}
-use Rattle.config_reader.proofs.HeadSteps.{is_headed}
-use Rattle.config_reader.proofs.BlockFacts.{open_block-push, block_with, open_headed, about-unheaded}
-use Rattle.config_writer.specs.Rewriting.{new_cost, headed, is_replaced, is_cost_line, is_indented_kind, is_first_block, cost_behind, cost_line}
+use Rattle.config_reader.proofs.BlockFacts.{open_block-push, block_with}
+use Rattle.config_writer.specs.Rewriting.{headed}
 use Rattle.config_writer.specs.Writing.{heads_after_line}
 use Rattle.config_writer.proofs.Steps.{headed-push}
-use Rattle.config_writer.proofs.CostStatements.{sets_cost, sets_none, cost_line-says}
 
 -- the block and the statement of a line, by its kind and the open block
 abbrev pub block_by : LineKind → Block → Block

@@ -1,10 +1,10 @@
 -- Costs that are looked up by names in a map.
-use Rattle.std.proofs.Common.{◌≡◌, ℕ, List, [], ◌∷◌, Bool, cond, true, false, refl, sym, ap, ◌∙◌, map, Option, Some, None, Bor}
+use Rattle.std.proofs.Common.{◌≡◌, ℕ, List, [], ◌∷◌, Bool, cond, true, false, refl, sym, ap, ◌∙◌, map, Option, Some, Bor}
 use Rattle.std.proofs.lemmas.Bool.{false≢true}
 use Rattle.cost_base.specs.Lists.{same_bytes}
 use Rattle.std.specs.Map.{lookup}
 use Rattle.indexmap.specs.IndexMap.{insert_entry}
-use Rattle.config_reader.proofs.Places.{same_bytes-refl, same_bytes-true}
+use Rattle.config_reader.proofs.Places.{same_bytes-true}
 use Rattle.config_writer.specs.Writing.{look_up}
 
 -- an entry by its name's bytes

@@ -1,15 +1,14 @@
 -- What `ip ospf cost` lines say, and no other lines do.
 use Rattle.std.proofs.Common.{◌≡◌, ℕ, List, [], ◌∷◌, length, Bool, cond, true, false, ◌&&◌, eqb, refl, sym, ap, ◌∙◌, arith, Option, Some, None, ◌≤◌}
-use Rattle.std.specs.Prelude.{codes, nat_le, ◌||◌}
+use Rattle.std.specs.Prelude.{codes, nat_le}
 use Rattle.std.proofs.lemmas.Bool.{and_parts, ne_eqb}
 use Rattle.cost_base.specs.Decimal.{decimal}
 use Rattle.cost_base.specs.Lists.{same_bytes}
 use Rattle.text_lines.specs.Lines.{words}
 use Rattle.text_lines.specs.Numbers.{number, prefix, area, Prefix}
 use Rattle.interface_model.specs.declared.Kind.TheVariants.{PointToPoint, Broadcast}
-use Rattle.config_reader.specs.declared.ConfigFault.{ConfigFault}
 use Rattle.config_reader.specs.declared.ConfigFault.TheVariants.{BadNumber, Unsupported}
-use Rattle.config_reader.specs.Statements.{Statement, CostIs, KindIs, PassiveIs, DownIs, Refused, Unread, begin_with, word_at, ip_ospf, no, alone, address_statement, area_statement, cost_statement, priority_statement, switch_statement, is_unsupported, interface_statement}
+use Rattle.config_reader.specs.Statements.{Statement, CostIs, KindIs, PassiveIs, Refused, Unread, begin_with, word_at, ip_ospf, no, alone, address_statement, area_statement, cost_statement, priority_statement, switch_statement, is_unsupported, interface_statement}
 use Rattle.config_reader.specs.Settings.{cost_said}
 use Rattle.config_reader.specs.FaultList.{refused}
 use Rattle.config_reader.proofs.Places.{same_bytes-true}
@@ -27,11 +26,12 @@ begins_cost (a ∷ b ∷ []) begins =
 begins_cost (a ∷ b ∷ c ∷ more) begins =
     let parts = and_parts (same_bytes (codes "ip") a) (same_bytes (codes "ospf") b && (same_bytes (codes "cost") c && true)) begins in
     let rest = and_parts (same_bytes (codes "ospf") b) (same_bytes (codes "cost") c && true) parts.1 in
-    let last = and_parts (same_bytes (codes "cost") c) true rest.1 in
-    (more,
-    ap (λ x. x ∷ b ∷ c ∷ more) (sym (same_bytes-true (codes "ip") a parts.0))
-    ∙ ap (λ x. codes "ip" ∷ x ∷ c ∷ more) (sym (same_bytes-true (codes "ospf") b rest.0))
-    ∙ ap (λ x. codes "ip" ∷ codes "ospf" ∷ x ∷ more) (sym (same_bytes-true (codes "cost") c last.0)))
+    let last = and_parts (same_bytes (codes "cost") c) true rest.1 in (
+      more,
+      ap (λ x. x ∷ b ∷ c ∷ more) (sym (same_bytes-true (codes "ip") a parts.0))
+          ∙ ap (λ x. codes "ip" ∷ x ∷ c ∷ more) (sym (same_bytes-true (codes "ospf") b rest.0))
+          ∙ ap (λ x. codes "ip" ∷ codes "ospf" ∷ x ∷ more) (sym (same_bytes-true (codes "cost") c last.0)),
+    )
 
 -- a line of a cost that isn't refused
 cost_given : (last : Bool) (o : Option ℕ) → refused (cost_statement last o) ≡ None → (n : ℕ) × (cost_statement last o ≡ CostIs n)
@@ -49,8 +49,8 @@ sets_cost ws begins fine =
     let found = begins_cost ws begins in
     let says : interface_statement ws ≡ cost_statement (nat_le (length (codes "ip" ∷ codes "ospf" ∷ codes "cost" ∷ found.0)) 4) (number (word_at (codes "ip" ∷ codes "ospf" ∷ codes "cost" ∷ found.0) 3) 65535) = ap interface_statement found.1 in
     let given =
-        cost_given (nat_le (length (codes "ip" ∷ codes "ospf" ∷ codes "cost" ∷ found.0)) 4) (number (word_at (codes "ip" ∷ codes "ospf" ∷ codes "cost" ∷ found.0) 3) 65535)
-        (ap refused (sym says) ∙ fine) in
+    cost_given (nat_le (length (codes "ip" ∷ codes "ospf" ∷ codes "cost" ∷ found.0)) 4) (number (word_at (codes "ip" ∷ codes "ospf" ∷ codes "cost" ∷ found.0) 3) 65535)
+    (ap refused (sym says) ∙ fine) in
     (given.0, says ∙ given.1)
 
 -- choices between statements that set no cost

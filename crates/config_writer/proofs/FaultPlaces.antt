@@ -1,5 +1,5 @@
 -- The faults of a file line by line.
-use Rattle.std.proofs.Common.{◌≡◌, ℕ, zero, suc, ◌+◌, ◌<◌, List, [], ◌∷◌, ◌++◌, length, map, take, get_or, Bool, cond, true, false, ◌&&◌, not, refl, sym, ap, ◌∙◌, subst, arith, Option, Some, None, All, append-nil, append_assoc, length-append}
+use Rattle.std.proofs.Common.{◌≡◌, ℕ, zero, suc, ◌+◌, List, [], ◌∷◌, ◌++◌, length, take, get_or, Bool, cond, true, false, not, refl, sym, ap, ◌∙◌, arith, Option, Some, None, All, append-nil, append_assoc, length-append}
 use Rattle.std.specs.Prelude.{◌==◌, nat_lt}
 use Rattle.std.specs.List.{filter_map, flat_map}
 use Rattle.std.proofs.lemmas.Bool.{and_right}
@@ -20,7 +20,7 @@ use Rattle.config_reader.specs.Hearing.{heard}
 use Rattle.config_reader.proofs.SaidSteps.{said_after, said-push, said_at-append, last_said}
 use Rattle.config_reader.proofs.WholeFaults.{faults_law, named_law}
 use Rattle.config_writer.proofs.Alike.{block_by, statement_by, after_block, after_statement}
-use Rattle.config_writer.proofs.Fine.{LineFine, AllFine}
+use Rattle.config_writer.proofs.Fine.{AllFine}
 
 -- five faults of a line, none of which comes
 five_none : (n : ℕ) (o p q r s : Option ConfigFault) → filter_map (at_line n) (o ∷ p ∷ q ∷ r ∷ s ∷ []) ≡ [] → (o ≡ None) × (p ≡ None) × (q ≡ None) × (r ≡ None) × (s ≡ None)
@@ -54,12 +54,13 @@ length_said file = length-map (numbers_from 0 (length file)) (said_at file) ∙ 
 said_front : (more front : List (List ℕ)) → (tail : List Said) × (said (front ++ more) ≡ said front ++ tail)
 said_front [] front = ([], ap said (append-nil front) ∙ sym (append-nil (said front)))
 said_front (line ∷ more) front =
-    let next = said_front more (front ++ line ∷ []) in
-    (said_after front line ∷ next.0,
-    ap said (sym (append_assoc front (line ∷ []) more))
-    ∙ next.1
-    ∙ ap (λ all. all ++ next.0) (said-push front line)
-    ∙ append_assoc (said front) (said_after front line ∷ []) next.0)
+    let next = said_front more (front ++ line ∷ []) in (
+      said_after front line ∷ next.0,
+      ap said (sym (append_assoc front (line ∷ []) more))
+          ∙ next.1
+          ∙ ap (λ all. all ++ next.0) (said-push front line)
+          ∙ append_assoc (said front) (said_after front line ∷ []) next.0,
+    )
 
 said_before : (file front more : List (List ℕ)) → file ≡ front ++ more → take (length front) (said file) ≡ said front
 said_before file front more split =
@@ -113,8 +114,8 @@ module _ (file_name : List ℕ) (file : List (List ℕ)) where
       let read = read_lines file in
       let i = length front in
       let here =
-          five_none (i + 1) (long_line (get_or file i [])) (refused (said_at read i).statement) (second_address (said read) (said_at read i).block (said_at read i).statement)
-          (area_twice (said read) (first_heads read) (networks (take i (said read))) (said_at read i).block (said_at read i).statement) (bad_name (router_name file_name read) (i + 1)) parts.0 in
+      five_none (i + 1) (long_line (get_or file i [])) (refused (said_at read i).statement) (second_address (said read) (said_at read i).block (said_at read i).statement)
+      (area_twice (said read) (first_heads read) (networks (take i (said read))) (said_at read i).block (said_at read i).statement) (bad_name (router_name file_name read) (i + 1)) parts.0 in
       let is : get_or file i [] ≡ line = ap (λ f. get_or f i []) split ∙ get_or_at front line rest [] i refl in
       All-cons (λ l. is_short l ≡ true) line rest (short_by (is_short line) (ap long_line (sym is) ∙ here.0))
       (no_long rest (front ++ line ∷ []) (split ∙ sym (append_assoc front (line ∷ []) rest)) (ap (λ n. flat_map (faults_at file_name file) (numbers_from n (length rest))) (sym (one_more front line)) ∙ parts.1))
@@ -157,12 +158,13 @@ module _ (file_name : List ℕ) (file : List (List ℕ)) where
     fine_from (line ∷ rest) front split none =
         let parts = both_none (faults_at file_name file (length front)) (flat_map (faults_at file_name file) (numbers_from (length front + 1) (length rest))) none in
         let here =
-            five_none (length front + 1) (long_line line) (refused (statement_by (kind_of line) (open_block front) (words line)))
-            (second_address (said file) (block_by (kind_of line) (open_block front)) (statement_by (kind_of line) (open_block front) (words line)))
-            (area_twice (said file) (first_heads file) (networks (said front)) (block_by (kind_of line) (open_block front)) (statement_by (kind_of line) (open_block front) (words line)))
-            (bad_name (router_name file_name file) (length front + 1)) (sym (here_faults front line rest split) ∙ parts.0) in
-        (record { short = short_by (is_short line) here.0; own = here.1; address = here.2; area = here.3 },
-        fine_from rest (front ++ line ∷ []) (split ∙ sym (append_assoc front (line ∷ []) rest)) (ap (λ n. flat_map (faults_at file_name file) (numbers_from n (length rest))) (sym (one_more front line)) ∙ parts.1))
+        five_none (length front + 1) (long_line line) (refused (statement_by (kind_of line) (open_block front) (words line)))
+        (second_address (said file) (block_by (kind_of line) (open_block front)) (statement_by (kind_of line) (open_block front) (words line)))
+        (area_twice (said file) (first_heads file) (networks (said front)) (block_by (kind_of line) (open_block front)) (statement_by (kind_of line) (open_block front) (words line)))
+        (bad_name (router_name file_name file) (length front + 1)) (sym (here_faults front line rest split) ∙ parts.0) in (
+          record { short = short_by (is_short line) here.0; own = here.1; address = here.2; area = here.3 },
+          fine_from rest (front ++ line ∷ []) (split ∙ sym (append_assoc front (line ∷ []) rest)) (ap (λ n. flat_map (faults_at file_name file) (numbers_from n (length rest))) (sym (one_more front line)) ∙ parts.1),
+        )
 
     good_name : is_router_name (router_name file_name file).0 ≡ true → (n : ℕ) → bad_name (router_name file_name file) n ≡ None
     good_name good n = ap (λ b. cond b (Some BadName) None) (and_right ((router_name file_name file).1 == n) (not (is_router_name (router_name file_name file).0)) (ap not good))

@@ -1,5 +1,5 @@
 -- The lines of a rewritten text.
-use Rattle.std.proofs.Common.{◌≡◌, ◌≢◌, ℕ, suc, ◌+◌, List, [], ◌∷◌, ◌++◌, length, map, Bool, cond, true, false, ◌&&◌, not, eqb, refl, sym, ap, ◌∙◌, subst, arith, Option, Some, None, append-nil, append_assoc, length-append}
+use Rattle.std.proofs.Common.{◌≡◌, ℕ, ◌+◌, List, [], ◌∷◌, ◌++◌, length, map, Bool, cond, true, false, not, eqb, refl, sym, ap, ◌∙◌, subst, Option, Some, None, append-nil, append_assoc, length-append}
 use Rattle.std.specs.Prelude.{◌==◌}
 use Rattle.std.specs.List.{concat}
 use Rattle.std.proofs.lemmas.Bool.{and_parts, not-true, eqb-true}
@@ -9,7 +9,6 @@ use Rattle.cost_base.specs.Lists.{numbers_from}
 use Rattle.text_lines.specs.Lines.{lines, grow, IsOneLine}
 use Rattle.text_lines.specs.Reading.{line_end}
 use Rattle.text_lines.proofs.LineLaws.{lines-cons, lines-one, lines-some}
-use Rattle.config_reader.specs.Sections.{ended}
 use Rattle.config_reader.proofs.PrintedLines.{lacks_end, word_lacks_end, decimal-word}
 use Rattle.config_writer.specs.Rewriting.{is_replaced, cost_behind, cost_line, whole_lines, written_for, written_at, rewritten}
 use Rattle.config_writer.proofs.WholeLines.{IsCut, whole_first, ended-line}
@@ -132,12 +131,12 @@ lines-written_from costs bytes front fronts (line ∷ rest) left at split wholes
     let cut = cut_of left line rest at in
     let whole : whole_lines bytes ≡ fronts ++ (line ++ line_end cut.end) ∷ whole_lines cut.left = wholes ∙ ap (λ ws. fronts ++ ws) (whole_first left line cut.end cut.left cut.cut) in
     let next =
-        lines-written_from costs bytes (front ++ line ∷ []) (fronts ++ (line ++ line_end cut.end) ∷ []) rest cut.left cut.behind
-        (split ∙ sym (append_assoc front (line ∷ []) rest))
-        (whole ∙ sym (append_assoc fronts ((line ++ line_end cut.end) ∷ []) (whole_lines cut.left)))
-        (one_more fronts (line ++ line_end cut.end) ∙ ap (λ n. n + 1) same ∙ sym (one_more front line)) in
+    lines-written_from costs bytes (front ++ line ∷ []) (fronts ++ (line ++ line_end cut.end) ∷ []) rest cut.left cut.behind
+    (split ∙ sym (append_assoc front (line ∷ []) rest))
+    (whole ∙ sym (append_assoc fronts ((line ++ line_end cut.end) ∷ []) (whole_lines cut.left)))
+    (one_more fronts (line ++ line_end cut.end) ∙ ap (λ n. n + 1) same ∙ sym (one_more front line)) in
     let none : cut.end ≡ false → concat (map (written_at costs bytes) (numbers_from (length front + 1) (length rest))) ≡ [] =
-        λ open_ended. ap (λ (ls : List (List ℕ)). concat (map (written_at costs bytes) (numbers_from (length front + 1) (length ls)))) (sym cut.behind ∙ ap lines (cut.cut.last open_ended).1) in
+    λ open_ended. ap (λ (ls : List (List ℕ)). concat (map (written_at costs bytes) (numbers_from (length front + 1) (length ls)))) (sym cut.behind ∙ ap lines (cut.cut.last open_ended).1) in
     ap (λ piece. lines (piece ++ concat (map (written_at costs bytes) (numbers_from (length front + 1) (length rest)))))
     (written_here costs bytes front line rest fronts (line ++ line_end cut.end) (whole_lines cut.left) split whole same)
     ∙ lines-written_for (is_replaced costs front line) (cost_behind costs front line) left line cut.end cut.left (concat (map (written_at costs bytes) (numbers_from (length front + 1) (length rest)))) cut.cut none

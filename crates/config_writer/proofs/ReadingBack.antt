@@ -15,7 +15,7 @@ use Rattle.config_reader.specs.declared.ConfigFault.{ConfigFault}
 use Rattle.config_reader.specs.declared.ConfigFault.TheVariants.{SecondAddress, AreaTwice}
 use Rattle.config_reader.specs.Statements.{Statement, AddressIs, CostIs, NetworkIs, Network, Block, OfInterface, OfRouter, OfOther, block_of}
 use Rattle.config_reader.specs.Settings.{Said, said, about, about_router, setting, networks, network_said, address_said, area_said, cost_said, kind_said, passive_said, down_said, priority_said, address_of, router_id_said, interface_of, matches}
-use Rattle.config_reader.specs.Configs.{first_heads, config_of}
+use Rattle.config_reader.specs.Configs.{first_heads}
 use Rattle.config_reader.specs.Faults.{router_name, is_router_name}
 use Rattle.config_reader.specs.FaultList.{takes_part, differs, second_address, area_twice, is_other_area, address_by_networks, config_fault, faults}
 use Rattle.config_reader.specs.Sections.{cost_after, with_cost, with_costs}

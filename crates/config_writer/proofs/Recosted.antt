@@ -1,5 +1,5 @@
 -- What is said of each interface once its cost lines are replaced.
-use Rattle.std.proofs.Common.{◌≡◌, ℕ, ◌≤◌, List, [], ◌∷◌, ◌++◌, map, Bool, cond, true, false, ◌&&◌, not, refl, sym, ap, ◌∙◌, subst, Option, Some, None, is_some, append-nil, append_assoc}
+use Rattle.std.proofs.Common.{◌≡◌, ℕ, ◌≤◌, List, [], ◌∷◌, ◌++◌, Bool, cond, true, false, ◌&&◌, not, refl, sym, ap, ◌∙◌, Option, Some, None, is_some, append-nil}
 use Rattle.std.specs.Prelude.{codes, ◌||◌}
 use Rattle.std.specs.List.{filter, list_any}
 use Rattle.std.proofs.lemmas.Bool.{and_parts}

@@ -1,5 +1,5 @@
 -- What is written for the lines so far, with one more line.
-use Rattle.std.proofs.Common.{◌≡◌, ℕ, suc, ◌+◌, List, [], ◌∷◌, ◌++◌, length, map, take, get_or, Bool, cond, true, false, ◌&&◌, not, refl, sym, ap, ◌∙◌, arith, Option, Some, None, is_some, append-nil, append_assoc, length-append}
+use Rattle.std.proofs.Common.{◌≡◌, ℕ, suc, ◌+◌, List, [], ◌∷◌, ◌++◌, length, map, take, get_or, Bool, cond, true, false, ◌&&◌, not, refl, sym, ap, ◌∙◌, arith, Option, None, is_some, append-nil, append_assoc, length-append}
 use Rattle.std.specs.Prelude.{codes, position}
 use Rattle.std.specs.List.{concat, list_any}
 use Rattle.std.proofs.lemmas.Bool.{and_right}
@@ -16,12 +16,12 @@ use Rattle.config_reader.specs.Statements.{Block, OfInterface, OfRouter, OfOther
 use Rattle.config_reader.specs.Configs.{first_heads, with_line, name_opened}
 use Rattle.config_reader.specs.Reading.{open_block}
 use Rattle.config_reader.specs.Sections.{cost_after}
-use Rattle.config_reader.proofs.Places.{any-map, map-unless, numbers_from-more, position-map}
+use Rattle.config_reader.proofs.Places.{map-unless, numbers_from-more, position-map}
 use Rattle.config_reader.proofs.SaidSteps.{opened_from}
 use Rattle.config_reader.proofs.HeadSteps.{first_heads-push, heads_with as first_heads_with, is_headed, unless_known}
 use Rattle.config_reader.proofs.BlockFacts.{open_block-push, block_with}
 use Rattle.config_writer.specs.Rewriting.{new_cost, headed, is_replaced, is_cost_line, is_indented_kind, is_first_block, cost_behind, whole_lines, written_for, written_at, rewritten, costs_of, first_missing}
-use Rattle.config_writer.specs.Writing.{look_up, block_cost, first_cost, heads_with, cost_after_line, heads_after_line, named_after_line, put_for, GoesOverLine, Opens}
+use Rattle.config_writer.specs.Writing.{look_up, block_cost, cost_after_line, heads_after_line, named_after_line, put_for, GoesOverLine, Opens}
 use Rattle.path_rows.specs.declared.answer.CostLine.{CostLine}
 use Rattle.config_writer.specs.declared.writer.Writer.{Writer}
 use Rattle.config_writer.proofs.WholeLines.{IsCut, first_cut, whole_first, put_written}

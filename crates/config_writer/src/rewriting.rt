@@ -33,7 +33,7 @@ pub fn rewrite(
     lines: &[CostLine],
 ) -> Result<Vec<u8>, RewriteStop>
     requires few { length bytes.now < 2 ^ 32 - 1 }
-    requires numbered { length lines.now < 2 ^ 32 - 1 }
+    requires numbered { length lines.now < 2 ^ 32 }
     requires accepted { config_fault file_name.now bytes.now ≡ None }
     requires router { All (λ line. line.router ≡ (config_of file_name.now bytes.now).name) lines.now }
     requires from { All (λ line. 1 ≤ line.cost) lines.now }
@@ -53,7 +53,7 @@ pub(crate) fn rewrite_lines(
     lines: &[CostLine],
 ) -> Result<Vec<u8>, RewriteStop>
     requires few { length bytes.now < 2 ^ 32 - 1 }
-    requires numbered { length lines.now < 2 ^ 32 - 1 }
+    requires numbered { length lines.now < 2 ^ 32 }
     ensures written { IfOk result (λ out. out.items ≡ rewritten (costs_of lines.now) bytes.now) }
     ensures headed { IfOk result (λ out. first_missing (costs_of lines.now) bytes.now ≡ None) }
     ensures within { IfOk result (λ out. All (λ line. line.cost ≤ 65535) lines.now) }

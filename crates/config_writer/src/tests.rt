@@ -1,5 +1,5 @@
 //! Worked cases of rewritten configurations.
-ghost use Rattle.std.specs.Prelude.{◌≡◌, ◌-◌, ◌^◌, ◌<◌, ◌≤◌, length, IfOk};
+ghost use Rattle.std.specs.Prelude.{◌≡◌, ◌-◌, ◌^◌, ◌<◌, ◌≤◌, ◌∷◌, [], codes, length, IfOk};
 
 use super::*;
 use crate::rewriting::rewrite_lines;
@@ -15,10 +15,17 @@ const R1: &[u8] =
 const R1_NEW: &[u8] =
     b"frr version 8.5\nfrr defaults traditional\nhostname A\nlog syslog informational\n!\ninterface eth0\n ip ospf cost 1\n description to caf\xe9 B\n ip address 10.0.1.1/30\n ip ospf hello-interval 5\n ip ospf network point-to-point\nexit\n!\ninterface eth1\n ip ospf cost 1\n ip address 10.0.4.1/30\n ip ospf network point-to-point\nexit\n!\ninterface lo\n ip address 192.0.2.1/32\nexit\n!\nrouter ospf\n ospf router-id 192.0.2.1\n network 10.0.0.0/16 area 0\n network 192.0.2.1/32 area 0\n passive-interface lo\nexit\n!\nline vty\n!\nend\n";
 
-/// A line of router A.
-fn cost_line(alloc: Global, interface: &[u8], cost: u16) -> Result<CostLine, OutOfMemory> {
+/// A line of a router.
+fn cost_line(
+    alloc: Global,
+    router: &[u8],
+    interface: &[u8],
+    cost: u16,
+) -> Result<CostLine, OutOfMemory>
+    ensures { IfOk result (λ line. line ≡ record { router = router.now; interface = interface.now; cost = cost }) }
+{
     Ok(CostLine {
-        router: Name::from_bytes(alloc, b"A")?,
+        router: Name::from_bytes(alloc, router)?,
         interface: Name::from_bytes(alloc, interface)?,
         cost,
     })
@@ -28,21 +35,21 @@ fn cost_line(alloc: Global, interface: &[u8], cost: u16) -> Result<CostLine, Out
 fn two_lines(alloc: Global, first: u16, second: u16) -> Result<Vec<CostLine>, OutOfMemory>
     ensures { IfOk result (λ lines. length lines.items ≤ 2) }
 {
-    let first = cost_line(alloc, b"eth0", first)?;
-    let second = cost_line(alloc, b"eth1", second)?;
+    let first = cost_line(alloc, b"A", b"eth0", first)?;
+    let second = cost_line(alloc, b"A", b"eth1", second)?;
     let mut lines = Vec::new(alloc);
     lines.push(first)?;
     lines.push(second)?;
     Ok(lines)
 }
 
-/// A line with the cost of eth0.
-fn one_line(alloc: Global, cost: u16) -> Result<Vec<CostLine>, OutOfMemory>
-    ensures { IfOk result (λ lines. length lines.items ≤ 2) }
+/// One line of a router with the cost of eth0.
+fn one_line(alloc: Global, router: &[u8], cost: u16) -> Result<Vec<CostLine>, OutOfMemory>
+    ensures { IfOk result (λ lines. lines.items ≡ record { router = router.now; interface = codes "eth0"; cost = cost } ∷ []) }
 {
-    let first = cost_line(alloc, b"eth0", cost)?;
+    let line = cost_line(alloc, router, b"eth0", cost)?;
     let mut lines = Vec::new(alloc);
-    lines.push(first)?;
+    lines.push(line)?;
     Ok(lines)
 }
 
@@ -68,7 +75,7 @@ fn real_config(rt: HostRuntime) -> Result<(), Fail> {
 #[test]
 fn carriage_returns_stay(rt: HostRuntime) -> Result<(), Fail> {
     let alloc = rt.alloc();
-    let lines = one_line(alloc, 20)?;
+    let lines = one_line(alloc, b"A", 20)?;
     let old = b"interface eth0\r\n ip ospf cost 5\r\n shutdown\r\n";
     let new = b"interface eth0\r\n ip ospf cost 20\n shutdown\r\n";
     assert!(rt; becomes(alloc, old, new, &lines));
@@ -78,7 +85,7 @@ fn carriage_returns_stay(rt: HostRuntime) -> Result<(), Fail> {
 #[test]
 fn last_head_gets_its_end(rt: HostRuntime) -> Result<(), Fail> {
     let alloc = rt.alloc();
-    let lines = one_line(alloc, 65535)?;
+    let lines = one_line(alloc, b"A", 65535)?;
     let new = b"hostname A\ninterface eth0\n ip ospf cost 65535\n";
     assert!(rt; becomes(alloc, b"hostname A\ninterface eth0", new, &lines));
     Ok(())
@@ -87,7 +94,7 @@ fn last_head_gets_its_end(rt: HostRuntime) -> Result<(), Fail> {
 #[test]
 fn last_line_stays_without_end(rt: HostRuntime) -> Result<(), Fail> {
     let alloc = rt.alloc();
-    let lines = one_line(alloc, 7)?;
+    let lines = one_line(alloc, b"A", 7)?;
     let new = b"interface eth0\n ip ospf cost 7\n shutdown";
     assert!(rt; becomes(alloc, b"interface eth0\n shutdown", new, &lines));
     Ok(())
@@ -96,7 +103,7 @@ fn last_line_stays_without_end(rt: HostRuntime) -> Result<(), Fail> {
 #[test]
 fn second_block_loses_its_cost(rt: HostRuntime) -> Result<(), Fail> {
     let alloc = rt.alloc();
-    let lines = one_line(alloc, 7)?;
+    let lines = one_line(alloc, b"A", 7)?;
     let old =
         b"interface eth0\n shutdown\ninterface eth1\n ip ospf cost 3\ninterface eth0\n ip ospf cost 9\n";
     let new =
@@ -127,13 +134,12 @@ fn interface_without_head(rt: HostRuntime) -> Result<(), Fail> {
 }
 
 #[test]
-fn a_read_config_is_rewritten(rt: HostRuntime) -> Result<(), Fail> {
+fn a_config_that_is_read(rt: HostRuntime) -> Result<(), Fail> {
     let alloc = rt.alloc();
-    let bytes = b"interface eth0\n ip ospf cost 9\n";
+    let bytes = b"hostname A\ninterface eth0\n ip ospf cost 9\n";
     let config = read_config(alloc, "A.conf", bytes)?;
-    let lines = Vec::new(alloc);
+    let lines = one_line(alloc, config.name.as_bytes(), 4)?;
     let text = rewrite(alloc, "A.conf", bytes, &lines)?;
-    assert!(rt; text.as_slice() == bytes.as_slice());
-    assert!(rt; config.interfaces.as_slice().len() == 1);
+    assert!(rt; text.as_slice() == b"hostname A\ninterface eth0\n ip ospf cost 4\n".as_slice());
     Ok(())
 }

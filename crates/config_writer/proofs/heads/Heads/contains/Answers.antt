@@ -1,4 +1,4 @@
-use Rattle.std.proofs.Common.{◌≡◌, ◌∙◌, ap, List, ℕ, Bor}
+use Rattle.std.proofs.Common.{◌∙◌, ap, List, ℕ, Bor}
 use Rattle.std.specs.List.{list_any}
 use Rattle.cost_base.specs.Lists.{same_bytes}
 use Rattle.config_reader.proofs.Places.{any-map}
