@@ -1,5 +1,5 @@
 //! Lines of configurations.
-ghost use Rattle.std.specs.Prelude.{◌≡◌, ◌∷◌, [], codes};
+ghost use Rattle.std.specs.Prelude.{◌≡◌, codes};
 ghost use Rattle.std.specs.Option.{option_map};
 ghost use Rattle.cost_base.specs.Lists.{same_bytes};
 ghost use Rattle.text_lines.specs.Lines.{words};

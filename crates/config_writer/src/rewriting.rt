@@ -1,5 +1,5 @@
 //! Rewriting a whole configuration.
-ghost use Rattle.std.specs.Prelude.{◌≡◌, ◌≢◌, ◌↔◌, ◌-◌, ◌^◌, ◌<◌, ◌≤◌, [], None, not, position, length, All, AllPairs, IfOk, IfErr, IsNone, IfSome, OnOk, MatchResult};
+ghost use Rattle.std.specs.Prelude.{◌≡◌, ◌≢◌, ◌↔◌, ◌-◌, ◌^◌, ◌<◌, ◌≤◌, [], None, not, position, length, All, AllPairs, IfOk, IfErr, IsNone, IfSome};
 ghost use Rattle.std.specs.List.{list_any};
 ghost use Rattle.cost_base.specs.Lists.{same_bytes};
 ghost use Rattle.text_lines.specs.Lines as text;
