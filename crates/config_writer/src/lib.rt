@@ -5,7 +5,6 @@
 #![tactic(auto)]
 
 mod config_lines;
-mod heads;
 mod new_costs;
 mod rewriting;
 mod writer;

@@ -9,9 +9,9 @@ ghost use Rattle.config_reader.specs.FaultList.{config_fault};
 ghost use Rattle.config_writer.specs.Rewriting.{costs_of, rewritten, headed, first_missing, TellsMissing, ReadsBack};
 
 use crate::RewriteStop;
-use crate::heads::Heads;
 use crate::new_costs::NewCosts;
 use crate::writer::Writer;
+use config_reader::Names;
 use cost_base::OutOfMemory;
 use path_rows::CostLine;
 use std::alloc::Global;
@@ -99,10 +99,10 @@ fn next_line<'a>(left: &mut Lines<'a>) -> Option<Line<'a>>
 }
 
 /// The place of the first line whose interface has no head.
-fn first_without_head<'a>(heads: &Heads<'a>, lines: &'a [CostLine]) -> Option<usize>
+fn first_without_head<'a>(heads: &Names<'a>, lines: &'a [CostLine]) -> Option<usize>
     ensures { result ≡ position (λ line. not (list_any (same_bytes line.interface) heads.now)) lines.now }
 {
     lines
         .iter()
-        .position(|line| !heads.contains(line.interface.as_bytes()))
+        .position(|line| heads.place(line.interface.as_bytes()).is_none())
 }

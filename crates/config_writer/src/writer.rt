@@ -7,8 +7,8 @@ ghost use Rattle.config_writer.specs.Rewriting.{cost_line};
 ghost use Rattle.config_writer.specs.Writing.{Opens, GoesOverLine, put_for};
 
 use crate::config_lines::{interface_opened, sets_cost};
-use crate::heads::Heads;
 use crate::new_costs::NewCosts;
+use config_reader::Names;
 use cost_base::OutOfMemory;
 use std::alloc::Global;
 use text_lines::{LineKind, kind_of, number_bytes};
@@ -18,7 +18,7 @@ use text_lines::{LineKind, kind_of, number_bytes};
 #[derive(Drop)]
 pub(crate) struct Writer<'a> {
     pub costs: NewCosts<'a>,
-    pub heads: Heads<'a>,
+    pub heads: Names<'a>,
     pub in_named_block: bool,
     pub out: Vec<u8>,
 }
@@ -33,7 +33,7 @@ impl<'a> Writer<'a> {
     {
         Writer {
             costs,
-            heads: Heads::new(alloc),
+            heads: Names::new(alloc),
             in_named_block: false,
             out: Vec::new(alloc),
         }
