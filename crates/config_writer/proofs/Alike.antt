@@ -1,5 +1,5 @@
 -- A file and its rewritten lines say the same, but for the costs of named interfaces.
-use Rattle.std.proofs.Common.{◌≡◌, ℕ, suc, ◌+◌, List, [], ◌∷◌, ◌++◌, length, Bool, cond, true, false, ◌&&◌, refl, sym, ap, ◌∙◌, arith, Some, append-nil, length-append}
+use Rattle.std.proofs.Common.{◌≡◌, ℕ, ◌+◌, List, [], ◌∷◌, ◌++◌, length, Bool, cond, true, false, ◌&&◌, refl, sym, ap, ◌∙◌, Some, append-nil}
 use Rattle.std.specs.Prelude.{codes}
 use Rattle.std.specs.List.{filter}
 use Rattle.std.proofs.lemmas.List.{get_or_at, get_or_append_left}
@@ -17,7 +17,7 @@ use Rattle.config_reader.proofs.SettingSteps.{about-push, about_router-push, sai
 use Rattle.config_reader.proofs.BlockFacts.{open_block-push, block_with}
 use Rattle.config_writer.specs.Rewriting.{headed}
 use Rattle.config_writer.specs.Writing.{heads_after_line}
-use Rattle.config_writer.proofs.Steps.{headed-push}
+use Rattle.config_writer.proofs.Steps.{headed-push, length_more}
 
 -- the block and the statement of a line, by its kind and the open block
 abbrev pub block_by : LineKind → Block → Block
@@ -63,9 +63,6 @@ about_router-line file line =
     ∙ about_router-push (said file) (said_after file line)
     ∙ ap (λ b. about_router (said file) ++ said_where (is_of_router b) (said_after file line).statement) (after_block file line)
     ∙ ap (λ s. about_router (said file) ++ said_where (is_of_router (block_by (kind_of line) (open_block file))) s) (after_statement file line)
-
-length_more : (xs : List (List ℕ)) (y : List ℕ) → length (xs ++ y ∷ []) ≡ suc (length xs)
-length_more xs y = omega (arith, length-append xs (y ∷ []))
 
 -- a `hostname` head gives the router's name
 named-push : (file_name : List ℕ) (file : List (List ℕ)) (line : List ℕ) → names_router line ≡ true → router_name file_name (file ++ line ∷ []) ≡ (word_at (words line) 1, length file + 1)

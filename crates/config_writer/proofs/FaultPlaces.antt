@@ -19,6 +19,7 @@ use Rattle.config_reader.specs.Drafting.{earliest, name_fault, name_from}
 use Rattle.config_reader.specs.Hearing.{heard}
 use Rattle.config_reader.proofs.SaidSteps.{said_after, said-push, said_at-append, last_said}
 use Rattle.config_reader.proofs.WholeFaults.{faults_law, named_law}
+use Rattle.config_writer.proofs.NewLines.{one_more}
 use Rattle.config_writer.proofs.Alike.{block_by, statement_by, after_block, after_statement}
 use Rattle.config_writer.proofs.Fine.{AllFine}
 
@@ -87,14 +88,7 @@ short_by : (b : Bool) → cond b None (Some LongLine) ≡ None → b ≡ true
 short_by true e = refl
 short_by false e = absurd (cc)
 
-one_more : (xs : List (List ℕ)) (x : List ℕ) → length xs + 1 ≡ length (xs ++ x ∷ [])
-one_more xs x = sym (length-append xs (x ∷ []))
-
 module _ (file_name : List ℕ) (file : List (List ℕ)) where
-  -- the faults from a place on
-  abbrev faults_from : ℕ → ℕ → List Fault
-  faults_from a n = flat_map (faults_at file_name file) (numbers_from a n)
-
   -- the faults of a line, read from these lines
   abbrev line_faults : List (List ℕ) → ℕ → List ℕ → List Fault
   line_faults read i line =
@@ -118,7 +112,7 @@ module _ (file_name : List ℕ) (file : List (List ℕ)) where
       (area_twice (said read) (first_heads read) (networks (take i (said read))) (said_at read i).block (said_at read i).statement) (bad_name (router_name file_name read) (i + 1)) parts.0 in
       let is : get_or file i [] ≡ line = ap (λ f. get_or f i []) split ∙ get_or_at front line rest [] i refl in
       All-cons (λ l. is_short l ≡ true) line rest (short_by (is_short line) (ap long_line (sym is) ∙ here.0))
-      (no_long rest (front ++ line ∷ []) (split ∙ sym (append_assoc front (line ∷ []) rest)) (ap (λ n. flat_map (faults_at file_name file) (numbers_from n (length rest))) (sym (one_more front line)) ∙ parts.1))
+      (no_long rest (front ++ line ∷ []) (split ∙ sym (append_assoc front (line ∷ []) rest)) (ap (λ n. flat_map (faults_at file_name file) (numbers_from n (length rest))) (one_more front line) ∙ parts.1))
 
   module _ (same : read_lines file ≡ file) where
     -- the faults of a line behind others
@@ -163,7 +157,7 @@ module _ (file_name : List ℕ) (file : List (List ℕ)) where
         (area_twice (said file) (first_heads file) (networks (said front)) (block_by (kind_of line) (open_block front)) (statement_by (kind_of line) (open_block front) (words line)))
         (bad_name (router_name file_name file) (length front + 1)) (sym (here_faults front line rest split) ∙ parts.0) in (
           record { short = short_by (is_short line) here.0; own = here.1; address = here.2; area = here.3 },
-          fine_from rest (front ++ line ∷ []) (split ∙ sym (append_assoc front (line ∷ []) rest)) (ap (λ n. flat_map (faults_at file_name file) (numbers_from n (length rest))) (sym (one_more front line)) ∙ parts.1),
+          fine_from rest (front ++ line ∷ []) (split ∙ sym (append_assoc front (line ∷ []) rest)) (ap (λ n. flat_map (faults_at file_name file) (numbers_from n (length rest))) (one_more front line) ∙ parts.1),
         )
 
     good_name : is_router_name (router_name file_name file).0 ≡ true → (n : ℕ) → bad_name (router_name file_name file) n ≡ None
@@ -181,7 +175,7 @@ module _ (file_name : List ℕ) (file : List (List ℕ)) where
         (area_twice (said file) (first_heads file) (networks (said front)) (block_by (kind_of line) (open_block front)) (statement_by (kind_of line) (open_block front) (words line)))
         (bad_name (router_name file_name file) (length front + 1))
         (ap (λ b. cond b None (Some LongLine)) all.0.short) all.0.own all.0.address all.0.area (good_name good (length front + 1)))
-        ∙ ap (λ n. flat_map (faults_at file_name file) (numbers_from n (length rest))) (one_more front line)
+        ∙ ap (λ n. flat_map (faults_at file_name file) (numbers_from n (length rest))) (sym (one_more front line))
         ∙ none_from good rest (front ++ line ∷ []) (split ∙ sym (append_assoc front (line ∷ []) rest)) all.1
 
 no_first : {X : Type 0} (xs : List X) → first_of xs ≡ None → xs ≡ []

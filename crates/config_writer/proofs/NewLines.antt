@@ -120,7 +120,8 @@ lines-written_for false (Some n) bytes line end left more cut done =
     ∙ lines-cons line (cost_line n ++ 10 ∷ more) cut.one
     ∙ ap (λ ls. line ∷ ls) (lines-cons (cost_line n) more (cost_line-one n))
 
-one_more : (xs : List (List ℕ)) (x : List ℕ) → length (xs ++ x ∷ []) ≡ length xs + 1
+-- one more line
+pub one_more : (xs : List (List ℕ)) (x : List ℕ) → length (xs ++ x ∷ []) ≡ length xs + 1
 one_more xs x = length-append xs (x ∷ [])
 
 lines-written_from : (costs : List (List ℕ × ℕ)) (bytes : List ℕ) (front fronts ls : List (List ℕ)) (left : List ℕ) →

@@ -20,13 +20,13 @@ use Rattle.config_reader.proofs.Places.{map-unless, numbers_from-more, position-
 use Rattle.config_reader.proofs.SaidSteps.{opened_from}
 use Rattle.config_reader.proofs.HeadSteps.{first_heads-push, heads_with as first_heads_with, is_headed, unless_known}
 use Rattle.config_reader.proofs.BlockFacts.{open_block-push, block_with}
-use Rattle.config_writer.specs.Rewriting.{new_cost, headed, is_replaced, is_cost_line, is_indented_kind, is_first_block, cost_behind, whole_lines, written_for, written_at, rewritten, costs_of, first_missing}
+use Rattle.config_writer.specs.Rewriting.{new_cost, headed, is_replaced, is_cost_line, is_indented_kind, is_first_block, cost_behind, whole_lines, written_for, written_at, costs_of, first_missing}
 use Rattle.config_writer.specs.Writing.{look_up, block_cost, cost_after_line, heads_after_line, named_after_line, put_for, GoesOverLine, Opens}
 use Rattle.path_rows.specs.declared.answer.CostLine.{CostLine}
 use Rattle.config_writer.specs.declared.writer.Writer.{Writer}
 use Rattle.config_writer.proofs.WholeLines.{IsCut, first_cut, whole_first, put_written}
 
--- a list of lines, whose interfaces have heads, with one more line
+-- the interface that a line of a kind opens
 abbrev pub opened_by : LineKind → ℕ → Block → Option (List ℕ × ℕ)
 opened_by Head n block = with_line n (name_opened block)
 opened_by _ n block = None
@@ -110,7 +110,7 @@ written_here costs bytes front line rest fronts whole rests split wholes same =
     at : List (List ℕ) → List ℕ → List ℕ → List ℕ
     at before l w = written_for (is_replaced costs before l) (cost_behind costs before l) w
 
--- one line more
+-- what is written for one line more
 pub written_more : (f : ℕ → List ℕ) (n : ℕ) → concat (map f (numbers_from 0 (suc n))) ≡ concat (map f (numbers_from 0 n)) ++ f n
 written_more f n =
     ap (λ numbers. concat (map f numbers)) (numbers_from-more 0 n)
@@ -147,7 +147,8 @@ written_none costs bytes left writer whole agree heads named out = record {
   out = out;
 }
 
-length_more : (xs : List (List ℕ)) (x : List ℕ) → length (xs ++ x ∷ []) ≡ suc (length xs)
+-- one line more
+pub length_more : (xs : List (List ℕ)) (x : List ℕ) → length (xs ++ x ∷ []) ≡ suc (length xs)
 length_more xs x = omega (arith, length-append xs (x ∷ []))
 
 pub written_step : (costs : List (List ℕ × ℕ)) (bytes : List ℕ) (old new : TextLeft) (writer next : Writer) (line : Line) →
@@ -191,17 +192,6 @@ written_step costs bytes old new writer next line so_far is_line step = record {
         ∙ ap (λ more. concat (map (written_at costs bytes) (numbers_from 0 (length so_far.front))) ++ more) put
         ∙ sym (written_more (written_at costs bytes) (length so_far.front))
         ∙ ap (λ n. concat (map (written_at costs bytes) (numbers_from 0 n))) (sym (length_more so_far.front text))
-
--- at the end all is written
-all_lines : (costs : List (List ℕ × ℕ)) (bytes : List ℕ) (left : TextLeft) (writer : Writer) (so_far : WrittenTo costs bytes left writer) → left.bytes ≡ [] → so_far.front ≡ lines bytes
-all_lines costs bytes left writer so_far done = sym (so_far.split ∙ ap (λ b. so_far.front ++ lines b) done ∙ append-nil so_far.front)
-
-pub written_all : (costs : List (List ℕ × ℕ)) (bytes : List ℕ) (left : TextLeft) (writer : Writer) → WrittenTo costs bytes left writer → left.bytes ≡ [] → writer.out.items ≡ rewritten costs bytes
-written_all costs bytes left writer so_far done =
-    so_far.out ∙ ap (λ ls. concat (map (written_at costs bytes) (numbers_from 0 (length ls)))) (all_lines costs bytes left writer so_far done)
-
-pub headed_all : (costs : List (List ℕ × ℕ)) (bytes : List ℕ) (left : TextLeft) (writer : Writer) → WrittenTo costs bytes left writer → left.bytes ≡ [] → writer.heads ≡ headed (lines bytes)
-headed_all costs bytes left writer so_far done = so_far.heads ∙ ap headed (all_lines costs bytes left writer so_far done)
 
 -- a head is gone over: its block is opened, and it is put
 pub head_gone : (old opened next : Writer) (line : List ℕ) (end : Bool) (behind : Option ℕ) → kind_of line ≡ Head → Opens old opened (block_of (words line)) behind →
