@@ -83,6 +83,7 @@ fn becomes_parting(line: Begun<'_>) -> bool
     becomes_split(line) || becomes_halve(line)
 }
 
+/// Whether a begun line may become a `split`.
 fn becomes_split(line: Begun<'_>) -> bool
     ensures { IsTrue result ↔ Becomes SplitWords line.entry }
 {
@@ -95,6 +96,7 @@ fn becomes_split(line: Begun<'_>) -> bool
     at_value.last_number(VALUES)
 }
 
+/// Whether a begun line may become a `tighten`.
 fn becomes_tighten(line: Begun<'_>) -> bool
     ensures { IsTrue result ↔ Becomes TightenWords line.entry }
 {
@@ -127,6 +129,7 @@ fn goes_on_with_side(line: Begun<'_>, side: Side) -> bool
     at_row.last_number(ROWS)
 }
 
+/// Whether a begun line may become a `refute`.
 fn becomes_refute(line: Begun<'_>) -> bool
     ensures { IsTrue result ↔ Becomes RefuteWords line.entry }
 {
@@ -184,6 +187,7 @@ fn ends_with_part(line: Begun<'_>, least: u128) -> bool
     }
 }
 
+/// Whether a begun line may become a `halve`.
 fn becomes_halve(line: Begun<'_>) -> bool
     ensures { IsTrue result ↔ Becomes HalveWords line.entry }
 {
