@@ -18,7 +18,7 @@ pub bad_first : (place : Place) (rest line more : List ℕ) → place ≢ AfterE
 bad_first place rest line more inside parts one lacks = bad_line inside (inl (line, more, parts, one, λ lawful. lacks line more parts one lawful))
 
 -- a text without bytes, as a test says
-pub empty_by : (s : List ℕ) (b : Bool) → b ≡ eqb (length s) 0 → b ≡ true → s ≡ []
+empty_by : (s : List ℕ) (b : Bool) → b ≡ eqb (length s) 0 → b ≡ true → s ≡ []
 empty_by s b test is = nil_from_length s (eqb-true (length s) 0 (sym test ∙ is))
 
 -- a text with bytes, as a test says

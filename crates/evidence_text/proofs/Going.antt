@@ -3,12 +3,10 @@ use Rattle.std.proofs.Common.{◌≡◌, ℕ, ◌+◌, ◌≤◌, List, [], ◌�
 use Rattle.text_lines.specs.Lines.{IsOneLine}
 use Rattle.evidence_text.specs.Lines.{text_of}
 use Rattle.evidence_text.specs.Grammar.{Place, Next}
-use Rattle.evidence_text.specs.Refusals.{Leads, LeadOn, IsLawful, IsRead, IsRefused, IsStop}
+use Rattle.evidence_text.specs.Refusals.{LeadOn, IsRead, IsRefused, IsStop}
 use Rattle.evidence_text.specs.Places.{IsFirst, LacksFirst, LacksLawful}
-use Rattle.evidence_text.specs.Going.{Goes, Stops}
 use Rattle.evidence_text.specs.declared.read_whole.AnswerStop.{AnswerStop}
 use Rattle.evidence_text.specs.declared.read_whole.AnswerStop.TheVariants.{Refused, OutOfMemory}
-use Rattle.evidence_text.specs.declared.text_left.TextLeft.{TextLeft}
 use Rattle.evidence_text.proofs.LineFronts.{first-one}
 
 -- a text without a short first line has no lawful one

@@ -1,5 +1,5 @@
 //! What is wrong with a text where no lawful line stands first.
-ghost use Rattle.std.specs.Prelude.{◌≡◌, ◌≢◌, List, [], IsTrue, ◌↔◌, MatchResult};
+ghost use Rattle.std.specs.Prelude.{◌≡◌, ◌≢◌, [], IsTrue, ◌↔◌, MatchResult};
 ghost use Rattle.evidence_text.specs.Grammar.{Place, AfterEnd};
 ghost use Rattle.evidence_text.specs.Refusals.{IsFault};
 ghost use Rattle.evidence_text.specs.Places.{LacksLawful, Begins};

@@ -1,6 +1,5 @@
 //! Reading the text of an answer.
-ghost use Rattle.std.specs.Prelude.{◌≡◌, ℕ, ◌+◌, ◌-◌, ◌^◌, ◌<◌, List, All, IfOk, IfErr, length};
-ghost use Rattle.path_rows.specs.declared.form.Row.{Row};
+ghost use Rattle.std.specs.Prelude.{◌≡◌, ◌-◌, ◌^◌, ◌<◌, All, IfOk, IfErr, length};
 ghost use Rattle.path_rows.specs.Text.{text};
 ghost use Rattle.evidence_text.specs.Refusals.{IsStop};
 ghost use Rattle.evidence_text.specs.Grammar.{AtHead};

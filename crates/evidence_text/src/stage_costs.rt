@@ -1,5 +1,5 @@
 //! The stage of the costs, with the floor behind them.
-ghost use Rattle.std.specs.Prelude.{◌≡◌, ◌≢◌, [], ◌∷◌, ◌++◌, List, None, Some, All, MatchOption, MatchResult};
+ghost use Rattle.std.specs.Prelude.{◌≡◌, [], ◌∷◌, ◌++◌, List, None, Some, All, MatchOption, MatchResult};
 ghost use Rattle.path_rows.specs.Text.{cost_lines, costs_lines, FitsCostLine, FitsCosts};
 ghost use Rattle.path_rows.specs.declared.answer.CostLine.{CostLine};
 ghost use Rattle.evidence_text.specs.Grammar.{Place, Next, AtCosts, AtSections, AtFloor, AtRows};

@@ -1,5 +1,5 @@
 //! The stage of the end: the lines behind the trees, and nothing behind them.
-ghost use Rattle.std.specs.Prelude.{ℕ, zero, ◌+◌, [], ◌∷◌, MatchResult, codes};
+ghost use Rattle.std.specs.Prelude.{ℕ, zero, [], ◌∷◌, MatchResult, codes};
 ghost use Rattle.evidence_text.specs.Grammar.{AtTree, AtEnd, AfterEnd};
 ghost use Rattle.evidence_text.specs.Refusals.{IsRead};
 ghost use Rattle.evidence_text.specs.Parts.{end_lines};

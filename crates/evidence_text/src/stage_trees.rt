@@ -1,5 +1,5 @@
 //! The stage of a part with a tree.
-ghost use Rattle.std.specs.Prelude.{◌≡◌, ◌≢◌, ℕ, zero, suc, ◌+◌, ◌-◌, ◌<◌, ◌≤◌, List, [], ◌∷◌, ◌++◌, All, MatchOption, MatchResult, IfOk, IsTrue, ◌↔◌, length, map};
+ghost use Rattle.std.specs.Prelude.{◌≡◌, ℕ, zero, suc, ◌+◌, ◌-◌, ◌<◌, ◌≤◌, [], ◌∷◌, All, MatchOption, MatchResult, IfOk, IsTrue, ◌↔◌, length, map};
 ghost use Rattle.path_rows.specs.Text.{entry_line, tree_lines, FitsEntry, FitsTree};
 ghost use Rattle.path_rows.specs.Trees.{subtree_count};
 ghost use Rattle.evidence_text.specs.Grammar.{Place, IsPartNext, AtTree};
