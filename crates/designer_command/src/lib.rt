@@ -2,6 +2,7 @@
 #![tactic(auto)]
 
 mod audit;
+mod check;
 mod corner;
 mod design;
 mod floor;
