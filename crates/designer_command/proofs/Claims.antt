@@ -8,6 +8,7 @@ use Rattle.path_rows.specs.Problems.{DesignProblem}
 use Rattle.evidence_checker.specs.declared.stop.Accepted.{Accepted as Acceptance}
 use Rattle.designer_command.specs.declared.check.Judgement.{Judgement}
 use Rattle.designer_command.specs.declared.check.Judgement.TheVariants.{Accepted, Rejected}
+use Rattle.designer_command.specs.declared.rejection.Rejection.{Rejection}
 use Rattle.designer_command.specs.declared.problem.View.TheVariants.{AsRequested}
 use Rattle.designer_command.specs.declared.stop.Stop.{Stop}
 use Rattle.designer_command.specs.Inputs.{InputFiles, names_of}
@@ -54,6 +55,6 @@ pub judgement_meets : (held : List ℕ → Option (List ℕ)) (before now : List
 judgement_meets held before now names answer (Accepted accepted) got_before got_now count_before count_now end judged ends =
     end_meets (MayCheck held before now names answer) got_before got_now count_before count_now status.Done (accepted_line accepted) end (λ bytes h. h, λ bytes h. h)
     (ready_so (claim_read held names answer) (λ claim. IsAccepted claim accepted) (λ claim. (a : Acceptance) × IsAccepted claim a × (accepted_line accepted ≡ accepted_line a)) judged (λ claim h. (accepted, h, refl))) ends
-judgement_meets held before now names answer (Rejected number place) got_before got_now count_before count_now end judged ends =
-    end_meets (MayCheck held before now names answer) got_before got_now count_before count_now status.EvidenceRefused (rejected_line number place) end (λ bytes h. h, λ bytes h. h)
-    (ready_so (claim_read held names answer) (λ claim. IsRejected claim number place) (λ claim. (n : ℕ) × (k : ℕ) × IsRejected claim n k × (rejected_line number place ≡ rejected_line n k)) judged (λ claim h. (number, place, h, refl))) ends
+judgement_meets held before now names answer (Rejected rejection) got_before got_now count_before count_now end judged ends =
+    end_meets (MayCheck held before now names answer) got_before got_now count_before count_now status.EvidenceRefused (rejected_line rejection) end (λ bytes h. h, λ bytes h. h)
+    (ready_so (claim_read held names answer) (λ claim. IsRejected claim rejection) (λ claim. (r : Rejection) × IsRejected claim r × (rejected_line rejection ≡ rejected_line r)) judged (λ claim h. (rejection, h, refl))) ends

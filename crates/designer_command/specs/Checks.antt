@@ -12,6 +12,7 @@ use Rattle.evidence_checker.specs.Laws.{IsAcceptedAs}
 use Rattle.evidence_checker.specs.Tests.{tests}
 use Rattle.designer_command.specs.declared.check.Judgement.{Judgement}
 use Rattle.designer_command.specs.declared.check.Judgement.TheVariants.{Accepted, Rejected}
+use Rattle.designer_command.specs.declared.rejection.Rejection.{Rejection}
 use Rattle.designer_command.specs.declared.problem.View.TheVariants.{AsRequested}
 use Rattle.designer_command.specs.Inputs.{InputFiles}
 use Rattle.designer_command.specs.Outcomes.{Reading, Ready, ◌>>=◌, Input, outcome, file_read}
@@ -49,17 +50,21 @@ pub record IsAccepted (claim : Claim) (acceptance : Acceptance) : Type 0 where
   pub claimed : IsAcceptedAs answer.verdict acceptance
 
 -- the bytes are the text of an answer that isn't valid: the first of the checker's tests that is met, with its place
-pub record IsInvalid (claim : Claim) (number place : ℕ) : Type 0 where
+pub record IsInvalid (claim : Claim) (rejection : Rejection) : Type 0 where
   pub answer : AnswerParts
   pub said : IsTextOf claim.bytes answer
-  pub first : FirstOf (tests claim.problem answer) (record { number = number; place = place })
+  pub first : FirstOf (tests claim.problem answer) (record { number = rejection.number; place = rejection.place })
   pub invalid : IsValid claim.problem answer → ⊥
 
--- the bytes are off the grammar of answers, with the first line that is at fault; or their answer isn't valid
-abbrev pub IsRejected : Claim → ℕ → ℕ → Type 0
-IsRejected claim number place = IsRefused AtHead 0 claim.bytes number place ⊎ IsInvalid claim number place
+-- the bytes are off the grammar of answers, by the first line that is at fault
+abbrev pub IsOffGrammar : List ℕ → Rejection → Type 0
+IsOffGrammar bytes rejection = IsRefused AtHead 0 bytes rejection.number rejection.place
+
+-- the bytes are off the grammar of answers, or their answer isn't valid
+abbrev pub IsRejected : Claim → Rejection → Type 0
+IsRejected claim rejection = IsOffGrammar claim.bytes rejection ⊎ IsInvalid claim rejection
 
 -- what a check of these comes to
 abbrev pub IsJudged : Claim → Judgement → Type 0
 IsJudged claim (Accepted acceptance) = IsAccepted claim acceptance
-IsJudged claim (Rejected number place) = IsRejected claim number place
+IsJudged claim (Rejected rejection) = IsRejected claim rejection

@@ -8,6 +8,7 @@ use Rattle.evidence_checker.specs.declared.stop.Accepted.{Accepted}
 use Rattle.command_words.specs.Jobs.{JobRead, Design, Check, Audit}
 use Rattle.command_words.specs.Commands.{job_of}
 use Rattle.designer_command.specs.declared.problem.View.TheVariants.{AsRequested, AtPresent}
+use Rattle.designer_command.specs.declared.rejection.Rejection.{Rejection}
 use Rattle.designer_command.specs.Inputs.{InputFiles, names_of}
 use Rattle.designer_command.specs.Texts.{refused_line, read_fault_line, accepted_line, rejected_line, corner_line, usage}
 use Rattle.designer_command.specs.Outcomes.{Reading, outcome, OnReady, OnRefused}
@@ -44,7 +45,7 @@ abbrev pub MayCheck : (List ℕ → Option (List ℕ)) → (List ℕ → ℕ) �
 MayCheck held before now files answer Done bytes =
     OnReady (claim_read held files answer) (λ claim. (accepted : Accepted) × IsAccepted claim accepted × (bytes ≡ accepted_line accepted))
 MayCheck held before now files answer EvidenceRefused bytes =
-    OnReady (claim_read held files answer) (λ claim. (number : ℕ) × (place : ℕ) × IsRejected claim number place × (bytes ≡ rejected_line number place))
+    OnReady (claim_read held files answer) (λ claim. (rejection : Rejection) × IsRejected claim rejection × (bytes ≡ rejected_line rejection))
 MayCheck held before now files answer status bytes = MayStop (claim_read held files answer) before now (answer ∷ names_of files) status bytes
 
 -- words that are refused

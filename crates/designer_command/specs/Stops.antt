@@ -73,8 +73,8 @@ StopEnds OutOfMemory got_before got_now count_before count_now end = (end ≡ st
 abbrev pub JudgementEnds : Judgement → Option (List ℕ) → Option (List ℕ) → ℕ → ℕ → Status → Type 0
 JudgementEnds (Accepted accepted) got_before got_now count_before count_now end =
     IsEnd status.Done (accepted_line accepted) got_before got_now count_before count_now end
-JudgementEnds (Rejected number place) got_before got_now count_before count_now end =
-    IsEnd status.EvidenceRefused (rejected_line number place) got_before got_now count_before count_now end
+JudgementEnds (Rejected rejection) got_before got_now count_before count_now end =
+    IsEnd status.EvidenceRefused (rejected_line rejection) got_before got_now count_before count_now end
 
 -- the status of a run whose text was put, or not put whole
 abbrev pub status_after : {T : Type 0} → Result T PutFailed → Status → Status

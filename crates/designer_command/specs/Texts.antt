@@ -7,6 +7,7 @@ use Rattle.cost_base.specs.Decimal.{decimal}
 use Rattle.config_reader.specs.Sections.{with_ends}
 use Rattle.evidence_checker.specs.declared.stop.Accepted.{Accepted}
 use Rattle.evidence_checker.specs.declared.stop.Accepted.TheVariants.{Optimal, Impossible}
+use Rattle.designer_command.specs.declared.rejection.Rejection.{Rejection}
 
 -- a refusal of input: its number, the file and the line
 pub record Refusal : Type 0 where
@@ -30,8 +31,8 @@ accepted_line (Optimal k) = line_of (codes "accepted" ∷ codes "optimal" ∷ de
 accepted_line Impossible = line_of (codes "accepted" ∷ codes "impossible" ∷ [])
 
 -- `rejected NUMBER PLACE`
-abbrev pub rejected_line : ℕ → ℕ → List ℕ
-rejected_line number place = line_of (codes "rejected" ∷ decimal number ∷ decimal place ∷ [])
+abbrev pub rejected_line : Rejection → List ℕ
+rejected_line r = line_of (codes "rejected" ∷ decimal r.number ∷ decimal r.place ∷ [])
 
 -- for now: the lower bounds themselves aren't fit, and nothing else was tried
 abbrev pub corner_line : List ℕ

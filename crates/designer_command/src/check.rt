@@ -1,22 +1,21 @@
 //! A check of an answer's file against the problem of the files of words.
 ghost use Rattle.std.specs.Prelude.{◌≡◌, ℕ, ◌≤◌, List, ◌∷◌, IfOk, IfErr, length, string_bytes};
 ghost use Rattle.path_rows.specs.Answers.{AnswerParts};
-ghost use Rattle.evidence_text.specs.Grammar.{AtHead};
-ghost use Rattle.evidence_text.specs.Refusals.{IsStop};
 ghost use Rattle.evidence_checker.specs.Laws.{RefusesInvalid};
 ghost use Rattle.evidence_checker.specs.Refusals.{StopsBy};
 ghost use Rattle.evidence_checker.specs.Tests.{tests};
 ghost use Rattle.designer_command.specs.Inputs.{names_of};
 ghost use Rattle.designer_command.specs.Outcomes.{OnReady};
 ghost use Rattle.designer_command.specs.Stops.{StopsReading, files_named};
-ghost use Rattle.designer_command.specs.Checks.{Claim, IsJudged, IsTextOf, claim_read, longest_answer};
+ghost use Rattle.designer_command.specs.Checks.{Claim, IsInvalid, IsJudged, IsTextOf, claim_read, longest_answer};
 
 use crate::problem::{View, read_problem};
 use crate::reading::{FileWords, read_answer_file};
+use crate::rejection::{Rejection, rejection_of_text};
 use crate::stop::Stop;
 use cost_base::{OutOfMemory, Shelf};
 use evidence_checker::{Accepted, CheckStop, check};
-use evidence_text::{AnswerStop, read_answer};
+use evidence_text::read_answer;
 use path_rows::{Answer, Problem};
 use std::alloc::Global;
 
@@ -25,30 +24,16 @@ use std::alloc::Global;
 pub(crate) enum Judgement {
     /// The text is that of a valid answer.
     Accepted(Accepted),
-    /// The text is off the grammar, by the first line at fault, counted from 1; or the answer isn't valid, by the first
-    /// test that is met and its place.
-    Rejected { number: u8, place: u64 },
+    /// The text is off the grammar, or the answer isn't valid.
+    Rejected(Rejection),
 }
 
-/// What the refusal of a text comes to.
-fn judgement_of_text(stop: AnswerStop) -> Result<Judgement, OutOfMemory>
-    ensures { (claim : Claim) → IsStop AtHead 0 claim.bytes stop → IfOk result (IsJudged claim) }
+/// The rejection of an answer by the checker.
+fn rejection_of_answer(stop: CheckStop) -> Result<Rejection, OutOfMemory>
+    ensures { (claim : Claim) (answer : AnswerParts) → IsTextOf claim.bytes answer → StopsBy (tests claim.problem answer) stop → RefusesInvalid claim.problem answer stop → IfOk result (IsInvalid claim) }
 {
     match stop {
-        AnswerStop::Refused { number, line } => Ok(Judgement::Rejected {
-            number,
-            place: u64::from(line),
-        }),
-        AnswerStop::OutOfMemory => Err(OutOfMemory),
-    }
-}
-
-/// What the refusal of an answer comes to.
-fn judgement_of_check(stop: CheckStop) -> Result<Judgement, OutOfMemory>
-    ensures { (claim : Claim) (answer : AnswerParts) → IsTextOf claim.bytes answer → StopsBy (tests claim.problem answer) stop → RefusesInvalid claim.problem answer stop → IfOk result (IsJudged claim) }
-{
-    match stop {
-        CheckStop::Refused { number, place } => Ok(Judgement::Rejected { number, place }),
+        CheckStop::Refused { number, place } => Ok(Rejection { number, place }),
         CheckStop::OutOfMemory => Err(OutOfMemory),
     }
 }
@@ -59,7 +44,7 @@ fn judge_answer(alloc: Global, problem: &Problem, answer: &Answer) -> Result<Jud
 {
     match check(alloc, problem, answer) {
         Ok(accepted) => Ok(Judgement::Accepted(accepted)),
-        Err(stop) => judgement_of_check(stop),
+        Err(stop) => Ok(Judgement::Rejected(rejection_of_answer(stop)?)),
     }
 }
 
@@ -70,7 +55,7 @@ fn judge(alloc: Global, problem: &Problem, bytes: &[u8]) -> Result<Judgement, Ou
 {
     match read_answer(alloc, bytes) {
         Ok(answer) => judge_answer(alloc, problem, &answer),
-        Err(stop) => judgement_of_text(stop),
+        Err(stop) => Ok(Judgement::Rejected(rejection_of_text(stop)?)),
     }
 }
 

@@ -9,6 +9,7 @@ mod floor;
 mod lines;
 mod problem;
 mod reading;
+mod rejection;
 mod rivals;
 mod stop;
 #[cfg(test)]

@@ -4,6 +4,7 @@ ghost use Rattle.cost_base.specs.Decimal.{decimal};
 ghost use Rattle.evidence_text.specs.Lines.{IsPut};
 ghost use Rattle.designer_command.specs.Texts.{refused_line, read_fault_line, accepted_line, rejected_line, usage, joined, bytes_of};
 
+use crate::rejection::Rejection;
 use cost_base::{OutOfMemory, PutFailed, Sink};
 use evidence_checker::Accepted;
 use std::alloc::Global;
@@ -129,18 +130,14 @@ pub(crate) fn accepted_line_of(alloc: Global, accepted: Accepted) -> Result<Vec<
 }
 
 /// The line `rejected NUMBER PLACE`.
-pub(crate) fn rejected_line_of(
-    alloc: Global,
-    number: u8,
-    place: u64,
-) -> Result<Vec<u8>, OutOfMemory>
-    ensures { IfOk result (λ text. text.items ≡ rejected_line number place) }
+pub(crate) fn rejected_line_of(alloc: Global, rejection: Rejection) -> Result<Vec<u8>, OutOfMemory>
+    ensures { IfOk result (λ text. text.items ≡ rejected_line rejection) }
 {
     let mut text = Vec::new(alloc);
     push_bytes(&mut text, b"rejected ")?;
-    push_number(&mut text, u128::from(number))?;
+    push_number(&mut text, u128::from(rejection.number))?;
     push_bytes(&mut text, b" ")?;
-    push_number(&mut text, u128::from(place))?;
+    push_number(&mut text, u128::from(rejection.place))?;
     push_bytes(&mut text, b"\n")?;
     Ok(text)
 }

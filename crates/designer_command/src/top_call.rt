@@ -95,8 +95,8 @@ fn write_judgement<K: Sink>(alloc: Global, judgement: Judgement, out: &mut K) ->
         Judgement::Accepted(accepted) => {
             put_line(accepted_line_of(alloc, accepted), Status::Done, out)
         }
-        Judgement::Rejected { number, place } => put_line(
-            rejected_line_of(alloc, number, place),
+        Judgement::Rejected(rejection) => put_line(
+            rejected_line_of(alloc, rejection),
             Status::EvidenceRefused,
             out,
         ),
