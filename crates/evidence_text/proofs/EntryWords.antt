@@ -1,5 +1,5 @@
 -- The words of tree lines.
-use Rattle.std.proofs.Common.{◌≡◌, ◌≢◌, ℕ, ◌+◌, ◌<◌, ◌≤◌, ◌^◌, List, [], ◌∷◌, ◌++◌, All, length, codes, MatchOption, Option, Some, None, arith, refl, sym, ap, subst, ◌∙◌, append_assoc}
+use Rattle.std.proofs.Common.{◌≡◌, ◌≢◌, ℕ, ◌<◌, ◌≤◌, ◌^◌, List, [], ◌∷◌, ◌++◌, All, length, codes, MatchOption, Option, Some, None, arith, refl, sym, ap, subst, ◌∙◌, append_assoc}
 use Rattle.std.proofs.lemmas.List.Elements.{All-head, All-tail}
 use Rattle.cost_base.specs.Decimal.{decimal}
 use Rattle.text_lines.proofs.Printed.{decimal-same}
@@ -115,7 +115,7 @@ member_shorter left rest (Low v b) e = omega (arith, ap length e)
 member_shorter left rest (High v b) e = omega (arith, ap length e)
 member_shorter left rest (Row row) e = omega (arith, ap length e)
 
-same_rest : (m x : Member) (r s : List (List ℕ)) → member_words m ++ r ≡ member_words x ++ s → r ≡ s
+pub same_rest : (m x : Member) (r s : List (List ℕ)) → member_words m ++ r ≡ member_words x ++ s → r ≡ s
 same_rest (Low v b) (Low w d) r s e = cc
 same_rest (Low v b) (High w d) r s e = cc
 same_rest (High v b) (Low w d) r s e = cc
@@ -126,7 +126,7 @@ same_rest (High v b) (Row row) r s e = absurd (side-row HighSide (head-is _ _ _ 
 same_rest (Row row) (Low v b) r s e = absurd (side-row LowSide (sym (head-is _ _ _ _ e)))
 same_rest (Row row) (High v b) r s e = absurd (side-row HighSide (sym (head-is _ _ _ _ e)))
 
-some_words : (m : Member) (r : List (List ℕ)) → [] ≡ member_words m ++ r → ⊥
+pub some_words : (m : Member) (r : List (List ℕ)) → [] ≡ member_words m ++ r → ⊥
 some_words (Low v b) r e = cc
 some_words (High v b) r e = cc
 some_words (Row row) r e = cc

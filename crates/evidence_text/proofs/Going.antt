@@ -1,12 +1,12 @@
 -- Going on from place to place.
-use Rattle.std.proofs.Common.{◌≡◌, ℕ, ◌+◌, ◌≤◌, List, [], ◌∷◌, ◌++◌, length, map, refl, sym, ap, subst, ◌∙◌, arith, append_assoc, append-nil, length-append}
-use Rattle.std.proofs.lemmas.List.{map-append}
-use Rattle.std.specs.List.{concat}
+use Rattle.std.proofs.Common.{◌≡◌, ℕ, ◌+◌, ◌≤◌, List, [], ◌∷◌, ◌++◌, length, refl, sym, ap, subst, ◌∙◌, arith, append_assoc, append-nil, length-append}
 use Rattle.text_lines.specs.Lines.{IsOneLine}
 use Rattle.evidence_text.specs.Lines.{text_of}
 use Rattle.evidence_text.specs.Grammar.{Place, Next}
-use Rattle.evidence_text.specs.Refusals.{Leads, LeadOn, IsLawful, IsRead, IsRefused}
+use Rattle.evidence_text.specs.Refusals.{LeadOn, IsRead, IsRefused, IsStop}
 use Rattle.evidence_text.specs.Places.{IsFirst, LacksFirst, LacksLawful}
+use Rattle.evidence_text.specs.declared.read_whole.AnswerStop.{AnswerStop}
+use Rattle.evidence_text.specs.declared.read_whole.AnswerStop.TheVariants.{Refused, OutOfMemory}
 use Rattle.evidence_text.proofs.LineFronts.{first-one}
 
 -- a text without a short first line has no lawful one
@@ -71,3 +71,12 @@ refused-then from mid b0 b1 bytes middle xs number line first second =
       line_is = omega (arith, first.count, second.line_is, length-append xs second.lines);
       fault = second.fault;
     }
+
+-- a stop behind lines that were read
+pub stop-then : {from mid : Place} {b0 b1 : ℕ} {bytes middle : List ℕ} {xs : List (List ℕ)} (stop : AnswerStop) → IsRead from b0 bytes xs mid b1 middle → IsStop mid b1 middle stop → IsStop from b0 bytes stop
+stop-then {from} {mid} {b0} {b1} {bytes} {middle} {xs} (Refused number line) first second = refused-then from mid b0 b1 bytes middle xs number line first second
+stop-then OutOfMemory first second = tt
+
+-- more lines are read behind some
+pub go-then : {from mid to : Place} {b0 b1 b2 : ℕ} {bytes middle left : List ℕ} {xs ys : List (List ℕ)} → IsRead from b0 bytes xs mid b1 middle → IsRead mid b1 middle ys to b2 left → IsRead from b0 bytes (xs ++ ys) to b2 left
+go-then {from} {mid} {to} {b0} {b1} {b2} {bytes} {middle} {left} {xs} {ys} first second = read-then from mid to b0 b1 b2 bytes middle left xs ys first second

@@ -1,5 +1,5 @@
 -- Tree lines by their words.
-use Rattle.std.proofs.Common.{◌≡◌, ◌≢◌, ℕ, ◌+◌, List, [], ◌∷◌, ◌++◌, All, codes, eqb, false, ℤ, pos, negsuc, MatchOption, Option, Some, None, refl, sym, ap, ◌∙◌}
+use Rattle.std.proofs.Common.{◌≡◌, ◌≢◌, ℕ, ◌+◌, List, [], ◌∷◌, All, codes, eqb, false, ℤ, pos, negsuc, MatchOption, Option, Some, None, refl, sym, ap, ◌∙◌}
 use Rattle.std.proofs.lemmas.List.Elements.{All-nil, All-cons, All-append}
 use Rattle.cost_base.specs.Decimal.{decimal}
 use Rattle.cost_base.specs.declared.Ratio.{Ratio}
@@ -12,17 +12,17 @@ use Rattle.path_rows.specs.declared.tree.Member.TheVariants.{Low, High, Row}
 use Rattle.path_rows.specs.declared.tree.Entry.{Entry}
 use Rattle.path_rows.specs.declared.tree.Entry.TheVariants.{Tighten, Split, Halve, Refute, Undone}
 use Rattle.path_rows.specs.Bounds.{BoundsEntry}
-use Rattle.path_rows.specs.Text.{spaced, integer, side_word, step_word, ratio_word, member_words, members_words, part_words, entry_line, FitsEntry}
+use Rattle.path_rows.specs.Text.{spaced, integer, side_word, step_word, ratio_word, members_words, part_words, entry_line, FitsEntry}
 use Rattle.text_lines.specs.Numbers.{split}
-use Rattle.evidence_text.specs.Words.{entry_words, SaysEntry, SaysNoEntry}
+use Rattle.evidence_text.specs.Words.{IsSpaceless, entry_words, SaysEntry, SaysNoEntry}
 use Rattle.evidence_text.proofs.EntryWords.{entry_line-words}
-use Rattle.evidence_text.proofs.SpacedWords.{IsSpaceless, spaceless-from, decimal-spaceless, split-spaced, spaced-split}
+use Rattle.evidence_text.proofs.SpacedWords.{spaceless-from, decimal-spaceless, split-spaced, spaced-split}
 
-side-spaceless : (side : Side) → IsSpaceless (side_word side)
+pub side-spaceless : (side : Side) → IsSpaceless (side_word side)
 side-spaceless LowSide = spaceless-from (codes "low") refl
 side-spaceless HighSide = spaceless-from (codes "high") refl
 
-step-spaceless : (step : StepName) → IsSpaceless (step_word step)
+pub step-spaceless : (step : StepName) → IsSpaceless (step_word step)
 step-spaceless Add = spaceless-from (codes "add") refl
 step-spaceless Sub = spaceless-from (codes "sub") refl
 step-spaceless Mul = spaceless-from (codes "mul") refl
@@ -34,7 +34,7 @@ integer-spaceless : (z : ℤ) → IsSpaceless (integer z)
 integer-spaceless (pos n) = decimal-spaceless n
 integer-spaceless (negsuc n) = All-cons (λ c. eqb c 32 ≡ false) 45 (decimal (n + 1)) refl (decimal-spaceless (n + 1))
 
-ratio-spaceless : (q : Ratio) → IsSpaceless (ratio_word q)
+pub ratio-spaceless : (q : Ratio) → IsSpaceless (ratio_word q)
 ratio-spaceless q =
     All-append (λ c. eqb c 32 ≡ false) (integer q.numerator) (47 ∷ integer q.denominator) (integer-spaceless q.numerator)
     (All-cons (λ c. eqb c 32 ≡ false) 47 (integer q.denominator) refl (integer-spaceless q.denominator))
@@ -78,7 +78,7 @@ entry-some (Refute parts) e = cc
 entry-some Undone e = cc
 
 -- the words of a tree line are its pieces
-pieces-entry : (entry : Entry) → split 32 (spaced (entry_words entry)) ≡ entry_words entry
+pub pieces-entry : (entry : Entry) → split 32 (spaced (entry_words entry)) ≡ entry_words entry
 pieces-entry entry = some_pieces (entry_words entry) (entry-some entry) (entry-plain entry)
 
 -- the entry that a line's words say is the entry of the line

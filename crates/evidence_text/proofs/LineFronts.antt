@@ -1,9 +1,8 @@
 -- Lines by their fronts, and the first line of a text.
-use Rattle.std.proofs.Common.{◌≡◌, ◌≢◌, ℕ, zero, suc, ◌+◌, ◌≤◌, List, [], ◌∷◌, ◌++◌, All, length, eqb, Bool, cond, true, false, MatchOption, Option, Some, None, refl, sym, ap, ◌∙◌, arith, append_assoc}
+use Rattle.std.proofs.Common.{◌≡◌, ◌≢◌, ℕ, ◌≤◌, List, [], ◌∷◌, ◌++◌, All, eqb, Bool, cond, true, false, MatchOption, Option, Some, None, refl, sym, ap, ◌∙◌}
 use Rattle.std.proofs.lemmas.Bool.{eq-eqb}
 use Rattle.std.proofs.lemmas.List.{append_cancel_left}
 use Rattle.std.proofs.lemmas.List.Elements.{All-nil, All-cons, All-head, All-tail}
-use Rattle.std.specs.List.{concat}
 use Rattle.cost_base.specs.Decimal.{decimal}
 use Rattle.text_lines.specs.Lines.{lines, grow, IsOneLine}
 use Rattle.text_lines.specs.Numbers.{split}

@@ -1,6 +1,6 @@
 -- The words of the lines of an answer.
-use Rattle.std.proofs.Common.{◌≡◌, ℕ, List, [], ◌∷◌, All, map, codes, refl}
-use Rattle.std.proofs.lemmas.List.Elements.{All-nil, All-cons}
+use Rattle.std.proofs.Common.{◌≡◌, ℕ, List, [], ◌∷◌, map, codes, refl}
+use Rattle.std.proofs.lemmas.List.Elements.{All-cons}
 use Rattle.cost_base.specs.Decimal.{decimal}
 use Rattle.path_rows.specs.declared.form.Row.{Row}
 use Rattle.path_rows.specs.Text.{row_line}
@@ -8,7 +8,8 @@ use Rattle.text_lines.specs.Numbers.{split}
 use Rattle.evidence_text.specs.Parts.{part_word, tree_line}
 use Rattle.evidence_text.specs.declared.TreePart.{TreePart}
 use Rattle.evidence_text.specs.declared.TreePart.TheVariants.{Proof, Unfinished}
-use Rattle.evidence_text.proofs.SpacedWords.{IsSpaceless, spaceless-from, decimal-spaceless, numbers-spaceless, to-words}
+use Rattle.evidence_text.specs.Words.{IsSpaceless}
+use Rattle.evidence_text.proofs.SpacedWords.{spaceless-from, numbers-spaceless, to-words}
 
 part-spaceless : (part : TreePart) → IsSpaceless (part_word part)
 part-spaceless Proof = spaceless-from (codes "proof") refl

@@ -1,5 +1,5 @@
 -- Fractions and their words.
-use Rattle.std.proofs.Common.{◌≡◌, ◌≢◌, ℕ, zero, suc, ◌+◌, ◌<◌, List, [], ◌∷◌, ◌++◌, All, eqb, true, false, ℤ, pos, negsuc, nat_abs, MatchOption, Option, Some, None, arith, refl, sym, ap, ◌∙◌}
+use Rattle.std.proofs.Common.{◌≡◌, ◌≢◌, ℕ, ◌+◌, ◌<◌, List, [], ◌∷◌, ◌++◌, All, eqb, true, false, ℤ, pos, negsuc, nat_abs, MatchOption, Option, Some, None, arith, refl, sym, ap, ◌∙◌}
 use Rattle.std.specs.List.{list_all}
 use Rattle.cost_base.specs.Decimal.{decimal, is_digit}
 use Rattle.path_rows.specs.Text.{integer}

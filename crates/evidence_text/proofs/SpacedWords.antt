@@ -1,9 +1,9 @@
 -- Lines of words without spaces, cut at their spaces.
-use Rattle.std.proofs.Common.{◌≡◌, ◌≢◌, ℕ, List, [], ◌∷◌, ◌++◌, All, eqb, ◌||◌, Bool, cond, true, false, map, codes, refl, sym, ap, ◌∙◌}
+use Rattle.std.proofs.Common.{◌≡◌, ℕ, List, [], ◌∷◌, All, eqb, ◌||◌, Bool, cond, true, false, map, refl, sym, ap, ◌∙◌}
 use Rattle.std.proofs.lemmas.Bool.{or_parts, eqb-true, and_parts, true≢false}
 use Rattle.std.proofs.lemmas.List.Elements.{All-nil, All-cons, All-head, All-tail, All-weaker}
-use Rattle.std.specs.List.{list_all, join_with_byte}
-use Rattle.std.specs.Prelude.{not, ◌&&◌}
+use Rattle.std.specs.List.{list_all}
+use Rattle.std.specs.Prelude.{not}
 use Rattle.cost_base.specs.Words.{is_blank, ends_a_word, IsOneWord}
 use Rattle.cost_base.specs.Decimal.{decimal}
 use Rattle.path_rows.specs.Text.{spaced}
@@ -11,11 +11,8 @@ use Rattle.text_lines.specs.Lines.{grow}
 use Rattle.text_lines.specs.Numbers.{split}
 use Rattle.text_lines.proofs.Pieces.{split-some}
 use Rattle.text_lines.proofs.WordLaws.{decimal-word}
+use Rattle.evidence_text.specs.Words.{IsSpaceless}
 use Rattle.evidence_text.proofs.LineFronts.{split-front}
-
--- no byte is a space
-abbrev pub IsSpaceless : List ℕ → Type 0
-IsSpaceless w = All (λ c. eqb c 32 ≡ false) w
 
 not_space : (c : ℕ) → ends_a_word c ≡ false → eqb c 32 ≡ false
 not_space c h =
@@ -45,7 +42,7 @@ numbers-spaceless [] = All-nil IsSpaceless
 numbers-spaceless (n ∷ ns) = All-cons IsSpaceless (decimal n) (map decimal ns) (decimal-spaceless n) (numbers-spaceless ns)
 
 -- a word without spaces is its only piece
-split-alone : (w : List ℕ) → IsSpaceless w → split 32 w ≡ w ∷ []
+pub split-alone : (w : List ℕ) → IsSpaceless w → split 32 w ≡ w ∷ []
 split-alone [] whole = refl
 split-alone (c ∷ cs) whole =
     let other : eqb c 32 ≡ false = All-head (λ x. eqb x 32 ≡ false) c cs whole in

@@ -1,5 +1,5 @@
 -- The grammar of an answer's text, line by line: which lines may stand at a place, and where each leads.
-use Rattle.std.specs.Prelude.{◌≡◌, ◌≢◌, ℕ, zero, suc, ◌+◌, ◌^◌, ◌<◌, ◌≤◌, ◌⊎◌, List, [], ◌∷◌, length, codes, Option, Some, None}
+use Rattle.std.specs.Prelude.{◌≡◌, ◌≢◌, ℕ, zero, suc, ◌+◌, ◌<◌, ◌⊎◌, List, [], ◌∷◌, codes, Option, Some, None}
 use Rattle.cost_base.specs.Words.{IsOneWord}
 use Rattle.path_rows.specs.declared.form.Row.{Row}
 use Rattle.path_rows.specs.declared.tree.Entry.{Entry}

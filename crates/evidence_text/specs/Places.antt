@@ -17,3 +17,7 @@ LacksFirst bytes = (line left : List ℕ) → IsFirst bytes line left → ⊥
 -- no lawful line stands first
 abbrev pub LacksLawful : Place → List ℕ → Type 0
 LacksLawful place bytes = (line left : List ℕ) → bytes ≡ line ++ 10 ∷ left → IsOneLine line → IsLawful place line → ⊥
+
+-- a lawful line at a place begins with this
+abbrev pub Begins : Place → List ℕ → Type 0
+Begins place rest = (more : List ℕ) × IsLawful place (rest ++ more)

@@ -1,5 +1,5 @@
 -- The words of a line that is cut at each space.
-use Rattle.std.specs.Prelude.{◌≡◌, ℕ, List, [], ◌∷◌, codes, Option, Some, None}
+use Rattle.std.specs.Prelude.{◌≡◌, ℕ, List, [], ◌∷◌, codes, Option, Some, None, All, ◌==◌, false}
 use Rattle.std.specs.Option.{option_copied}
 use Rattle.cost_base.specs.Decimal.{decimal}
 use Rattle.path_rows.specs.declared.tree.Entry.{Entry}
@@ -8,6 +8,10 @@ use Rattle.path_rows.specs.Bounds.{BoundsEntry}
 use Rattle.path_rows.specs.Text.{side_word, step_word, ratio_word, members_words, part_words, FitsEntry}
 use Rattle.text_lines.specs.Numbers.{split}
 use Rattle.evidence_text.specs.declared.words.Pieces.{Pieces}
+
+-- no byte is a space
+abbrev pub IsSpaceless : List ℕ → Type 0
+IsSpaceless w = All (λ c. (c == 32) ≡ false) w
 
 abbrev pub words_of_rest : Option (List ℕ) → List (List ℕ)
 words_of_rest None = []

@@ -21,13 +21,13 @@ use path_rows::{Entry, Member, Parts, Ratio, Side, StepName, WideAt};
 use std::alloc::Global;
 
 /// The greatest number of a variable.
-const GREATEST_VAR: u128 = 4_294_967_295;
+pub(crate) const GREATEST_VAR: u128 = 4_294_967_295;
 /// The greatest number of a row.
-const GREATEST_ROW: u128 = 18_446_744_073_709_551_615;
+pub(crate) const GREATEST_ROW: u128 = 18_446_744_073_709_551_615;
 /// The greatest bound.
-const GREATEST_VALUE: u128 = 65_535;
+pub(crate) const GREATEST_VALUE: u128 = 65_535;
 /// The greatest multiplier, of 31 digits.
-const GREATEST_MULTIPLIER: u128 = 9_999_999_999_999_999_999_999_999_999_999;
+pub(crate) const GREATEST_MULTIPLIER: u128 = 9_999_999_999_999_999_999_999_999_999_999;
 
 /// The entry that a line says.
 ///
@@ -156,7 +156,7 @@ fn parts_of(alloc: Global, words: Pieces<'_>) -> Result<Option<Vec<(u64, u128)>>
 }
 
 /// The row with its multiplier that the next two words say, and the words behind them.
-fn part_of(words: Pieces<'_>) -> Option<((u64, u128), Pieces<'_>)>
+pub(crate) fn part_of(words: Pieces<'_>) -> Option<((u64, u128), Pieces<'_>)>
     ensures { MatchOption result ((row m : ℕ) (rest : List (List ℕ)) → IsRowNumber row → 0 < m → m < 10 ^ 31 → words_left words.entry ≢ decimal row ∷ decimal m ∷ rest)
         (λ r. IsRowNumber r.0.0 × (0 < r.0.1) × (r.0.1 < 10 ^ 31) × (words_left words.entry ≡ decimal r.0.0 ∷ decimal r.0.1 ∷ words_left r.1)) }
 {
@@ -290,7 +290,7 @@ fn members_of(alloc: Global, words: Pieces<'_>) -> Result<Option<Vec<Member>>, O
 }
 
 /// The member of a basis that the next words say, and the words behind them.
-fn member_of(words: Pieces<'_>) -> Option<(Member, Pieces<'_>)>
+pub(crate) fn member_of(words: Pieces<'_>) -> Option<(Member, Pieces<'_>)>
     ensures { MatchOption result ((member : Member) (rest : List (List ℕ)) → BoundsMember member → words_left words.entry ≢ member_words member ++ rest)
         (λ r. BoundsMember r.0 × (words_left words.entry ≡ member_words r.0 ++ words_left r.1)) }
 {

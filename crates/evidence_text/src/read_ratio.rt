@@ -11,7 +11,7 @@ use cost_base::Ratio;
 use text_lines::{cut, printed_number};
 
 /// The greatest number of a fraction, in size: 2^127 - 1.
-const GREATEST: u128 = 170_141_183_460_469_231_731_687_303_715_884_105_727;
+pub(crate) const GREATEST: u128 = 170_141_183_460_469_231_731_687_303_715_884_105_727;
 
 /// The fraction that a word says.
 pub(crate) fn ratio_of(word: &[u8]) -> Option<Ratio>
@@ -43,7 +43,7 @@ fn lowest(numerator: i128, denominator: u128) -> Option<Ratio>
 }
 
 /// The number with its sign that a word says.
-fn integer_of(word: &[u8]) -> Option<i128>
+pub(crate) fn integer_of(word: &[u8]) -> Option<i128>
     ensures { MatchOption result ((z : ℤ) → nat_abs z < 2 ^ 127 → word.now ≢ integer z) (λ z. (nat_abs z < 2 ^ 127) × (word.now ≡ integer z)) }
 {
     match after(word, b"-") {
@@ -68,7 +68,7 @@ fn negative_of(digits: &[u8]) -> Option<i128>
 }
 
 /// The greatest common divisor, by Euclid's steps.
-fn greatest_common_divisor(left: u128, right: u128) -> u128
+pub(crate) fn greatest_common_divisor(left: u128, right: u128) -> u128
     ensures { result ≡ gcd left right }
 {
     let mut larger = left;

@@ -1,12 +1,19 @@
 //! Reading the text of an answer.
-ghost use Rattle.std.specs.Prelude.{◌≡◌, ℕ, ◌+◌, ◌-◌, ◌^◌, ◌<◌, List, All, IfOk, IfErr, length};
-ghost use Rattle.path_rows.specs.declared.form.Row.{Row};
+ghost use Rattle.std.specs.Prelude.{◌≡◌, ◌-◌, ◌^◌, ◌<◌, All, IfOk, IfErr, length};
 ghost use Rattle.path_rows.specs.Text.{text};
 ghost use Rattle.evidence_text.specs.Refusals.{IsStop};
 ghost use Rattle.evidence_text.specs.Grammar.{AtHead};
 
+use crate::TreePart;
+use crate::stage_costs::read_costs;
+use crate::stage_end::read_end;
+use crate::stage_head::read_head;
+use crate::stage_rows::read_rows;
+use crate::stage_trees::read_tree;
+use crate::text_left::TextLeft;
+use cost_base::{Listed, OutOfMemory};
 use path_rows::Answer;
-use std::alloc::Global;
+use std::alloc::{AllocFailed, Global};
 
 /// Why a text wasn't read as an answer.
 #[derive(Clone, Copy, Debug, PartialEq, Eq)]
@@ -23,6 +30,28 @@ pub enum AnswerStop {
     OutOfMemory,
 }
 
+impl From<OutOfMemory> for AnswerStop {
+    ghost use Rattle.std.specs.Prelude.{◌≡◌};
+    ghost use Rattle.evidence_text.specs.declared.read_whole.AnswerStop.TheVariants.{OutOfMemory as NoMemory};
+
+    ghost from_gives = { λ _ stop. stop ≡ NoMemory };
+
+    fn from(_error: OutOfMemory) -> AnswerStop {
+        AnswerStop::OutOfMemory
+    }
+}
+
+impl<T: Drop> From<AllocFailed<T>> for AnswerStop {
+    ghost use Rattle.std.specs.Prelude.{◌≡◌};
+    ghost use Rattle.evidence_text.specs.declared.read_whole.AnswerStop.TheVariants.{OutOfMemory as NoMemory};
+
+    ghost from_gives = { λ _ stop. stop ≡ NoMemory };
+
+    fn from(_error: AllocFailed<T>) -> AnswerStop {
+        AnswerStop::OutOfMemory
+    }
+}
+
 /// The answer whose text this is. Its rows' rivals start at 0, since a text says no start.
 ///
 /// # Errors
@@ -35,5 +64,19 @@ pub fn read_answer(alloc: Global, bytes: &[u8]) -> Result<Answer, AnswerStop>
     ensures starts { IfOk result (λ answer. All (λ row. row.rival.start ≡ 0) answer.rows) }
     ensures stopped { IfErr result (IsStop AtHead 0 bytes.now) }
 {
-    Err(AnswerStop::OutOfMemory)
+    let text = TextLeft::new(bytes);
+    let (verdict, behind_head) = read_head(text)?;
+    let (priced, behind_costs) = read_costs(alloc, behind_head)?;
+    let (rows, behind_rows) = read_rows(alloc, behind_costs)?;
+    let (proof, behind_proof) = read_tree(alloc, TreePart::Proof, behind_rows)?;
+    let (unfinished, behind_trees) = read_tree(alloc, TreePart::Unfinished, behind_proof)?;
+    read_end(behind_trees)?;
+    Ok(Answer {
+        verdict,
+        costs: priced.costs,
+        floor: priced.floor,
+        rows: Listed::from_items(rows),
+        proof,
+        unfinished,
+    })
 }

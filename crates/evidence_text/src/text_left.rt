@@ -5,7 +5,7 @@ ghost use Rattle.evidence_text.specs.Places.{IsFirst, LacksFirst};
 use text_lines::cut;
 
 /// The greatest number of bytes of a line.
-const LONGEST: usize = 65_536;
+pub(crate) const LONGEST: usize = 65_536;
 
 /// What is left of a text, and how many of its lines were read.
 #[derive(Clone, Copy)]

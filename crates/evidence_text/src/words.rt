@@ -52,6 +52,13 @@ impl<'a> Pieces<'a> {
         Some((number, rest))
     }
 
+    /// The text of the words that are left.
+    pub(crate) fn text(self) -> Option<&'a [u8]>
+        ensures { MatchOption result (words_left self.entry ≡ []) (λ text. words_left self.entry ≡ split 32 text.now) }
+    {
+        self.left
+    }
+
     /// Whether no word is left.
     pub(crate) fn is_done(self) -> bool
         ensures { IsTrue result ↔ (words_left self.entry ≡ []) }
