@@ -179,7 +179,15 @@ fn run_job<S: Shelf, K: Sink>(alloc: Global, job: &Job, shelf: &mut S, out: &mut
 ///
 /// `design --request F CONFIG..` reads the request and the configurations from the shelf and writes the text of an
 /// optimal answer to the sink, with status `Done`. For now costs are found only where the lower bounds themselves are
-/// fit; else, and exactly there, the status is `Undecided`. The other commands aren't built yet: their words are refused.
+/// fit; else, and exactly there, the status is `Undecided`.
+///
+/// `audit --request F CONFIG..` writes a line for each requested path, with status `Done`.
+///
+/// `check --request F --answer A CONFIG..` reads the answer's file after the other files. It writes `accepted optimal K` or
+/// `accepted impossible`, with status `Done`, where the file's bytes are the text of a valid answer; else
+/// `rejected NUMBER PLACE`, with status `EvidenceRefused`.
+///
+/// The other commands aren't built yet: their words are refused.
 ///
 /// # Status
 ///
