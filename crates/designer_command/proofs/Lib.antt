@@ -11,6 +11,8 @@ pub mod ReadBackLaws
 pub mod DesignedLaws
 pub mod DesignRuns
 pub mod Runs
+pub mod AnswerFiles
+pub mod Claims
 pub mod Audits
 pub mod OnlyCheapest
 pub mod CornerLaws

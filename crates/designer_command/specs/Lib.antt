@@ -6,4 +6,5 @@ pub mod ReadBack
 pub mod Corners
 pub mod Designs
 pub mod Audits
+pub mod Checks
 pub mod Runs

@@ -1,17 +1,20 @@
 -- What a run may write, with the status that it ends with.
-use Rattle.std.specs.Prelude.{◌≡◌, ℕ, ◌<◌, List, Option, Some, Contains}
+use Rattle.std.specs.Prelude.{◌≡◌, ℕ, ◌<◌, List, ◌∷◌, Option, Some, Contains}
 use Rattle.cost_base.specs.declared.Status.{Status}
 use Rattle.cost_base.specs.declared.Status.TheVariants.{Done, Impossible, Undecided, InputRefused, ReadFault, WriteFault, OutOfMemory, WordsRefused, EvidenceRefused}
 use Rattle.cost_base.specs.Outside.{Rose, GotWhole, GotPart}
 use Rattle.path_rows.specs.Rows.{IsFit}
-use Rattle.command_words.specs.Jobs.{JobRead, Design, Audit}
+use Rattle.evidence_checker.specs.declared.stop.Accepted.{Accepted}
+use Rattle.command_words.specs.Jobs.{JobRead, Design, Check, Audit}
 use Rattle.command_words.specs.Commands.{job_of}
 use Rattle.designer_command.specs.declared.problem.View.TheVariants.{AsRequested, AtPresent}
+use Rattle.designer_command.specs.declared.rejection.Rejection.{Rejection}
 use Rattle.designer_command.specs.Inputs.{InputFiles, names_of}
-use Rattle.designer_command.specs.Texts.{refused_line, read_fault_line, corner_line, usage}
+use Rattle.designer_command.specs.Texts.{refused_line, read_fault_line, accepted_line, rejected_line, corner_line, usage}
 use Rattle.designer_command.specs.Outcomes.{Reading, outcome, OnReady, OnRefused}
 use Rattle.designer_command.specs.Designs.{IsDesigned}
 use Rattle.designer_command.specs.Audits.{IsAudit}
+use Rattle.designer_command.specs.Checks.{IsAccepted, IsRejected, claim_read}
 
 -- one of the named files failed, and is written
 pub record IsReadFault (before now : List ℕ → ℕ) (names : List (List ℕ)) (bytes : List ℕ) : Type 0 where
@@ -37,6 +40,14 @@ abbrev pub MayAudit : (List ℕ → Option (List ℕ)) → (List ℕ → ℕ) �
 MayAudit held before now files Done bytes = OnReady (outcome AtPresent held files) (λ d. IsAudit d.problem bytes)
 MayAudit held before now files status bytes = MayStop (outcome AtPresent held files) before now (names_of files) status bytes
 
+-- `check`: a valid answer is accepted, and exactly that; else its text or its evidence is refused, by the first fault
+abbrev pub MayCheck : (List ℕ → Option (List ℕ)) → (List ℕ → ℕ) → (List ℕ → ℕ) → InputFiles → List ℕ → Status → List ℕ → Type 0
+MayCheck held before now files answer Done bytes =
+    OnReady (claim_read held files answer) (λ claim. (accepted : Accepted) × IsAccepted claim accepted × (bytes ≡ accepted_line accepted))
+MayCheck held before now files answer EvidenceRefused bytes =
+    OnReady (claim_read held files answer) (λ claim. (rejection : Rejection) × IsRejected claim rejection × (bytes ≡ rejected_line rejection))
+MayCheck held before now files answer status bytes = MayStop (claim_read held files answer) before now (answer ∷ names_of files) status bytes
+
 -- words that are refused
 abbrev pub MayRefuse : Status → List ℕ → Type 0
 MayRefuse WordsRefused bytes = bytes ≡ usage
@@ -45,6 +56,7 @@ MayRefuse _ bytes = ⊥
 -- the whole text that a run writes with a status; for now the words of a command that isn't built are refused
 abbrev pub MayWrite : Option JobRead → (List ℕ → Option (List ℕ)) → (List ℕ → ℕ) → (List ℕ → ℕ) → Status → List ℕ → Type 0
 MayWrite (Some (Design request limits configs)) held before now status bytes = MayDesign held before now (record { request = request; configs = configs }) status bytes
+MayWrite (Some (Check request answer configs)) held before now status bytes = MayCheck held before now (record { request = request; configs = configs }) answer status bytes
 MayWrite (Some (Audit request configs)) held before now status bytes = MayAudit held before now (record { request = request; configs = configs }) status bytes
 MayWrite _ held before now status bytes = MayRefuse status bytes
 

@@ -17,12 +17,14 @@ use Rattle.path_requests.specs.declared.stop.RequestStop.{RequestStop}
 use Rattle.path_requests.specs.declared.stop.RequestStop.TheVariants.{Refused as RequestRefused, NoCost, OutOfMemory as NoMemoryForRequest}
 use Rattle.path_requests.specs.Resolving.{AtLine, LacksCost}
 use Rattle.command_words.specs.Words.{texts}
+use Rattle.designer_command.specs.declared.check.Judgement.{Judgement}
+use Rattle.designer_command.specs.declared.check.Judgement.TheVariants.{Accepted, Rejected}
 use Rattle.designer_command.specs.declared.stop.Stop.{Stop}
 use Rattle.designer_command.specs.declared.stop.Stop.TheVariants.{Refused, ReadFault, OutOfMemory}
 use Rattle.designer_command.specs.declared.reading.FileWords.{FileWords}
 use Rattle.designer_command.specs.Inputs.{InputFiles}
 use Rattle.designer_command.specs.Outcomes.{Reading, OnRefused, fault_number, file_of, resolution_refusal}
-use Rattle.designer_command.specs.Texts.{Refusal, refused_line, read_fault_line}
+use Rattle.designer_command.specs.Texts.{Refusal, refused_line, read_fault_line, accepted_line, rejected_line}
 
 -- the files that words name
 abbrev pub files_named : FileWords → InputFiles
@@ -66,6 +68,13 @@ StopEnds (Refused number file line) got_before got_now count_before count_now en
 StopEnds (ReadFault file) got_before got_now count_before count_now end =
     IsEnd status.ReadFault (read_fault_line (string_bytes file.now)) got_before got_now count_before count_now end
 StopEnds OutOfMemory got_before got_now count_before count_now end = (end ≡ status.OutOfMemory) × (got_now ≡ got_before)
+
+-- how a run ends whose check came to this
+abbrev pub JudgementEnds : Judgement → Option (List ℕ) → Option (List ℕ) → ℕ → ℕ → Status → Type 0
+JudgementEnds (Accepted accepted) got_before got_now count_before count_now end =
+    IsEnd status.Done (accepted_line accepted) got_before got_now count_before count_now end
+JudgementEnds (Rejected rejection) got_before got_now count_before count_now end =
+    IsEnd status.EvidenceRefused (rejected_line rejection) got_before got_now count_before count_now end
 
 -- the status of a run whose text was put, or not put whole
 abbrev pub status_after : {T : Type 0} → Result T PutFailed → Status → Status

@@ -5,6 +5,9 @@ use Rattle.std.specs.List.{concat, join_with_byte}
 use Rattle.std.specs.Borrow.{Bor}
 use Rattle.cost_base.specs.Decimal.{decimal}
 use Rattle.config_reader.specs.Sections.{with_ends}
+use Rattle.evidence_checker.specs.declared.stop.Accepted.{Accepted}
+use Rattle.evidence_checker.specs.declared.stop.Accepted.TheVariants.{Optimal, Impossible}
+use Rattle.designer_command.specs.declared.rejection.Rejection.{Rejection}
 
 -- a refusal of input: its number, the file and the line
 pub record Refusal : Type 0 where
@@ -21,6 +24,15 @@ refused_line r = line_of (codes "refused" ∷ decimal r.number ∷ r.file ∷ de
 
 abbrev pub read_fault_line : List ℕ → List ℕ
 read_fault_line file = line_of (codes "read" ∷ codes "fault" ∷ file ∷ [])
+
+-- `accepted optimal K` or `accepted impossible`
+abbrev pub accepted_line : Accepted → List ℕ
+accepted_line (Optimal k) = line_of (codes "accepted" ∷ codes "optimal" ∷ decimal k ∷ [])
+accepted_line Impossible = line_of (codes "accepted" ∷ codes "impossible" ∷ [])
+
+-- `rejected NUMBER PLACE`
+abbrev pub rejected_line : Rejection → List ℕ
+rejected_line r = line_of (codes "rejected" ∷ decimal r.number ∷ decimal r.place ∷ [])
 
 -- for now: the lower bounds themselves aren't fit, and nothing else was tried
 abbrev pub corner_line : List ℕ

@@ -2,12 +2,14 @@
 #![tactic(auto)]
 
 mod audit;
+mod check;
 mod corner;
 mod design;
 mod floor;
 mod lines;
 mod problem;
 mod reading;
+mod rejection;
 mod rivals;
 mod stop;
 #[cfg(test)]

@@ -2,9 +2,11 @@
 ghost use Rattle.std.specs.Prelude.{◌≡◌, ◌++◌, IfOk, OnOk, string_bytes};
 ghost use Rattle.cost_base.specs.Decimal.{decimal};
 ghost use Rattle.evidence_text.specs.Lines.{IsPut};
-ghost use Rattle.designer_command.specs.Texts.{refused_line, read_fault_line, usage, joined, bytes_of};
+ghost use Rattle.designer_command.specs.Texts.{refused_line, read_fault_line, accepted_line, rejected_line, usage, joined, bytes_of};
 
+use crate::rejection::Rejection;
 use cost_base::{OutOfMemory, PutFailed, Sink};
+use evidence_checker::Accepted;
 use std::alloc::Global;
 use text_lines::number_bytes;
 
@@ -93,6 +95,49 @@ pub(crate) fn read_fault_line_of(alloc: Global, file: &String) -> Result<Vec<u8>
     let mut text = Vec::new(alloc);
     push_bytes(&mut text, b"read fault ")?;
     push_bytes(&mut text, file.as_bytes())?;
+    push_bytes(&mut text, b"\n")?;
+    Ok(text)
+}
+
+/// The line `accepted optimal K`.
+fn optimal_line_of(alloc: Global, greatest: u16) -> Result<Vec<u8>, OutOfMemory>
+    ensures { IfOk result (λ text. text.items ≡ accepted_line (Accepted.Optimal greatest)) }
+{
+    let mut text = Vec::new(alloc);
+    push_bytes(&mut text, b"accepted optimal ")?;
+    push_number(&mut text, u128::from(greatest))?;
+    push_bytes(&mut text, b"\n")?;
+    Ok(text)
+}
+
+/// The line `accepted impossible`.
+fn impossible_line_of(alloc: Global) -> Result<Vec<u8>, OutOfMemory>
+    ensures { IfOk result (λ text. text.items ≡ accepted_line Accepted.Impossible) }
+{
+    let mut text = Vec::new(alloc);
+    push_bytes(&mut text, b"accepted impossible\n")?;
+    Ok(text)
+}
+
+/// The line that tells what was accepted.
+pub(crate) fn accepted_line_of(alloc: Global, accepted: Accepted) -> Result<Vec<u8>, OutOfMemory>
+    ensures { IfOk result (λ text. text.items ≡ accepted_line accepted) }
+{
+    match accepted {
+        Accepted::Optimal(greatest) => optimal_line_of(alloc, greatest),
+        Accepted::Impossible => impossible_line_of(alloc),
+    }
+}
+
+/// The line `rejected NUMBER PLACE`.
+pub(crate) fn rejected_line_of(alloc: Global, rejection: Rejection) -> Result<Vec<u8>, OutOfMemory>
+    ensures { IfOk result (λ text. text.items ≡ rejected_line rejection) }
+{
+    let mut text = Vec::new(alloc);
+    push_bytes(&mut text, b"rejected ")?;
+    push_number(&mut text, u128::from(rejection.number))?;
+    push_bytes(&mut text, b" ")?;
+    push_number(&mut text, u128::from(rejection.place))?;
     push_bytes(&mut text, b"\n")?;
     Ok(text)
 }

@@ -3,7 +3,8 @@ ghost use Rattle.std.specs.Prelude.{◌≡◌, ℕ, List, [], ◌∷◌, ◌≤�
 ghost use Rattle.cost_base.specs.Outside.{IsFile, IsLonger, CountsFaults};
 ghost use Rattle.config_reader.specs.Configs.{config_of};
 ghost use Rattle.command_words.specs.Words.{texts};
-ghost use Rattle.designer_command.specs.Outcomes.{OnReady, OnRefused, request_read, configs_read, config_read, routers_of, fault_number};
+ghost use Rattle.designer_command.specs.Checks.{longest_answer};
+ghost use Rattle.designer_command.specs.Outcomes.{OnReady, OnRefused, file_read, request_read, configs_read, config_read, routers_of, fault_number};
 ghost use Rattle.designer_command.specs.Stops.{StopsReading, file_stop, request_stop, config_stop};
 
 use crate::stop::Stop;
@@ -22,6 +23,9 @@ pub(crate) struct FileWords<'a> {
 
 /// The greatest length of a request and of a configuration: 4 MiB.
 const LONGEST_FILE: usize = 4_194_304;
+
+/// The greatest length of an answer's file: 1 GiB.
+const LONGEST_ANSWER: usize = 1_073_741_824;
 
 /// The bytes of a file, of which there are at most so many.
 pub(crate) fn read_file<S: Shelf>(
@@ -159,4 +163,21 @@ pub(crate) fn read_configs<'a, S: Shelf>(
         }
     }
     Ok(configs)
+}
+
+/// The bytes of an answer's file.
+pub(crate) fn read_answer_file<'a, S: Shelf>(
+    alloc: Global,
+    shelf: &mut S,
+    name: &'a String,
+) -> Result<Vec<u8>, Stop<'a>>
+    ensures read { IfOk result (λ bytes. OnReady (file_read (S.held shelf.old) longest_answer (string_bytes name.now)) (λ read. bytes.items ≡ read)) }
+    ensures within { IfOk result (λ bytes. length bytes.items ≤ longest_answer) }
+    ensures stop { IfErr result (StopsReading (file_read (S.held shelf.old) longest_answer (string_bytes name.now)) (S.faults shelf.old) (S.faults shelf.new) (string_bytes name.now ∷ [])) }
+    ensures held { (other : List ℕ) → S.held shelf.new other ≡ S.held shelf.old other }
+{
+    match read_file(alloc, shelf, name, LONGEST_ANSWER) {
+        Ok(bytes) => Ok(bytes),
+        Err(stop) => Err(stop_of_file(stop, name)),
+    }
 }

@@ -1,4 +1,7 @@
 //! Worked cases of the top call on the networks Pair, Square, Twin, Triangle and Lan.
+mod check;
+mod ring;
+
 use crate::run;
 use cost_base::{MemoryShelf, MemorySink, Name, Status};
 use std::alloc::Global;
@@ -105,6 +108,21 @@ fn words_refused(rt: HostRuntime) -> Result<(), Fail> {
     Ok(())
 }
 
+const TRIANGLE: [(&str, &str); 3] = [
+    (
+        "A.conf",
+        "interface eth0\n ip address 10.0.1.1/30\n ip ospf area 0\n ip ospf network point-to-point\ninterface eth1\n ip address 10.0.3.1/30\n ip ospf area 0\n ip ospf network point-to-point\n",
+    ),
+    (
+        "B.conf",
+        "interface eth0\n ip address 10.0.2.1/30\n ip ospf area 0\n ip ospf network point-to-point\ninterface eth1\n ip address 10.0.1.2/30\n ip ospf area 0\n ip ospf network point-to-point\n",
+    ),
+    (
+        "C.conf",
+        "interface eth0\n ip address 10.0.3.2/30\n ip ospf area 0\n ip ospf network point-to-point\ninterface eth1\n ip address 10.0.2.2/30\n ip ospf area 0\n ip ospf network point-to-point\n",
+    ),
+];
+
 /// Triangle, where the wanted path over B ties or loses at the lower bounds.
 #[test]
 fn triangle_not_fit_at_the_lower_corner(rt: HostRuntime) -> Result<(), Fail> {
@@ -114,18 +132,9 @@ fn triangle_not_fit_at_the_lower_corner(rt: HostRuntime) -> Result<(), Fail> {
             "r",
             "ospfcost request 1\narea 0\nfree all 1 65535\npath A:eth0 B:eth0 C\n",
         ),
-        (
-            "A.conf",
-            "interface eth0\n ip address 10.0.1.1/30\n ip ospf area 0\n ip ospf network point-to-point\ninterface eth1\n ip address 10.0.3.1/30\n ip ospf area 0\n ip ospf network point-to-point\n",
-        ),
-        (
-            "B.conf",
-            "interface eth0\n ip address 10.0.2.1/30\n ip ospf area 0\n ip ospf network point-to-point\ninterface eth1\n ip address 10.0.1.2/30\n ip ospf area 0\n ip ospf network point-to-point\n",
-        ),
-        (
-            "C.conf",
-            "interface eth0\n ip address 10.0.3.2/30\n ip ospf area 0\n ip ospf network point-to-point\ninterface eth1\n ip address 10.0.2.2/30\n ip ospf area 0\n ip ospf network point-to-point\n",
-        ),
+        TRIANGLE[0],
+        TRIANGLE[1],
+        TRIANGLE[2],
     ];
     let text = "lower corner is not fit\n";
     expect(&rt, rt.alloc(), &words, &files, Status::Undecided, text)

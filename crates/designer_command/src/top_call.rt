@@ -2,15 +2,18 @@
 ghost use Rattle.std.specs.Prelude.{◌≡◌, ℕ, List, MatchOption, MatchResult, string_bytes};
 ghost use Rattle.command_words.specs.Jobs.{seen};
 ghost use Rattle.command_words.specs.Words.{texts};
-ghost use Rattle.designer_command.specs.Runs.{Ends, MayAudit, MayDesign, MayWrite, RunMeets};
+ghost use Rattle.designer_command.specs.Runs.{Ends, MayAudit, MayCheck, MayDesign, MayWrite, RunMeets};
 ghost use Rattle.path_rows.specs.Text.{text};
 ghost use Rattle.designer_command.specs.Texts.{corner_line};
-ghost use Rattle.designer_command.specs.Stops.{IsEnd, StopEnds, files_named, status_after};
+ghost use Rattle.designer_command.specs.Stops.{IsEnd, JudgementEnds, StopEnds, files_named, status_after};
 ghost use Rattle.std.specs.Prelude.{Some};
 
 use crate::audit::audit_files;
+use crate::check::{Judgement, check_files};
 use crate::design::design;
-use crate::lines::{put_lines, put_usage, read_fault_line_of, refused_line_of};
+use crate::lines::{
+    accepted_line_of, put_lines, put_usage, read_fault_line_of, refused_line_of, rejected_line_of,
+};
 use crate::reading::FileWords;
 use crate::stop::Stop;
 use command_words::{Job, WordsStop, read_words};
@@ -84,6 +87,39 @@ fn run_design<S: Shelf, K: Sink>(
     }
 }
 
+/// Writes what a check came to.
+fn write_judgement<K: Sink>(alloc: Global, judgement: Judgement, out: &mut K) -> Status
+    ensures { JudgementEnds judgement (K.got out.old) (K.got out.new) (K.faults out.old) (K.faults out.new) result }
+{
+    match judgement {
+        Judgement::Accepted(accepted) => {
+            put_line(accepted_line_of(alloc, accepted), Status::Done, out)
+        }
+        Judgement::Rejected(rejection) => put_line(
+            rejected_line_of(alloc, rejection),
+            Status::EvidenceRefused,
+            out,
+        ),
+    }
+}
+
+/// Runs `check`: writes whether the answer's file is that of a valid answer, or why there was nothing to check.
+fn run_check<S: Shelf, K: Sink>(
+    alloc: Global,
+    words: FileWords<'_>,
+    answer: &String,
+    shelf: &mut S,
+    out: &mut K,
+) -> Status
+    ensures meets { Ends (MayCheck (S.held shelf.old) (S.faults shelf.old) (S.faults shelf.new) (files_named words.entry) (string_bytes answer.now)) (K.got out.old) (K.got out.new) (K.faults out.old) (K.faults out.new) result }
+    ensures held { (name : List ℕ) → S.held shelf.new name ≡ S.held shelf.old name }
+{
+    match check_files(alloc, words, answer, shelf) {
+        Ok(judgement) => write_judgement(alloc, judgement, out),
+        Err(stop) => write_stop(alloc, stop, out),
+    }
+}
+
 /// Runs `audit`: writes a line for each requested path, or why no problem was read.
 fn run_audit<S: Shelf, K: Sink>(
     alloc: Global,
@@ -117,6 +153,17 @@ fn run_job<S: Shelf, K: Sink>(alloc: Global, job: &Job, shelf: &mut S, out: &mut
             };
             run_design(alloc, words, shelf, out)
         }
+        Job::Check {
+            request,
+            answer,
+            configs,
+        } => {
+            let words = FileWords {
+                request,
+                configs: configs.as_slice(),
+            };
+            run_check(alloc, words, answer, shelf, out)
+        }
         Job::Audit { request, configs } => {
             let words = FileWords {
                 request,
@@ -132,7 +179,15 @@ fn run_job<S: Shelf, K: Sink>(alloc: Global, job: &Job, shelf: &mut S, out: &mut
 ///
 /// `design --request F CONFIG..` reads the request and the configurations from the shelf and writes the text of an
 /// optimal answer to the sink, with status `Done`. For now costs are found only where the lower bounds themselves are
-/// fit; else, and exactly there, the status is `Undecided`. The other commands aren't built yet: their words are refused.
+/// fit; else, and exactly there, the status is `Undecided`.
+///
+/// `audit --request F CONFIG..` writes a line for each requested path, with status `Done`.
+///
+/// `check --request F --answer A CONFIG..` reads the answer's file after the other files. It writes `accepted optimal K` or
+/// `accepted impossible`, with status `Done`, where the file's bytes are the text of a valid answer; else
+/// `rejected NUMBER PLACE`, with status `EvidenceRefused`.
+///
+/// The other commands aren't built yet: their words are refused.
 ///
 /// # Status
 ///
