@@ -1,5 +1,6 @@
 //! Worked cases of the top call on the networks Pair, Square, Twin, Triangle and Lan.
 mod check;
+mod inputs;
 mod ring;
 
 use crate::run;
@@ -7,8 +8,6 @@ use cost_base::{MemoryShelf, MemorySink, Name, Status};
 use std::alloc::Global;
 use std::process::Abort;
 use std::test::Fail;
-
-mod inputs;
 
 const A: &str =
     "interface eth0\n ip address 10.0.0.1/30\n ip ospf area 0\n ip ospf network point-to-point\n";
