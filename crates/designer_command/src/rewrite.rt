@@ -83,11 +83,7 @@ fn revised_by_answer(
 }
 
 /// What a rewrite with the text of an answer comes to.
-fn revised(
-    alloc: Global,
-    config: &ConfigText<'_>,
-    bytes: &[u8],
-) -> Result<Revised, OutOfMemory>
+fn revised_by_text(alloc: Global, config: &ConfigText<'_>, bytes: &[u8]) -> Result<Revised, OutOfMemory>
     requires { length bytes.now ≤ longest_answer }
     ensures { IfOk result (IsRevised (record { config = config.now; bytes = bytes.now })) }
 {
@@ -110,5 +106,5 @@ pub(crate) fn rewrite_files<'a, S: Shelf>(
 {
     let text = read_config_text(alloc, shelf, config)?;
     let bytes = read_answer_file(alloc, shelf, answer)?;
-    Ok(revised(alloc, &text, &bytes)?)
+    Ok(revised_by_text(alloc, &text, &bytes)?)
 }
