@@ -1,6 +1,6 @@
 -- What a rewrite makes of a configuration and an answer's file.
 use Rattle.std.specs.Prelude.{◌≡◌, ℕ, ◌-◌, ◌^◌, ◌<◌, ◌⊎◌, List, [], ◌∷◌, ◌++◌, length, Bool, if◌then◌else◌, Option, None, Some}
-use Rattle.std.specs.List.{list_any}
+use Rattle.std.specs.List.{filter, list_any}
 use Rattle.cost_base.specs.Lists.{same_bytes}
 use Rattle.config_reader.specs.Configs.{config_of}
 use Rattle.path_rows.specs.declared.answer.CostLine.{CostLine}
@@ -29,8 +29,7 @@ revision_read held config answer = config_read held config >>= revision_after he
 
 -- the lines of a router
 abbrev pub own_lines : List ℕ → List CostLine → List CostLine
-own_lines router [] = []
-own_lines router (line ∷ lines) = if same_bytes line.router router then line ∷ own_lines router lines else own_lines router lines
+own_lines router lines = filter (λ line. same_bytes line.router router) lines
 
 -- whether one of the lines is of the interface
 abbrev pub is_named : List ℕ → List CostLine → Bool

@@ -83,7 +83,11 @@ fn revised_by_answer(
 }
 
 /// What a rewrite with the text of an answer comes to.
-fn revised_by_text(alloc: Global, config: &ConfigText<'_>, bytes: &[u8]) -> Result<Revised, OutOfMemory>
+fn revised_by_text(
+    alloc: Global,
+    config: &ConfigText<'_>,
+    bytes: &[u8],
+) -> Result<Revised, OutOfMemory>
     requires { length bytes.now ≤ longest_answer }
     ensures { IfOk result (IsRevised (record { config = config.now; bytes = bytes.now })) }
 {
