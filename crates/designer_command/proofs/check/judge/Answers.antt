@@ -1,0 +1,10 @@
+-- The bytes are the text of the answer that was read.
+use Rattle.std.proofs.Common.{subst}
+use Rattle.path_rows.specs.Answers.{AnswerParts}
+use Rattle.path_rows.specs.Text.{IsAnswer}
+use Rattle.designer_command.proofs.check.judge.Goals as goal
+
+pub returns-in-Ok : goal.returns-in-Ok
+returns-in-Ok c =
+    c.judge_answer.ensures c.args.bytes.now
+    (record { spelled = c.in-Ok.ensures.read; kept = subst (λ (a : AnswerParts). IsAnswer a) c.answer.view_is c.answer.invariant; starts = c.in-Ok.ensures.starts })
