@@ -1,0 +1,10 @@
+pub mod CostMaps
+pub mod WholeLines
+pub mod Steps
+pub mod NewLines
+pub mod CostStatements
+pub mod Alike
+pub mod Recosted
+pub mod Fine
+pub mod FaultPlaces
+pub mod ReadingBack

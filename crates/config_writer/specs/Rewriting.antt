@@ -67,7 +67,7 @@ whole_lines (c ∷ cs) = if c == 10 then (10 ∷ []) ∷ whole_lines cs else gro
 abbrev pub written_for : Bool → Option ℕ → List ℕ → List ℕ
 written_for true behind whole = []
 written_for false None whole = whole
-written_for false (Some n) whole = ended whole ++ cost_line n ++ 10 ∷ []
+written_for false (Some n) whole = ended whole ++ (cost_line n ++ 10 ∷ [])
 
 -- what is written for the line at a place, from 0
 abbrev pub written_at : List (List ℕ × ℕ) → List ℕ → ℕ → List ℕ

@@ -4,7 +4,11 @@
 //! interface. All other bytes stay as they are, in their order.
 #![tactic(auto)]
 
+mod config_lines;
+mod heads;
+mod new_costs;
 mod rewriting;
+mod writer;
 
 use cost_base::OutOfMemory;
 pub use rewriting::rewrite;
@@ -28,3 +32,6 @@ impl From<OutOfMemory> for RewriteStop {
         RewriteStop::OutOfMemory
     }
 }
+
+#[cfg(test)]
+mod tests;
