@@ -120,7 +120,7 @@ not_named interface (line ∷ lines) none =
 
 -- no interface comes twice
 last_apart : (lines : List CostLine) → AllPairs (λ a b. a.interface ≢ b.interface) (last_lines lines)
-last_apart [] = λ i j d k. absurd (omega arith)
+last_apart [] = λ i j d before below. absurd (omega arith)
 last_apart (line ∷ lines) = by_named (is_named line.interface lines) refl (last_apart lines)
   where
     by_named : (b : Bool) → is_named line.interface lines ≡ b → AllPairs (λ a c. a.interface ≢ c.interface) (last_lines lines) → AllPairs (λ a c. a.interface ≢ c.interface) (cond b (last_lines lines) (line ∷ last_lines lines))
