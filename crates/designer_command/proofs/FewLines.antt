@@ -6,7 +6,7 @@ use Rattle.path_rows.specs.declared.answer.CostLine.{CostLine}
 use Rattle.path_rows.specs.declared.answer.Costs.{Costs}
 use Rattle.path_rows.specs.Answers.{AnswerParts}
 use Rattle.path_rows.specs.Text.{router_lines, cost_lines, costs_lines, answer_lines, text}
-use Rattle.evidence_text.specs.Parts.{head_lines}
+use Rattle.evidence_text.specs.Parts.{head_lines, interface_lines}
 use Rattle.evidence_text.proofs.AnswerOrder.{after_costs, after_head, ordered, answer_lines-ordered}
 use Rattle.designer_command.specs.Rewrites.{HasFewLines}
 
@@ -23,7 +23,7 @@ costs_below_lines : (before : Option (List ℕ)) (costs : List CostLine) → len
 costs_below_lines before [] = omega arith
 costs_below_lines before (cost ∷ costs) =
     let rest = costs_below_lines (Some cost.router) costs in
-    let all = length-append (router_lines before cost.router) _ in
+    let all = length-append (router_lines before cost.router) (interface_lines cost ++ cost_lines (Some cost.router) costs) in
     omega (arith, rest, all)
 
 -- the lines of a text of so many bytes can be numbered

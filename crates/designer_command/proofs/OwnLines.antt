@@ -1,5 +1,5 @@
 -- The last lines of a router's interfaces, found from behind.
-use Rattle.std.proofs.Common.{◌≡◌, ℕ, ◌≤◌, refl, sym, ◌∙◌, ap, subst, List, [], ◌∷◌, ◌++◌, length, reverse, append_assoc, append-nil, Bool, true, false, cond, arith}
+use Rattle.std.proofs.Common.{◌≡◌, ℕ, ◌-◌, ◌^◌, ◌<◌, ◌≤◌, refl, sym, ◌∙◌, ap, subst, List, [], ◌∷◌, ◌++◌, length, reverse, append_assoc, append-nil, Bool, true, false, cond, arith}
 use Rattle.std.specs.Prelude.{◌≢◌, ◌||◌, All, AllPairs}
 use Rattle.std.specs.List.{filter, list_any}
 use Rattle.std.proofs.lemmas.Bool.{false≢true}
@@ -10,6 +10,7 @@ use Rattle.std.proofs.lemmas.List.Kept.{AllPairs-cons}
 use Rattle.cost_base.specs.Lists.{same_bytes}
 use Rattle.config_reader.proofs.Places.{same_bytes-refl, same_bytes-true}
 use Rattle.path_rows.specs.declared.answer.CostLine.{CostLine}
+use Rattle.path_rows.specs.Text.{FitsCostLine}
 use Rattle.designer_command.specs.Rewrites.{own_lines, is_named, last_lines, AddsLine}
 
 -- Of all lines some are left in front: the lines found are the last ones of those behind, in turned order, and the
@@ -99,7 +100,7 @@ last_all P [] h = All-nil P
 last_all P (line ∷ lines) h =
     last_one P (is_named line.interface lines) line (last_lines lines) (All-head P line lines h) (last_all P lines (All-tail P line lines h))
 
-pub own_all : (P : CostLine → Type 0) (router : List ℕ) (lines : List CostLine) → All P lines → All P (last_lines (own_lines router lines))
+own_all : (P : CostLine → Type 0) (router : List ℕ) (lines : List CostLine) → All P lines → All P (last_lines (own_lines router lines))
 own_all P router lines h = last_all P (own_lines router lines) (All-filter (λ line. same_bytes line.router router) P lines h)
 
 -- each is the router's
@@ -129,7 +130,7 @@ last_apart (line ∷ lines) = by_named (is_named line.interface lines) refl (las
         AllPairs-cons (λ a c. a.interface ≢ c.interface) line (last_lines lines)
         (last_all (λ other. line.interface ≢ other.interface) lines (not_named line.interface lines is)) rest
 
-pub own_apart : (router : List ℕ) (lines : List CostLine) → AllPairs (λ a b. a.interface ≢ b.interface) (last_lines (own_lines router lines))
+own_apart : (router : List ℕ) (lines : List CostLine) → AllPairs (λ a b. a.interface ≢ b.interface) (last_lines (own_lines router lines))
 own_apart router lines = last_apart (own_lines router lines)
 
 -- there are no more than there were
@@ -149,5 +150,19 @@ own_fewer router (line ∷ lines) = by_router (same_bytes line.router router) (o
     by_router true rest = omega (arith, rest)
     by_router false rest = omega (arith, rest)
 
-pub last_few : (router : List ℕ) (lines : List CostLine) → length (last_lines (own_lines router lines)) ≤ length lines
+last_few : (router : List ℕ) (lines : List CostLine) → length (last_lines (own_lines router lines)) ≤ length lines
 last_few router lines = let a = last_fewer (own_lines router lines) in let b = own_fewer router lines in omega (arith, a)
+
+-- The same of a list that is the last lines of a router's interfaces.
+
+pub few_own : (router : List ℕ) (lines own : List CostLine) → own ≡ last_lines (own_lines router lines) → length lines < 2 ^ 32 - 1 → length own < 2 ^ 32 - 1
+few_own router lines own is few = let most = last_few router lines in rw is (omega (arith, most, few))
+
+pub routers_own : (router name : List ℕ) (lines own : List CostLine) → own ≡ last_lines (own_lines router lines) → router ≡ name → All (λ line. line.router ≡ name) own
+routers_own router name lines own is same = rw (is, ← same) (own_router router lines)
+
+pub costs_own : (router : List ℕ) (lines own : List CostLine) → own ≡ last_lines (own_lines router lines) → All FitsCostLine lines → All (λ line. 1 ≤ line.cost) own
+costs_own router lines own is fit = rw is (own_all (λ line. 1 ≤ line.cost) router lines (λ k d below. let some = (fit k d below).cost in omega (arith, some)))
+
+pub interfaces_own : (router : List ℕ) (lines own : List CostLine) → own ≡ last_lines (own_lines router lines) → AllPairs (λ a b. a.interface ≢ b.interface) own
+interfaces_own router lines own is = rw is (own_apart router lines)

@@ -143,6 +143,15 @@ impl<'a> Model for ConfigText<'a> {
     ghost invariant = { λ text. IsConfigText (string_bytes text.name.now) text.bytes.items text.router };
 }
 
+impl<'a> ConfigText<'a> {
+    /// The router that the configuration says.
+    pub(crate) fn said(&self) -> &RouterConfig
+        ensures { result.now ≡ config_of self.now.name self.now.bytes }
+    {
+        &self.router
+    }
+}
+
 /// The text of a configuration without a fault.
 pub(crate) fn read_config_text<'a, S: Shelf>(
     alloc: Global,

@@ -57,7 +57,7 @@ fn revised_by_lines(
     requires fit { All FitsCostLine lines.now }
     ensures { (bytes : List ℕ) (answer : AnswerParts) (costs : Costs) → IsTextOf bytes answer → answer.costs ≡ Some costs → costs.lines ≡ lines.now → IfOk result (IsRevised (record { config = config.now; bytes = bytes })) }
 {
-    let own = last_lines(alloc, &config.router.name, lines)?;
+    let own = last_lines(alloc, &config.said().name, lines)?;
     match rewrite(alloc, config.name.as_str(), &config.bytes, &own) {
         Ok(text) => Ok(Revised::Written(text)),
         Err(stop) => unwritten(stop),
