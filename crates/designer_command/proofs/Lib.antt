@@ -20,3 +20,6 @@ pub mod Pieces
 pub mod ShortAnswers
 pub mod ShortLines
 mod Examples
+pub mod Revisions
+pub mod OwnLines
+pub mod FewLines

@@ -76,17 +76,17 @@ stop_meets reading may before now names got_before got_now count_before count_no
     subst (λ (s : Status). Ends may got_before got_now count_before count_now s) (sym ends.0) ends.1
 
 -- words that are refused, by a command that isn't built
-pub other_refused : (job : Job) (held : List ℕ → Option (List ℕ)) (before now : List ℕ → ℕ) → ((request : String Global) (limits : Limits) (configs : Vec (String Global) Global) → job ≡ jobs.Design request limits configs → ⊥) → ((request answer : String Global) (configs : Vec (String Global) Global) → job ≡ jobs.Check request answer configs → ⊥) → ((request : String Global) (configs : Vec (String Global) Global) → job ≡ jobs.Audit request configs → ⊥) → MayWrite (Some (seen job)) held before now status.WordsRefused usage
-other_refused (jobs.Design request limits configs) held before now no_design no_check no_audit = absurd (no_design request limits configs refl)
-other_refused (jobs.Check request answer configs) held before now no_design no_check no_audit = absurd (no_check request answer configs refl)
-other_refused (jobs.Audit request configs) held before now no_design no_check no_audit = absurd (no_audit request configs refl)
-other_refused (jobs.Rewrite answer config) held before now no_design no_check no_audit = refl
-other_refused (jobs.Trial blocks start) held before now no_design no_check no_audit = refl
-other_refused (jobs.Conflict request limits configs) held before now no_design no_check no_audit = refl
-other_refused (jobs.Spread request sets limits configs) held before now no_design no_check no_audit = refl
-other_refused (jobs.Total request limits configs) held before now no_design no_check no_audit = refl
-other_refused (jobs.Lsas request configs) held before now no_design no_check no_audit = refl
-other_refused (jobs.Route lsas from to) held before now no_design no_check no_audit = refl
+pub other_refused : (job : Job) (held : List ℕ → Option (List ℕ)) (before now : List ℕ → ℕ) → ((request : String Global) (limits : Limits) (configs : Vec (String Global) Global) → job ≡ jobs.Design request limits configs → ⊥) → ((request answer : String Global) (configs : Vec (String Global) Global) → job ≡ jobs.Check request answer configs → ⊥) → ((request : String Global) (configs : Vec (String Global) Global) → job ≡ jobs.Audit request configs → ⊥) → ((answer config : String Global) → job ≡ jobs.Rewrite answer config → ⊥) → MayWrite (Some (seen job)) held before now status.WordsRefused usage
+other_refused (jobs.Design request limits configs) held before now no_design no_check no_audit no_rewrite = absurd (no_design request limits configs refl)
+other_refused (jobs.Check request answer configs) held before now no_design no_check no_audit no_rewrite = absurd (no_check request answer configs refl)
+other_refused (jobs.Audit request configs) held before now no_design no_check no_audit no_rewrite = absurd (no_audit request configs refl)
+other_refused (jobs.Rewrite answer config) held before now no_design no_check no_audit no_rewrite = absurd (no_rewrite answer config refl)
+other_refused (jobs.Trial blocks start) held before now no_design no_check no_audit no_rewrite = refl
+other_refused (jobs.Conflict request limits configs) held before now no_design no_check no_audit no_rewrite = refl
+other_refused (jobs.Spread request sets limits configs) held before now no_design no_check no_audit no_rewrite = refl
+other_refused (jobs.Total request limits configs) held before now no_design no_check no_audit no_rewrite = refl
+other_refused (jobs.Lsas request configs) held before now no_design no_check no_audit no_rewrite = refl
+other_refused (jobs.Route lsas from to) held before now no_design no_check no_audit no_rewrite = refl
 
 -- no whole text goes with a fault of writing or with want of memory
 pub writes_none : (job : Option JobRead) (held : List ℕ → Option (List ℕ)) (before now : List ℕ → ℕ) → WritesNone (MayWrite job held before now)

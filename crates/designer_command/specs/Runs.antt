@@ -1,11 +1,11 @@
 -- What a run may write, with the status that it ends with.
-use Rattle.std.specs.Prelude.{◌≡◌, ℕ, ◌<◌, List, ◌∷◌, Option, Some, Contains}
+use Rattle.std.specs.Prelude.{◌≡◌, ℕ, ◌<◌, List, [], ◌∷◌, Option, Some, Contains}
 use Rattle.cost_base.specs.declared.Status.{Status}
 use Rattle.cost_base.specs.declared.Status.TheVariants.{Done, Impossible, Undecided, InputRefused, ReadFault, WriteFault, OutOfMemory, WordsRefused, EvidenceRefused}
 use Rattle.cost_base.specs.Outside.{Rose, GotWhole, GotPart}
 use Rattle.path_rows.specs.Rows.{IsFit}
 use Rattle.evidence_checker.specs.declared.stop.Accepted.{Accepted}
-use Rattle.command_words.specs.Jobs.{JobRead, Design, Check, Audit}
+use Rattle.command_words.specs.Jobs.{JobRead, Design, Check, Audit, Rewrite}
 use Rattle.command_words.specs.Commands.{job_of}
 use Rattle.designer_command.specs.declared.problem.View.TheVariants.{AsRequested, AtPresent}
 use Rattle.designer_command.specs.declared.rejection.Rejection.{Rejection}
@@ -15,6 +15,7 @@ use Rattle.designer_command.specs.Outcomes.{Reading, outcome, OnReady, OnRefused
 use Rattle.designer_command.specs.Designs.{IsDesigned}
 use Rattle.designer_command.specs.Audits.{IsAudit}
 use Rattle.designer_command.specs.Checks.{IsAccepted, IsRejected, claim_read}
+use Rattle.designer_command.specs.Rewrites.{IsRewritten, IsUnfit, revision_read}
 
 -- one of the named files failed, and is written
 pub record IsReadFault (before now : List ℕ → ℕ) (names : List (List ℕ)) (bytes : List ℕ) : Type 0 where
@@ -48,6 +49,13 @@ MayCheck held before now files answer EvidenceRefused bytes =
     OnReady (claim_read held files answer) (λ claim. (rejection : Rejection) × IsRejected claim rejection × (bytes ≡ rejected_line rejection))
 MayCheck held before now files answer status bytes = MayStop (claim_read held files answer) before now (answer ∷ names_of files) status bytes
 
+-- `rewrite`: the configuration with the answer's costs; else the answer's text is refused, or it gives the configuration none
+abbrev pub MayRewrite : (List ℕ → Option (List ℕ)) → (List ℕ → ℕ) → (List ℕ → ℕ) → (config answer : List ℕ) → Status → List ℕ → Type 0
+MayRewrite held before now config answer Done bytes = OnReady (revision_read held config answer) (λ revision. IsRewritten revision bytes)
+MayRewrite held before now config answer EvidenceRefused bytes =
+    OnReady (revision_read held config answer) (λ revision. (rejection : Rejection) × IsUnfit revision rejection × (bytes ≡ rejected_line rejection))
+MayRewrite held before now config answer status bytes = MayStop (revision_read held config answer) before now (answer ∷ config ∷ []) status bytes
+
 -- words that are refused
 abbrev pub MayRefuse : Status → List ℕ → Type 0
 MayRefuse WordsRefused bytes = bytes ≡ usage
@@ -58,6 +66,7 @@ abbrev pub MayWrite : Option JobRead → (List ℕ → Option (List ℕ)) → (L
 MayWrite (Some (Design request limits configs)) held before now status bytes = MayDesign held before now (record { request = request; configs = configs }) status bytes
 MayWrite (Some (Check request answer configs)) held before now status bytes = MayCheck held before now (record { request = request; configs = configs }) answer status bytes
 MayWrite (Some (Audit request configs)) held before now status bytes = MayAudit held before now (record { request = request; configs = configs }) status bytes
+MayWrite (Some (Rewrite answer config)) held before now status bytes = MayRewrite held before now config answer status bytes
 MayWrite _ held before now status bytes = MayRefuse status bytes
 
 -- the sink, of which got and count tell the bytes and the faults before and now, got a text that may be written

@@ -19,6 +19,8 @@ use Rattle.path_requests.specs.Resolving.{AtLine, LacksCost}
 use Rattle.command_words.specs.Words.{texts}
 use Rattle.designer_command.specs.declared.check.Judgement.{Judgement}
 use Rattle.designer_command.specs.declared.check.Judgement.TheVariants.{Accepted, Rejected}
+use Rattle.designer_command.specs.declared.rewrite.Revised.{Revised}
+use Rattle.designer_command.specs.declared.rewrite.Revised.TheVariants.{Written, Rejected as Unwritten}
 use Rattle.designer_command.specs.declared.stop.Stop.{Stop}
 use Rattle.designer_command.specs.declared.stop.Stop.TheVariants.{Refused, ReadFault, OutOfMemory}
 use Rattle.designer_command.specs.declared.reading.FileWords.{FileWords}
@@ -74,6 +76,13 @@ abbrev pub JudgementEnds : Judgement → Option (List ℕ) → Option (List ℕ)
 JudgementEnds (Accepted accepted) got_before got_now count_before count_now end =
     IsEnd status.Done (accepted_line accepted) got_before got_now count_before count_now end
 JudgementEnds (Rejected rejection) got_before got_now count_before count_now end =
+    IsEnd status.EvidenceRefused (rejected_line rejection) got_before got_now count_before count_now end
+
+-- how a run ends whose rewrite came to this
+abbrev pub RevisedEnds : Revised → Option (List ℕ) → Option (List ℕ) → ℕ → ℕ → Status → Type 0
+RevisedEnds (Written text) got_before got_now count_before count_now end =
+    IsEnd status.Done text.items got_before got_now count_before count_now end
+RevisedEnds (Unwritten rejection) got_before got_now count_before count_now end =
     IsEnd status.EvidenceRefused (rejected_line rejection) got_before got_now count_before count_now end
 
 -- the status of a run whose text was put, or not put whole

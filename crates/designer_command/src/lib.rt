@@ -7,9 +7,11 @@ mod corner;
 mod design;
 mod floor;
 mod lines;
+mod own_lines;
 mod problem;
 mod reading;
 mod rejection;
+mod rewrite;
 mod rivals;
 mod stop;
 #[cfg(test)]

@@ -1,5 +1,5 @@
 //! The lines that a run writes beside an answer.
-ghost use Rattle.std.specs.Prelude.{◌≡◌, ◌++◌, IfOk, OnOk, string_bytes};
+ghost use Rattle.std.specs.Prelude.{◌≡◌, ◌<◌, ◌≤◌, ◌++◌, IfOk, OnOk, length, string_bytes};
 ghost use Rattle.cost_base.specs.Decimal.{decimal};
 ghost use Rattle.evidence_text.specs.Lines.{IsPut};
 ghost use Rattle.designer_command.specs.Texts.{refused_line, read_fault_line, accepted_line, rejected_line, usage, joined, bytes_of};
@@ -49,6 +49,31 @@ pub(crate) fn put_lines<K: Sink>(lines: &[Vec<u8>], out: &mut K) -> Result<(), P
         out.put(line)?;
     }
     Ok(())
+}
+
+/// Puts a text line by line, each with its LF; a last line without one is put as it is.
+pub(crate) fn put_text<K: Sink>(text: &[u8], out: &mut K) -> Result<(), PutFailed>
+    ensures { IsPut (K.got out.old) (K.got out.new) (K.faults out.old) (K.faults out.new) text.now result }
+{
+    let mut left = text;
+    while !left.is_empty() {
+        let (line, rest) = left.split_at(first_line_length(left));
+        out.put(line)?;
+        left = rest;
+    }
+    Ok(())
+}
+
+/// The length of a text's first line with its LF, or of the whole text where it has none.
+fn first_line_length(text: &[u8]) -> usize
+    requires { 0 < length text.now }
+    ensures some { 0 < result }
+    ensures within { result ≤ length text.now }
+{
+    match text.iter().position(|byte| *byte == b'\n') {
+        Some(end) => end + 1,
+        None => text.len(),
+    }
 }
 
 /// Adds bytes at the end.

@@ -13,6 +13,7 @@ use cost_base::{Shelf, ShelfStop};
 use interface_model::RouterConfig;
 use path_requests::{RequestStop, Requests, read_requests};
 use std::alloc::Global;
+use std::marker::Model;
 
 /// The files that words name: a request, and configurations in their order.
 #[derive(Clone, Copy)]
@@ -122,6 +123,60 @@ fn stop_of_config(stop: ConfigStop, file: &String) -> Stop<'_>
     }
 }
 
+/// A configuration without a fault: its file's name, its bytes, and what it says. Contracts see the name and the bytes.
+#[derive(Drop)]
+pub(crate) struct ConfigText<'a> {
+    pub name: &'a String,
+    pub bytes: Vec<u8>,
+    pub router: RouterConfig,
+}
+
+impl<'a> Model for ConfigText<'a> {
+    ghost use Rattle.std.specs.Prelude.{string_bytes};
+    ghost use Rattle.designer_command.specs.Outcomes.{ConfigFile};
+    ghost use Rattle.designer_command.specs.Configs.{IsConfigText};
+
+    ghost Value = { ConfigFile };
+
+    ghost view = { λ text. record { name = string_bytes text.name.now; bytes = text.bytes.items } };
+
+    ghost invariant = { λ text. IsConfigText (string_bytes text.name.now) text.bytes.items text.router };
+}
+
+impl<'a> ConfigText<'a> {
+    /// The router that the configuration says.
+    pub(crate) fn said(&self) -> &RouterConfig
+        ensures { result.now ≡ config_of self.now.name self.now.bytes }
+    {
+        &self.router
+    }
+}
+
+/// The text of a configuration without a fault.
+pub(crate) fn read_config_text<'a, S: Shelf>(
+    alloc: Global,
+    shelf: &mut S,
+    name: &'a String,
+) -> Result<ConfigText<'a>, Stop<'a>>
+    ensures read { IfOk result (λ text. OnReady (config_read (S.held shelf.old) (string_bytes name.now)) (λ file. text ≡ file)) }
+    ensures stop { IfErr result (StopsReading (config_read (S.held shelf.old) (string_bytes name.now)) (S.faults shelf.old) (S.faults shelf.new) (string_bytes name.now ∷ [])) }
+    ensures held { (other : List ℕ) → S.held shelf.new other ≡ S.held shelf.old other }
+    ensures faults { OnOk result ((other : List ℕ) → S.faults shelf.new other ≡ S.faults shelf.old other) }
+{
+    let bytes = match read_file(alloc, shelf, name, LONGEST_FILE) {
+        Ok(bytes) => bytes,
+        Err(stop) => return Err(stop_of_file(stop, name)),
+    };
+    match config_reader::read_config(alloc, name.as_str(), &bytes) {
+        Ok(router) => Ok(ConfigText {
+            name,
+            bytes,
+            router,
+        }),
+        Err(stop) => Err(stop_of_config(stop, name)),
+    }
+}
+
 /// What a configuration says.
 pub(crate) fn read_config<'a, S: Shelf>(
     alloc: Global,
@@ -133,14 +188,8 @@ pub(crate) fn read_config<'a, S: Shelf>(
     ensures held { (other : List ℕ) → S.held shelf.new other ≡ S.held shelf.old other }
     ensures faults { OnOk result ((other : List ℕ) → S.faults shelf.new other ≡ S.faults shelf.old other) }
 {
-    let bytes = match read_file(alloc, shelf, name, LONGEST_FILE) {
-        Ok(bytes) => bytes,
-        Err(stop) => return Err(stop_of_file(stop, name)),
-    };
-    match config_reader::read_config(alloc, name.as_str(), &bytes) {
-        Ok(config) => Ok(config),
-        Err(stop) => Err(stop_of_config(stop, name)),
-    }
+    let text = read_config_text(alloc, shelf, name)?;
+    Ok(text.router)
 }
 
 /// What the configurations say, in their order.

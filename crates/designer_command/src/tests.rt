@@ -1,10 +1,11 @@
 //! Worked cases of the top call on the networks Pair, Square, Twin, Triangle and Lan.
 mod check;
 mod inputs;
+mod rewrite;
 mod ring;
 
 use crate::run;
-use cost_base::{MemoryShelf, MemorySink, Name, Status};
+use cost_base::{MemoryShelf, MemorySink, Name, OutOfMemory, Status};
 use std::alloc::Global;
 use std::process::Abort;
 use std::test::Fail;
@@ -20,13 +21,18 @@ const PAIR: &str = "ospfcost request 1\narea 0\nfree all 1 65535\npath A:eth0 B\
 const PAIR_TEXT: &str =
     "ospfcost answer 1\nverdict optimal 1\ncosts 1\nrouter A\ninterface eth0\n ip ospf cost 1\nexit\nrouter B\ninterface eth0\n ip ospf cost 1\nexit\nfloor 0\nrows 0\nproof none\nopen none\nwide none\nend\n";
 
+/// A file as a shelf holds it.
+fn file_of(alloc: Global, name: &str, bytes: &[u8]) -> Result<(Name, Name), OutOfMemory> {
+    let name = Name::from_bytes(alloc, name.as_bytes())?;
+    let bytes = Name::from_bytes(alloc, bytes)?;
+    Ok((name, bytes))
+}
+
 /// Files as a shelf holds them.
 fn files_of(alloc: Global, files: &[(&str, &str)]) -> Result<Vec<(Name, Name)>, Fail> {
     let mut all = Vec::new(alloc);
     for (name, text) in files {
-        let name = Name::from_bytes(alloc, name.as_bytes())?;
-        let text = Name::from_bytes(alloc, text.as_bytes())?;
-        all.push((name, text))?;
+        all.push(file_of(alloc, name, text.as_bytes())?)?;
     }
     Ok(all)
 }

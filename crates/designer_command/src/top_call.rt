@@ -2,19 +2,21 @@
 ghost use Rattle.std.specs.Prelude.{◌≡◌, ℕ, List, MatchOption, MatchResult, string_bytes};
 ghost use Rattle.command_words.specs.Jobs.{seen};
 ghost use Rattle.command_words.specs.Words.{texts};
-ghost use Rattle.designer_command.specs.Runs.{Ends, MayAudit, MayCheck, MayDesign, MayWrite, RunMeets};
+ghost use Rattle.designer_command.specs.Runs.{Ends, MayAudit, MayCheck, MayDesign, MayRewrite, MayWrite, RunMeets};
 ghost use Rattle.path_rows.specs.Text.{text};
 ghost use Rattle.designer_command.specs.Texts.{corner_line};
-ghost use Rattle.designer_command.specs.Stops.{IsEnd, JudgementEnds, StopEnds, files_named, status_after};
+ghost use Rattle.designer_command.specs.Stops.{IsEnd, JudgementEnds, RevisedEnds, StopEnds, files_named, status_after};
 ghost use Rattle.std.specs.Prelude.{Some};
 
 use crate::audit::audit_files;
 use crate::check::{Judgement, check_files};
 use crate::design::design;
 use crate::lines::{
-    accepted_line_of, put_lines, put_usage, read_fault_line_of, refused_line_of, rejected_line_of,
+    accepted_line_of, put_lines, put_text, put_usage, read_fault_line_of, refused_line_of,
+    rejected_line_of,
 };
 use crate::reading::FileWords;
+use crate::rewrite::{Revised, rewrite_files};
 use crate::stop::Stop;
 use command_words::{Job, WordsStop, read_words};
 use cost_base::{OutOfMemory, PutFailed, Shelf, Sink, Status};
@@ -120,6 +122,37 @@ fn run_check<S: Shelf, K: Sink>(
     }
 }
 
+/// Writes what a rewrite came to.
+fn write_revised<K: Sink>(alloc: Global, revised: &Revised, out: &mut K) -> Status
+    ensures { RevisedEnds revised.now (K.got out.old) (K.got out.new) (K.faults out.old) (K.faults out.new) result }
+{
+    match revised {
+        Revised::Written(text) => end_status(put_text(text, out), Status::Done),
+        Revised::Rejected(rejection) => put_line(
+            rejected_line_of(alloc, *rejection),
+            Status::EvidenceRefused,
+            out,
+        ),
+    }
+}
+
+/// Runs `rewrite`: writes the configuration with the answer's costs, or why there are none for it.
+fn run_rewrite<S: Shelf, K: Sink>(
+    alloc: Global,
+    answer: &String,
+    config: &String,
+    shelf: &mut S,
+    out: &mut K,
+) -> Status
+    ensures meets { Ends (MayRewrite (S.held shelf.old) (S.faults shelf.old) (S.faults shelf.new) (string_bytes config.now) (string_bytes answer.now)) (K.got out.old) (K.got out.new) (K.faults out.old) (K.faults out.new) result }
+    ensures held { (name : List ℕ) → S.held shelf.new name ≡ S.held shelf.old name }
+{
+    match rewrite_files(alloc, answer, config, shelf) {
+        Ok(revised) => write_revised(alloc, &revised, out),
+        Err(stop) => write_stop(alloc, stop, out),
+    }
+}
+
 /// Runs `audit`: writes a line for each requested path, or why no problem was read.
 fn run_audit<S: Shelf, K: Sink>(
     alloc: Global,
@@ -171,6 +204,7 @@ fn run_job<S: Shelf, K: Sink>(alloc: Global, job: &Job, shelf: &mut S, out: &mut
             };
             run_audit(alloc, words, shelf, out)
         }
+        Job::Rewrite { answer, config } => run_rewrite(alloc, answer, config, shelf, out),
         _ => end_status(put_usage(out), Status::WordsRefused),
     }
 }

@@ -2,7 +2,7 @@
 use super::ring::{
     RING, RING_BUDGET, RING_IMPOSSIBLE, RING_NARROW, RING_NARROW_AT_END, RING_REQUEST,
 };
-use super::{A, B, PAIR, PAIR_TEXT, SQUARE, TRIANGLE};
+use super::{A, B, PAIR, PAIR_TEXT, SQUARE, TRIANGLE, file_of};
 use crate::lines::{push_bytes, push_number};
 use crate::run;
 use cost_base::{MemoryShelf, MemorySink, Name, OutOfMemory, Status};
@@ -16,13 +16,6 @@ struct Checked<'a> {
     request: &'a str,
     network: &'a [(&'a str, &'a str)],
     answer: &'a [u8],
-}
-
-/// A file as a shelf holds it.
-fn file_of(alloc: Global, name: &str, bytes: &[u8]) -> Result<(Name, Name), OutOfMemory> {
-    let name = Name::from_bytes(alloc, name.as_bytes())?;
-    let bytes = Name::from_bytes(alloc, bytes)?;
-    Ok((name, bytes))
 }
 
 /// The words of a check.
@@ -123,14 +116,14 @@ const SQUARE_LINES: [&str; 39] = [
 
 /// A change of the lines of an answer: from this number on, counted from 1, so many lines are replaced by a text.
 #[derive(Clone, Copy)]
-struct Change {
+pub(super) struct Change {
     from: usize,
     count: usize,
     text: &'static str,
 }
 
 /// No change.
-const WHOLE: Change = Change {
+pub(super) const WHOLE: Change = Change {
     from: 1,
     count: 0,
     text: "",
@@ -140,7 +133,7 @@ const WHOLE: Change = Change {
 type Damage = (usize, usize, &'static str, &'static str);
 
 /// The text of the answer on Square after a change.
-fn square_text(alloc: Global, change: Change) -> Result<Vec<u8>, OutOfMemory> {
+pub(super) fn square_text(alloc: Global, change: Change) -> Result<Vec<u8>, OutOfMemory> {
     let mut text = Vec::new(alloc);
     for (index, line) in SQUARE_LINES.iter().enumerate() {
         let number = index + 1;

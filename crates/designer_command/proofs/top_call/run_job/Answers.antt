@@ -14,6 +14,6 @@ returns-in_default g c =
     record {
       meets = put_meets c.put_usage.result (MayWrite (Some (seen c.args.job.now)) held counts counts) status.WordsRefused usage
           (g.K.Sink.got c.args.out.now) (g.K.Sink.got c.put_usage.new.out) (g.K.Sink.faults c.args.out.now) (g.K.Sink.faults c.put_usage.new.out) c.end_status.result
-          c.put_usage.ensures.whole c.put_usage.ensures.part c.put_usage.ensures.cause c.end_status.ensures (writes_none (Some (seen c.args.job.now)) held counts counts) (other_refused c.args.job.now held counts counts c.in_default.not-Design c.in_default.not-Check c.in_default.not-Audit);
+          c.put_usage.ensures.whole c.put_usage.ensures.part c.put_usage.ensures.cause c.end_status.ensures (writes_none (Some (seen c.args.job.now)) held counts counts) (other_refused c.args.job.now held counts counts c.in_default.not-Design c.in_default.not-Check c.in_default.not-Audit c.in_default.not-Rewrite);
       held = λ name. refl;
     }
