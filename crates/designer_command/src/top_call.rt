@@ -221,6 +221,9 @@ fn run_job<S: Shelf, K: Sink>(alloc: Global, job: &Job, shelf: &mut S, out: &mut
 /// `accepted impossible`, with status `Done`, where the file's bytes are the text of a valid answer; else
 /// `rejected NUMBER PLACE`, with status `EvidenceRefused`.
 ///
+/// `rewrite --answer A CONFIG` reads the configuration and then the answer's file. It writes the configuration with the
+/// answer's costs of its router, with status `Done`; else `rejected NUMBER PLACE`, with status `EvidenceRefused`.
+///
 /// The other commands aren't built yet: their words are refused.
 ///
 /// # Status
