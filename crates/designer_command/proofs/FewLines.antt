@@ -1,5 +1,5 @@
 -- An answer has no more cost lines than its text has bytes.
-use Rattle.std.proofs.Common.{◌≡◌, ℕ, ◌+◌, ◌-◌, ◌^◌, ◌<◌, ◌≤◌, refl, sym, ◌∙◌, ap, subst, List, [], ◌∷◌, ◌++◌, length, map, arith, Option, Some, None}
+use Rattle.std.proofs.Common.{◌≡◌, ℕ, ◌-◌, ◌^◌, ◌<◌, ◌≤◌, refl, ap, List, [], ◌∷◌, ◌++◌, length, map, arith, Option, Some, None}
 use Rattle.std.specs.List.{concat}
 use Rattle.std.proofs.lemmas.List.{length-append}
 use Rattle.path_rows.specs.declared.answer.CostLine.{CostLine}
@@ -7,7 +7,7 @@ use Rattle.path_rows.specs.declared.answer.Costs.{Costs}
 use Rattle.path_rows.specs.Answers.{AnswerParts}
 use Rattle.path_rows.specs.Text.{router_lines, cost_lines, costs_lines, answer_lines, text}
 use Rattle.evidence_text.specs.Parts.{head_lines, interface_lines}
-use Rattle.evidence_text.proofs.AnswerOrder.{after_costs, after_head, ordered, answer_lines-ordered}
+use Rattle.evidence_text.proofs.AnswerOrder.{after_costs, after_head, answer_lines-ordered}
 use Rattle.designer_command.specs.Rewrites.{HasFewLines}
 
 -- each line has an LF

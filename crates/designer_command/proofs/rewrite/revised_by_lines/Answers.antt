@@ -1,5 +1,5 @@
 -- The configuration is rewritten with the last lines of its router's interfaces.
-use Rattle.std.proofs.Common.{◌≡◌, ℕ, sym, ◌∙◌, ap, List}
+use Rattle.std.proofs.Common.{◌≡◌, ◌<◌, ℕ, length, arith, sym, ◌∙◌, ap, List}
 use Rattle.interface_model.specs.Records.{Router}
 use Rattle.config_reader.specs.Configs.{config_of}
 use Rattle.designer_command.specs.Outcomes.{ConfigFile}
@@ -8,7 +8,9 @@ use Rattle.designer_command.proofs.Revisions.{rewritten_by, missing_by}
 use Rattle.designer_command.proofs.rewrite.revised_by_lines.Goals as goal
 
 pub rewrite-requires-clause-numbered : goal.rewrite-requires-clause-numbered
-rewrite-requires-clause-numbered c = few_own _ c.args.lines.now _ (c.deref-2.ensures.value ∙ c.in_ok-own.ensures) c.requires.few
+rewrite-requires-clause-numbered c =
+    let few : length c.deref-2.result.now < 4294967295 = few_own _ c.args.lines.now _ (c.deref-2.ensures.value ∙ c.in_ok-own.ensures) c.requires.few in
+    omega (arith, few)
 
 -- the name of the router that the configuration says
 name_of : (said : Router) (name asked bytes read : List ℕ) → said ≡ config_of name bytes → asked ≡ name → read ≡ bytes → said.name ≡ (config_of asked read).name
