@@ -26,7 +26,7 @@ mapped_at f a (suc n) zero d k_in = ap f (sym (add-zero a))
 mapped_at f a (suc n) (suc k) d k_in = mapped_at f (a + 1) n k d (omega arith) ∙ ap f (omega arith)
 
 -- lists that agree at each place are equal
-mapped_same : {X : Type 0} (f g : ℕ → X) (a n : ℕ) → ((k : ℕ) → a ≤ k → k < a + n → f k ≡ g k) → map f (numbers_from a n) ≡ map g (numbers_from a n)
+pub mapped_same : {X : Type 0} (f g : ℕ → X) (a n : ℕ) → ((k : ℕ) → a ≤ k → k < a + n → f k ≡ g k) → map f (numbers_from a n) ≡ map g (numbers_from a n)
 mapped_same f g a zero same = refl
 mapped_same f g a (suc n) same =
     ap (λ x. x ∷ map f (numbers_from (a + 1) n)) (same a (omega arith) (omega arith))

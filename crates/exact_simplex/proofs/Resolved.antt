@@ -12,16 +12,9 @@ use Rattle.path_rows.specs.declared.tree.Member.TheVariants.{Low}
 use Rattle.path_rows.specs.Forms.{dot, value}
 use Rattle.path_rows.specs.Basis.{AreEntries, coordinate, member_form, one_form, unit}
 use Rattle.exact_simplex.specs.TableRows.{AreNumbers}
+use Rattle.exact_simplex.specs.Wholes.{number_of, numbers_of, AllLong, AreMixtures, low_forms, Stand}
 use Rattle.exact_simplex.proofs.Filled.{length-mapped, mapped_at}
-use Rattle.exact_simplex.proofs.Standing.{Stand}
-use Rattle.exact_simplex.proofs.Tables.{number_of}
-use Rattle.exact_simplex.proofs.Turns.{AllLong}
-use Rattle.exact_simplex.proofs.Blends.{AreMixtures, blend_at, form_mixture, numbers_of}
-
--- the forms x - low of the variables from a on, in n variables
-abbrev pub low_forms : ℕ → ℕ → List ℕ → List Form
-low_forms n a [] = []
-low_forms n a (l ∷ ls) = member_form n [] (Low a l) ∷ low_forms n (a + 1) ls
+use Rattle.exact_simplex.proofs.Blends.{blend_at, form_mixture}
 
 same_test : (u own : ℕ) → u ≡ own → (u == own) ≡ true
 same_test u own e = grind (arith, nat_tests)

@@ -8,12 +8,9 @@ use Rattle.whole_numbers.proofs.Ring.{var, num, ◌⊖◌, ◌⊗◌, ring, ring
 use Rattle.whole_numbers.proofs.FractionLaws.{times_stands, divided_stands, pivot_entry_stands}
 use Rattle.path_rows.specs.Basis.{entry}
 use Rattle.exact_simplex.specs.TableRows.{AreNumbers, IsNumber, crossed_by, divided_without, nothing as none}
+use Rattle.exact_simplex.specs.Wholes.{Stand}
 use Rattle.exact_simplex.proofs.Numbers.{divided_lowest}
 use Rattle.exact_simplex.proofs.Pivot.{crossed, turned}
-
--- each fraction stands for its number over the denominator
-abbrev pub Stand : ℕ → List Fraction → List ℤ → Type 0
-Stand D qs ms = AllZip (λ q m. StandsFor q m D) qs ms
 
 -- The two fractions by which a row is turned: the row's own entry at the pivot's column, which stands for n, and the
 -- pivot's, which stands for a.

@@ -2,3 +2,4 @@ pub mod TableRows
 pub mod Entries
 pub mod Tableaus
 pub mod Turns
+pub mod Wholes
