@@ -87,13 +87,13 @@ resolved low f same (suc u) =
     ring (slice_index_or f.coefficients u (pos 0) ∷ value f low ∷ []) (var 0) (var 1 ⊗ num (pos 0) ⊕ var 0) refl
     ∙ ap (λ z. (value f low *ℤ pos 0) +ℤ z) (sym (blend_there (length low) 0 u u f.coefficients low same (omega arith) (sym (zero-add u))))
 
-stand_length : (D : ℕ) (qs : List Fraction) (ms : List ℤ) → Stand D qs ms → length qs ≡ length ms
+pub stand_length : (D : ℕ) (qs : List Fraction) (ms : List ℤ) → Stand D qs ms → length qs ≡ length ms
 stand_length D [] [] stand = refl
 stand_length D [] (m ∷ ms) stand = absurd stand
 stand_length D (q ∷ qs) [] stand = absurd stand
 stand_length D (q ∷ qs) (m ∷ ms) stand = ap suc (stand_length D qs ms stand.1)
 
-all_lowest : (top : ℕ) (qs : List Fraction) → AreNumbers top qs → All IsLowest qs
+pub all_lowest : (top : ℕ) (qs : List Fraction) → AreNumbers top qs → All IsLowest qs
 all_lowest top [] numbers k d k_in = absurd (omega arith)
 all_lowest top (q ∷ qs) numbers zero d k_in = numbers.0.lowest
 all_lowest top (q ∷ qs) numbers (suc k) d k_in = all_lowest top qs numbers.1 k d (omega arith)
