@@ -31,10 +31,10 @@ unit_past n own u past =
     let counted = length-mapped (λ k. cond (k == own) (pos 1) (pos 0)) 0 n in
     get_or_past (unit n own (pos 1)) u (pos 0) (omega arith)
 
-unit_same : (n own : ℕ) → own < n → slice_index_or (unit n own (pos 1)) own (pos 0) ≡ pos 1
+pub unit_same : (n own : ℕ) → own < n → slice_index_or (unit n own (pos 1)) own (pos 0) ≡ pos 1
 unit_same n own var_in = unit_at n own own var_in ∙ ap (λ b. cond b (pos 1) (pos 0)) (same_test own own refl)
 
-unit_other : (n own u : ℕ) → u ≢ own → slice_index_or (unit n own (pos 1)) u (pos 0) ≡ pos 0
+pub unit_other : (n own u : ℕ) → u ≢ own → slice_index_or (unit n own (pos 1)) u (pos 0) ≡ pos 0
 unit_other n own u other =
     elim (cases_lt u n) [
       | inl within ↦ unit_at n own u within ∙ ap (λ b. cond b (pos 1) (pos 0)) (other_test u own other)
