@@ -2,7 +2,7 @@
 use Rattle.std.specs.Prelude.{◌≡◌, ◌≢◌, ℕ, zero, suc, ◌+◌, ◌<◌, ◌≤◌, List, [], ◌∷◌, ◌++◌, ℤ, pos, ◌+ℤ◌, ◌*ℤ◌, ◌<ℤ◌, ◌≤ℤ◌, map, length, slice_index, slice_index_or, All}
 use Rattle.std.specs.List.{AllZip}
 use Rattle.cost_base.specs.Lists.{numbers_from}
-use Rattle.whole_numbers.specs.Fractions.{Fraction, StandsFor}
+use Rattle.whole_numbers.specs.Fractions.{Fraction, StandsFor, whole}
 use Rattle.path_rows.specs.declared.form.Form.{Form}
 use Rattle.path_rows.specs.declared.form.CostBox.{CostBox}
 use Rattle.path_rows.specs.declared.tree.Member.{Member}
@@ -78,3 +78,9 @@ pub record IsWhole (top : ℕ) (costs : CostBox) (rows : List Form) (basis : Lis
   pub elsewhere : (k place : ℕ) → k < length costs.low → place ≤ length costs.low → place ≢ suc k → number_of common costs.low lows (slice_index_or (forms_of costs rows basis) k no_form) place ≡ pos 0
   pub lead : (k : ℕ) → k < length costs.low → LeadsPositive (map (λ ts. number_at ts (suc k)) lows)
   pub lines : AllZip (IsLine top common costs rows lows) (members_of costs (length rows)) table
+
+-- The line of a member's form at the starting basis: its value at the low corner, and its coefficients.
+abbrev pub starting_line : CostBox → List Form → Member → List Fraction
+starting_line costs rows member =
+    let f = member_form (length costs.low) rows member in
+    whole (value f costs.low) ∷ map whole f.coefficients
