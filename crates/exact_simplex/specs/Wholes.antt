@@ -1,5 +1,5 @@
 -- What a table holds, in numbers over one common denominator.
-use Rattle.std.specs.Prelude.{◌≡◌, ◌≢◌, ℕ, zero, suc, ◌+◌, ◌<◌, ◌≤◌, List, [], ◌∷◌, ◌++◌, ℤ, pos, ◌+ℤ◌, ◌*ℤ◌, ◌<ℤ◌, ◌≤ℤ◌, map, length, slice_index, slice_index_or, All}
+use Rattle.std.specs.Prelude.{◌≡◌, ◌≢◌, ℕ, zero, suc, ◌+◌, ◌^◌, ◌<◌, ◌≤◌, List, [], ◌∷◌, ◌++◌, ℤ, pos, ◌+ℤ◌, ◌*ℤ◌, ◌<ℤ◌, ◌≤ℤ◌, map, length, slice_index, slice_index_or, All}
 use Rattle.std.specs.List.{AllZip}
 use Rattle.cost_base.specs.Lists.{numbers_from}
 use Rattle.whole_numbers.specs.Fractions.{Fraction, StandsFor, whole}
@@ -9,9 +9,13 @@ use Rattle.path_rows.specs.declared.tree.Member.{Member}
 use Rattle.path_rows.specs.declared.tree.Member.TheVariants.{Low, High, Row}
 use Rattle.path_rows.specs.Forms.{no_form, value}
 use Rattle.path_rows.specs.Boxes.{IsBox}
-use Rattle.path_rows.specs.Basis.{IsFormOf, IsMixture, LeadsPositive, forms_of, low_member, member_form}
+use Rattle.path_rows.specs.Basis.{IsBasis, IsFormOf, IsMixture, LeadsPositive, entry, forms_of, low_member, member_form}
+use Rattle.path_rows.specs.Steps.{IsStuck}
 use Rattle.exact_simplex.specs.TableRows.{AreNumbers}
-use Rattle.exact_simplex.specs.Tableaus.{FitsBox}
+use Rattle.exact_simplex.specs.declared.stage.Stage.{Stage}
+use Rattle.exact_simplex.specs.declared.stage.Stage.TheVariants.{Open, Ended, Stopped}
+use Rattle.exact_simplex.specs.declared.stage.Solved.TheVariants.{Feasible, Refuted}
+use Rattle.exact_simplex.specs.Tableaus.{FitsBox, Held, IsGoing}
 
 abbrev pub number_at : List ℤ → ℕ → ℤ
 number_at ts k = slice_index_or ts k (pos 0)
@@ -84,3 +88,20 @@ abbrev pub starting_line : CostBox → List Form → Member → List Fraction
 starting_line costs rows member =
     let f = member_form (length costs.low) rows member in
     whole (value f costs.low) ∷ map whole f.coefficients
+
+-- What the lines of a solved table show: no constant is negative, or the form of a line can't be made non-negative.
+abbrev pub IsShown : List Member → List (List Fraction) → Stage → Type 0
+IsShown basis table Open = Unit {0}
+IsShown basis table (Ended Feasible) = All (λ line. pos 0 ≤ℤ (entry line 0).numerator) table
+IsShown basis table (Ended (Refuted form)) = (form < length table) × IsStuck basis (slice_index_or table form [])
+IsShown basis table (Stopped wide) = Unit {0}
+
+-- What a tableau keeps: until it stops, the table is whole; and at all times its basis is one, and the two rows in which
+-- a pivot works are as wide as the lines.
+pub record IsSound (held : Held) (table : List (List Fraction)) (quotients scratch : List Fraction) : Type 0 where
+  pub whole : IsGoing held.stage → IsWhole held.top held.costs held.rows held.basis table
+  pub shown : IsShown held.basis table held.stage
+  pub basis : IsBasis held.costs held.rows held.basis
+  pub few : length held.costs.low < 2 ^ 32
+  pub quotients_width : length quotients ≡ suc (length held.costs.low)
+  pub scratch_width : length scratch ≡ suc (length held.costs.low)
