@@ -12,6 +12,7 @@ use Rattle.path_rows.specs.Boxes.{IsBox}
 use Rattle.path_rows.specs.Basis.{IsBasis, IsFormOf, IsMixture, LeadsPositive, entry, forms_of, low_member, member_form}
 use Rattle.path_rows.specs.Steps.{IsStuck}
 use Rattle.exact_simplex.specs.TableRows.{AreNumbers}
+use Rattle.exact_simplex.specs.declared.table.Table.{Table}
 use Rattle.exact_simplex.specs.declared.stage.Stage.{Stage}
 use Rattle.exact_simplex.specs.declared.stage.Stage.TheVariants.{Open, Ended, Stopped}
 use Rattle.exact_simplex.specs.declared.stage.Solved.TheVariants.{Feasible, Refuted}
@@ -96,12 +97,22 @@ IsShown basis table (Ended Feasible) = All (λ line. pos 0 ≤ℤ (entry line 0)
 IsShown basis table (Ended (Refuted form)) = (form < length table) × IsStuck basis (slice_index_or table form [])
 IsShown basis table (Stopped wide) = Unit {0}
 
--- What a tableau keeps: until it stops, the table is whole; and at all times its basis is one, and the two rows in which
--- a pivot works are as wide as the lines.
-pub record IsSound (held : Held) (table : List (List Fraction)) (quotients scratch : List Fraction) : Type 0 where
-  pub whole : IsGoing held.stage → IsWhole held.top held.costs held.rows held.basis table
-  pub shown : IsShown held.basis table held.stage
-  pub basis : IsBasis held.costs held.rows held.basis
-  pub few : length held.costs.low < 2 ^ 32
-  pub quotients_width : length quotients ≡ suc (length held.costs.low)
-  pub scratch_width : length scratch ≡ suc (length held.costs.low)
+-- the table of a struct is whole
+abbrev pub IsWholeTable : Table → Type 0
+IsWholeTable t = IsWhole t.top t.costs t.rows.items t.basis.items t.lines.items
+
+-- the two rows in which a pivot works are as wide as the lines
+pub record HasRoom (t : Table) : Type 0 where
+  pub few : length t.costs.low < 2 ^ 32
+  pub quotients : length t.quotients ≡ suc (length t.costs.low)
+  pub scratch : length t.scratch ≡ suc (length t.costs.low)
+
+-- What a tableau keeps: until it stops its table is whole; and at all times its basis is one, and there is room.
+pub record IsSound (t : Table) (stage : Stage) : Type 0 where
+  pub whole : IsGoing stage → IsWholeTable t
+  pub shown : IsShown t.basis.items t.lines.items stage
+  pub basis : IsBasis t.costs t.rows.items t.basis.items
+  pub room : HasRoom t
+
+abbrev pub held_of : Table → Stage → Held
+held_of t stage = record { top = t.top; costs = t.costs; rows = t.rows.items; basis = t.basis.items; stage = stage }

@@ -7,9 +7,12 @@ ghost use Rattle.path_rows.specs.Basis.{unit};
 ghost use Rattle.path_rows.specs.Boxes.{IsBox};
 ghost use Rattle.exact_simplex.specs.TableRows.{AreNumbers};
 ghost use Rattle.exact_simplex.specs.Turns.{AreRows};
-ghost use Rattle.exact_simplex.specs.Wholes.{members_of, starting_line};
+ghost use Rattle.exact_simplex.specs.declared.stage.Stage.TheVariants.{Open};
+ghost use Rattle.exact_simplex.specs.Tableaus.{starting};
+ghost use Rattle.exact_simplex.specs.Wholes.{IsSound, held_of, members_of, starting_line};
 
 use crate::row::TableRow;
+use crate::table::Table;
 use cost_base::{Listed, OutOfMemory};
 use path_rows::{CostBox, Member};
 use std::alloc::Global;
@@ -143,4 +146,28 @@ pub fn bound_rows(
     push_low_rows(alloc, low.len() as u32, &mut rows, top)?;
     push_high_rows(alloc, low, costs.high.as_slice(), &mut rows, top)?;
     Ok(rows)
+}
+
+/// The table of a box without rows, at the basis of the forms x - low.
+pub fn starting_table(
+    alloc: Global,
+    costs: &CostBox,
+    top: Top,
+) -> Result<Table, OutOfMemory>
+    requires ranges { IsBox (length costs.now.low) costs.now }
+    requires few { length costs.now.low < 2 ^ 32 }
+    ensures held { IfOk result (λ table. held_of table Open ≡ record { top = top; costs = costs.now; rows = []; basis = starting costs.now; stage = Open }) }
+    ensures sound { IfOk result (λ table. IsSound table Open) }
+{
+    let width = costs.low.as_slice().len() as u32;
+    let lines = bound_rows(alloc, costs, top)?;
+    Ok(Table {
+        top,
+        costs: copy_box(alloc, costs)?,
+        rows: Vec::new(alloc),
+        basis: starting_basis(alloc, costs.low.as_slice())?,
+        lines,
+        quotients: TableRow::zero(alloc, width)?,
+        scratch: TableRow::zero(alloc, width)?,
+    })
 }
