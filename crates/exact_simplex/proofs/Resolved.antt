@@ -3,7 +3,6 @@
 use Rattle.std.proofs.Common.{◌≡◌, ◌≢◌, ℕ, zero, suc, ◌+◌, ◌<◌, ◌≤◌, cond, true, false, refl, sym, ◌∙◌, ap, subst, List, [], ◌∷◌, length, arith, inl, inr, zero-add}
 use Rattle.std.specs.Prelude.{ℤ, pos, ◌+ℤ◌, ◌*ℤ◌, neg_ℤ, ◌==◌, slice_index_or, All}
 use Rattle.std.proofs.lemmas.Bool.{cases_lt}
-use Rattle.std.proofs.lemmas.Bool.Decides.{nat_tests}
 use Rattle.std.proofs.lemmas.List.{get_or_past}
 use Rattle.whole_numbers.specs.Fractions.{Fraction, IsLowest}
 use Rattle.whole_numbers.proofs.Ring.{var, num, ◌⊕◌, ◌⊗◌, neg, ring}
@@ -13,14 +12,9 @@ use Rattle.path_rows.specs.Forms.{dot, value}
 use Rattle.path_rows.specs.Basis.{AreEntries, coordinate, member_form, one_form, unit}
 use Rattle.exact_simplex.specs.TableRows.{AreNumbers}
 use Rattle.exact_simplex.specs.Wholes.{number_of, numbers_of, AllLong, AreMixtures, low_forms, Stand}
+use Rattle.exact_simplex.proofs.Columns.{same_test, other_test}
 use Rattle.exact_simplex.proofs.Filled.{length-mapped, mapped_at}
 use Rattle.exact_simplex.proofs.Blends.{blend_at, form_mixture}
-
-same_test : (u own : ℕ) → u ≡ own → (u == own) ≡ true
-same_test u own e = grind (arith, nat_tests)
-
-other_test : (u own : ℕ) → u ≢ own → (u == own) ≡ false
-other_test u own e = grind (arith, nat_tests)
 
 unit_at : (n own u : ℕ) → u < n → slice_index_or (unit n own (pos 1)) u (pos 0) ≡ cond (u == own) (pos 1) (pos 0)
 unit_at n own u u_in =

@@ -2,7 +2,6 @@
 use Rattle.std.proofs.Common.{◌≡◌, ◌≢◌, ℕ, zero, suc, ◌+◌, ◌^◌, ◌<◌, ◌≤◌, cond, Bool, true, false, refl, sym, ◌∙◌, ap, subst, List, [], ◌∷◌, ◌++◌, map, length, arith, append-nil, append_assoc, zero-add}
 use Rattle.std.specs.Prelude.{ℤ, pos, negsuc, ◌-ℤ◌, ◌==◌, nat_abs, slice_index, slice_index_or, slice_set}
 use Rattle.std.proofs.Math.Pow.{pow_mono}
-use Rattle.std.proofs.lemmas.Bool.Decides.{nat_tests}
 use Rattle.std.proofs.lemmas.List.{length-map, map-append}
 use Rattle.std.proofs.lemmas.Simd.{map-map}
 use Rattle.cost_base.specs.Lists.{numbers_from}
@@ -15,6 +14,7 @@ use Rattle.path_rows.specs.Basis.{entry, low_member, unit}
 use Rattle.exact_simplex.specs.TableRows.{AreNumbers, IsNumber, nothing}
 use Rattle.exact_simplex.specs.Turns.{AreRows}
 use Rattle.exact_simplex.specs.Wholes.{high_member, members_of, starting_line}
+use Rattle.exact_simplex.proofs.Columns.{same_test, other_test}
 use Rattle.exact_simplex.proofs.Filled.{length-mapped, mapped_same, mapped_written}
 use Rattle.exact_simplex.proofs.Units.{high_value, low_value}
 
@@ -43,12 +43,6 @@ blank_at a (suc n) (suc k) = blank_at (a + 1) n k
 -- a row of zeros with another constant
 pub constant_set : (row now : List Fraction) (width : ℕ) (value : Fraction) → row ≡ nothing ∷ map (λ column. nothing) (numbers_from 0 width) → now ≡ slice_set row 0 value → now ≡ value ∷ map (λ column. nothing) (numbers_from 0 width)
 constant_set row now width value row_is now_is = now_is ∙ ap (λ qs. slice_set qs 0 value) row_is
-
-same_test : (u own : ℕ) → u ≡ own → (u == own) ≡ true
-same_test u own e = grind (arith, nat_tests)
-
-other_test : (u own : ℕ) → u ≢ own → (u == own) ≡ false
-other_test u own e = grind (arith, nat_tests)
 
 unit_set : (width v : ℕ) (c : ℤ) → v < width → slice_set (map (λ column. nothing) (numbers_from 0 width)) v (whole c) ≡ map whole (unit width v c)
 unit_set width v c v_in =

@@ -1,7 +1,6 @@
 -- Forms with one coefficient: x - low and high - x. Their sums are that coefficient times what stands at its place.
 use Rattle.std.proofs.Common.{◌≡◌, ◌≢◌, ℕ, zero, suc, ◌+◌, ◌<◌, ◌≤◌, cond, true, false, refl, sym, ◌∙◌, ap, List, [], ◌∷◌, map, length, arith, add-zero}
 use Rattle.std.specs.Prelude.{ℤ, pos, negsuc, ◌+ℤ◌, ◌-ℤ◌, ◌*ℤ◌, ◌==◌, neg_ℤ, slice_index, slice_index_or}
-use Rattle.std.proofs.lemmas.Bool.Decides.{nat_tests}
 use Rattle.std.proofs.lemmas.List.{get_or-map}
 use Rattle.cost_base.specs.Lists.{numbers_from}
 use Rattle.whole_numbers.proofs.Ring.{var, num, ◌⊕◌, ◌⊖◌, ◌⊗◌, neg, ring}
@@ -10,14 +9,9 @@ use Rattle.path_rows.specs.declared.tree.Member.TheVariants.{Low, High}
 use Rattle.path_rows.specs.Forms.{dot, value}
 use Rattle.path_rows.specs.Basis.{member_form, unit}
 use Rattle.exact_simplex.specs.Wholes.{AllLong, from_lows, number_at, number_of, numbers_of}
+use Rattle.exact_simplex.proofs.Columns.{same_test, other_test}
 use Rattle.exact_simplex.proofs.Filled.{mapped_same}
 use Rattle.exact_simplex.proofs.Blends.{listed_at}
-
-same_test : (u own : ℕ) → u ≡ own → (u == own) ≡ true
-same_test u own e = grind (arith, nat_tests)
-
-other_test : (u own : ℕ) → u ≢ own → (u == own) ≡ false
-other_test u own e = grind (arith, nat_tests)
 
 -- the coefficients from a on
 abbrev units : ℕ → ℤ → ℕ → ℕ → List ℤ
