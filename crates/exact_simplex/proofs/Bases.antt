@@ -59,7 +59,7 @@ lows_counted top costs rows basis table w =
     sym (low_forms_long (length costs.low) 0 costs.low) ∙ zip_long _ (low_forms (length costs.low) 0 costs.low) w.lows w.mixtures
 
 -- the members of a box begin with x - low for each variable
-members_begin : (costs : CostBox) (rows v : ℕ) (d : Member) → v < length costs.low → slice_index_or (members_of costs rows) v d ≡ low_member costs v
+pub members_begin : (costs : CostBox) (rows v : ℕ) (d : Member) → v < length costs.low → slice_index_or (members_of costs rows) v d ≡ low_member costs v
 members_begin costs rows v d v_in =
     let n = length costs.low in
     let lows = map (low_member costs) (numbers_from 0 n) in

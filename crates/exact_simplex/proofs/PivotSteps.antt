@@ -46,7 +46,7 @@ quotient_at left_out (suc place) start q (e ∷ es) place_in =
     quotient_at left_out place (suc start) q es (omega arith)
     ∙ ap (λ n. cond (n == left_out) nothing (divided (entry es place) q)) (omega arith)
 
-quotient_own : (j : ℕ) (q : Fraction) (es : List Fraction) → j < length es → entry (divided_without j q es 0) j ≡ nothing
+pub quotient_own : (j : ℕ) (q : Fraction) (es : List Fraction) → j < length es → entry (divided_without j q es 0) j ≡ nothing
 quotient_own j q es j_in =
     quotient_at j j 0 q es j_in ∙ ap (λ b. cond b nothing (divided (entry es j) q)) (same_test (0 + j) j (zero-add j))
 

@@ -6,14 +6,11 @@ use Rattle.std.proofs.lemmas.Int.{ints}
 use Rattle.whole_numbers.proofs.Ring.{var, num, ◌⊕◌, ◌⊖◌, ◌⊗◌, ring, ring_by, using, nothing}
 use Rattle.path_rows.specs.Basis.{LeadsPositive}
 use Rattle.exact_simplex.specs.Wholes.{AllLong, from_lows, number_at}
-use Rattle.exact_simplex.proofs.Lex.{LeadsNoNegative, scaled, scaled_leads}
-use Rattle.exact_simplex.proofs.Rise.{turned_column, turned_leads}
+use Rattle.exact_simplex.specs.Pivots.{LeadsNoNegative, turned_column, numbers_in, IsLeast}
+use Rattle.exact_simplex.proofs.Lex.{scaled, scaled_leads}
+use Rattle.exact_simplex.proofs.Rise.{turned_leads}
 use Rattle.exact_simplex.proofs.Pivot.{turned}
 use Rattle.exact_simplex.proofs.Turns.{turned_rows, turned_other, turned_same}
-
--- the numbers in a column
-abbrev pub numbers_in : ℕ → List (List ℤ) → List ℤ
-numbers_in place lows = map (λ ts. number_at ts place) lows
 
 column_other : (a D : ℕ) (lows : List (List ℤ)) (rs : List ℤ) (j place : ℕ) → AllLong (length rs) lows → number_at rs j ≡ pos a → place ≢ j → place < length rs → numbers_in place (turned_rows lows rs j D) ≡ turned_column a (numbers_in place lows) (number_at rs place) (numbers_in j lows)
 column_other a D [] rs j place long at_j other place_in = refl
@@ -81,11 +78,6 @@ least_leads a D b k j cs lows D_positive b_positive at_j at_k leads =
 length-numbers_in : (place : ℕ) (lows : List (List ℤ)) → (other : ℕ) → length (numbers_in place lows) ≡ length (numbers_in other lows)
 length-numbers_in place [] other = refl
 length-numbers_in place (ts ∷ lows) other = ap suc (length-numbers_in place lows other)
-
--- No column whose number in the pivot's form is positive, each over that number, comes before the pivot's.
-abbrev pub IsLeast : ℕ → List (List ℤ) → List ℤ → ℕ → Type 0
-IsLeast n lows rs j =
-    (k : ℕ) → k < n → k ≢ j → (a : ℕ) → number_at rs (suc j) ≡ pos a → pos 0 <ℤ number_at rs (suc k) → LeadsNoNegative (turned_column a (numbers_in (suc k) lows) (number_at rs (suc k)) (numbers_in (suc j) lows))
 
 by_sign : (b : ℤ) (P : Type 0) → ((u : ℕ) → (b +ℤ pos u) ≡ pos 0 → P) → (pos 0 <ℤ b → P) → P
 by_sign (pos zero) P low high = low 0 refl

@@ -16,6 +16,7 @@ use Rattle.exact_simplex.specs.TableRows.{AreNumbers, IsNumber, divided_without}
 use Rattle.exact_simplex.specs.Tableaus.{FitsBox}
 use Rattle.exact_simplex.specs.Turns.{AreRows, turned_by, unless_none}
 use Rattle.exact_simplex.specs.Wholes.{AllLong, IsLine, IsWhole, Stand, low_forms, members_of, number_at, number_of, numbers_of}
+use Rattle.exact_simplex.specs.Pivots.{IsLeast}
 use Rattle.exact_simplex.proofs.Filled.{length-mapped}
 use Rattle.exact_simplex.proofs.RowLaws.{number_at as number_there}
 use Rattle.exact_simplex.proofs.Resolved.{resolved, stand_length}
@@ -24,7 +25,7 @@ use Rattle.exact_simplex.proofs.Pivot.{turned}
 use Rattle.exact_simplex.proofs.Standing.{IsTurn, kept_stands, turned_row, turned_stands}
 use Rattle.exact_simplex.proofs.Turns.{turned_rows}
 use Rattle.exact_simplex.proofs.TurnedNumbers.{IsEntry, elsewhere_turned, long_turned, mixtures_turned, numbers_at, numbers_long, numbers_turned, own_turned}
-use Rattle.exact_simplex.proofs.TurnedLeads.{IsLeast, leads_turned}
+use Rattle.exact_simplex.proofs.TurnedLeads.{leads_turned}
 
 -- a form of the box has a coefficient for each variable
 pub coefficients_long : (costs : CostBox) (rows : List Form) (member : Member) → All (FitsBox costs) rows → IsFormOf costs rows member → length (member_form (length costs.low) rows member).coefficients ≡ length costs.low

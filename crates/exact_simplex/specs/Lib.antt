@@ -3,3 +3,4 @@ pub mod Entries
 pub mod Tableaus
 pub mod Turns
 pub mod Wholes
+pub mod Pivots

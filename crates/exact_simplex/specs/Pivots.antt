@@ -1,0 +1,51 @@
+-- What a pivot of a table needs and leaves.
+use Rattle.std.specs.Prelude.{◌≡◌, ◌≢◌, ℕ, zero, suc, ◌<◌, List, [], ◌∷◌, ℤ, pos, negsuc, ◌-ℤ◌, ◌*ℤ◌, ◌<ℤ◌, map, length, slice_index_or}
+use Rattle.whole_numbers.specs.Fractions.{Fraction}
+use Rattle.path_rows.specs.declared.tree.Member.{Member}
+use Rattle.path_rows.specs.declared.tree.Member.TheVariants.{Low}
+use Rattle.path_rows.specs.Basis.{member_form}
+use Rattle.exact_simplex.specs.declared.table.Table.{Table}
+use Rattle.exact_simplex.specs.Wholes.{IsWholeTable, members_of, number_at, numbers_of}
+
+-- the first number that isn't 0, if there is one, is positive
+abbrev pub LeadsNoNegative : List ℤ → Type 0
+LeadsNoNegative [] = Unit {0}
+LeadsNoNegative (pos zero ∷ zs) = LeadsNoNegative zs
+LeadsNoNegative (pos (suc n) ∷ zs) = Unit {0}
+LeadsNoNegative (negsuc n ∷ zs) = ⊥
+
+-- the numbers in a column
+abbrev pub numbers_in : ℕ → List (List ℤ) → List ℤ
+numbers_in place lows = map (λ ts. number_at ts place) lows
+
+-- the column x after the pivot on a form with the numbers a > 0 at the pivot's column y, and b at x: a·x - b·y
+abbrev pub turned_column : ℕ → List ℤ → ℤ → List ℤ → List ℤ
+turned_column a [] b ys = []
+turned_column a (x ∷ xs) b [] = []
+turned_column a (x ∷ xs) b (y ∷ ys) = ((pos a *ℤ x) -ℤ (b *ℤ y)) ∷ turned_column a xs b ys
+
+-- No column whose number in the pivot's form is positive, each over that number, comes before the pivot's.
+abbrev pub IsLeast : ℕ → List (List ℤ) → List ℤ → ℕ → Type 0
+IsLeast n lows rs j =
+    (k : ℕ) → k < n → k ≢ j → (a : ℕ) → number_at rs (suc j) ≡ pos a → pos 0 <ℤ number_at rs (suc k) → LeadsNoNegative (turned_column a (numbers_in (suc k) lows) (number_at rs (suc k)) (numbers_in (suc j) lows))
+
+abbrev pub line_at : Table → ℕ → List Fraction
+line_at t line = slice_index_or t.lines.items line []
+
+-- the member whose form stands in a line
+abbrev pub member_at : Table → ℕ → Member
+member_at t line = slice_index_or (members_of t.costs (length t.rows.items)) line (Low 0 0)
+
+-- the numbers of that form
+abbrev pub line_numbers : (t : Table) → IsWholeTable t → ℕ → List ℤ
+line_numbers t w line = numbers_of (length t.costs.low) w.common t.costs.low w.lows (member_form (length t.costs.low) t.rows.items (member_at t line))
+
+-- the column is the least for the form of a line
+abbrev pub IsLeastIn : Table → ℕ → ℕ → Type 0
+IsLeastIn t line column = (w : IsWholeTable t) → IsLeast (length t.costs.low) w.lows (line_numbers t w line) column
+
+-- the two tables are of one box and of the same rows
+pub record KeepsForms (old new : Table) : Type 0 where
+  pub top : new.top ≡ old.top
+  pub costs : new.costs ≡ old.costs
+  pub rows : new.rows.items ≡ old.rows.items
