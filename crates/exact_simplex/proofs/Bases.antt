@@ -54,7 +54,7 @@ pub low_forms_long : (n a : ℕ) (low : List ℕ) → length (low_forms n a low)
 low_forms_long n a [] = refl
 low_forms_long n a (l ∷ ls) = ap suc (low_forms_long n (a + 1) ls)
 
-lows_counted : (top : ℕ) (costs : CostBox) (rows : List Form) (basis : List Member) (table : List (List Fraction)) (w : IsWhole top costs rows basis table) → length costs.low ≡ length w.lows
+pub lows_counted : (top : ℕ) (costs : CostBox) (rows : List Form) (basis : List Member) (table : List (List Fraction)) (w : IsWhole top costs rows basis table) → length costs.low ≡ length w.lows
 lows_counted top costs rows basis table w =
     sym (low_forms_long (length costs.low) 0 costs.low) ∙ zip_long _ (low_forms (length costs.low) 0 costs.low) w.lows w.mixtures
 

@@ -80,7 +80,7 @@ turned_stands top j D a n fs rs ms ks own_is pivot_is turn fs_are rs_are same fs
     (places_stand top 0 j j D a (entry fs j) (entry rs j) n fs rs ms ks (omega arith) turn fs_are rs_are same fs_stand rs_stand))
 
 -- a fraction keeps its value over another denominator
-over_more : (q : Fraction) (m : ℤ) (D a : ℕ) → StandsFor q m D → StandsFor q (m *ℤ pos a) (D * a)
+pub over_more : (q : Fraction) (m : ℤ) (D a : ℕ) → StandsFor q m D → StandsFor q (m *ℤ pos a) (D * a)
 over_more q m D a is =
     ring_by (q.numerator ∷ pos q.denominator ∷ m ∷ pos D ∷ pos a ∷ [])
     (var 0 ⊗ (var 3 ⊗ var 4)) ((var 2 ⊗ var 4) ⊗ var 1)

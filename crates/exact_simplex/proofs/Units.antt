@@ -56,7 +56,7 @@ length-rows : (xs : List ℕ) → length (map (λ x. pos x ∷ []) xs) ≡ lengt
 length-rows [] = refl
 length-rows (x ∷ xs) = ap suc (length-rows xs)
 
-unit_dot : (v : ℕ) (c : ℤ) (xs : List ℕ) → v < length xs → dot (unit (length xs) v c) xs ≡ (c *ℤ pos (slice_index xs v))
+pub unit_dot : (v : ℕ) (c : ℤ) (xs : List ℕ) → v < length xs → dot (unit (length xs) v c) xs ≡ (c *ℤ pos (slice_index xs v))
 unit_dot v c xs v_in =
     dot_rows (unit (length xs) v c) xs
     ∙ unit_from_lows (length xs) v 0 c (map (λ x. pos x ∷ []) xs) v_in (sym (length-rows xs))
