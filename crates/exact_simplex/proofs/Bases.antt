@@ -85,7 +85,7 @@ low_line top costs rows basis table w v v_in =
     (zip_at (IsLine top w.common costs rows w.lows) (members_of costs (length rows)) table v (Low 0 0) [] w.lines (omega (arith, members_many costs (length rows), v_in)))
 
 -- its fractions stand for the numbers of the row of its variable
-low_line_stands : (top : ℕ) (costs : CostBox) (rows : List Form) (basis : List Member) (table : List (List Fraction)) (w : IsWhole top costs rows basis table) (v place : ℕ) → v < length costs.low → place < suc (length costs.low) → (0 < (entry (slice_index_or table v []) place).denominator) × StandsFor (entry (slice_index_or table v []) place) (number_at (slice_index_or w.lows v []) place) w.common
+pub low_line_stands : (top : ℕ) (costs : CostBox) (rows : List Form) (basis : List Member) (table : List (List Fraction)) (w : IsWhole top costs rows basis table) (v place : ℕ) → v < length costs.low → place < suc (length costs.low) → (0 < (entry (slice_index_or table v []) place).denominator) × StandsFor (entry (slice_index_or table v []) place) (number_at (slice_index_or w.lows v []) place) w.common
 low_line_stands top costs rows basis table w v place v_in place_in =
     let line = slice_index_or table v [] in
     let ts = slice_index_or w.lows v [] in

@@ -79,9 +79,3 @@ later_same f [] zero d = refl
 later_same f [] (suc k) d = refl
 later_same f (fs ∷ rows) zero d = refl
 later_same f (fs ∷ rows) (suc k) d = later_same f rows k d
-
--- a row that there is doesn't depend on what stands for one that there isn't
-pub any_default : (rows : List (List Fraction)) (k : ℕ) (d e : List Fraction) → k < length rows → slice_index_or rows k d ≡ slice_index_or rows k e
-any_default [] k d e k_in = absurd (omega arith)
-any_default (fs ∷ rows) zero d e k_in = refl
-any_default (fs ∷ rows) (suc k) d e k_in = any_default rows k d e (omega arith)

@@ -4,6 +4,7 @@ use Rattle.std.proofs.Common.{◌≡◌, ℕ, zero, suc, ◌+◌, ◌*◌, ◌<�
 use Rattle.std.specs.Prelude.{ℤ, pos, negsuc, ◌+ℤ◌, ◌-ℤ◌, ◌*ℤ◌, neg_ℤ, nat_abs, ◌<ℤ◌, ◌≤ℤ◌, slice_index, slice_index_or, All}
 use Rattle.std.specs.List.{AllZip}
 use Rattle.std.proofs.lemmas.Int.{ints}
+use Rattle.std.proofs.lemmas.List.{get_or_default}
 use Rattle.cost_base.specs.Lists.{numbers_from}
 use Rattle.whole_numbers.specs.Fractions.{Fraction, StandsFor}
 use Rattle.whole_numbers.proofs.Ring.{var, num, ◌⊕◌, ◌⊖◌, ◌⊗◌, neg, ring}
@@ -30,7 +31,7 @@ use Rattle.exact_simplex.proofs.RowLaws.{number_at as number_there}
 use Rattle.exact_simplex.proofs.TurnedNumbers.{numbers_at, numbers_long}
 use Rattle.exact_simplex.proofs.Units.{unit_dot}
 use Rattle.exact_simplex.proofs.WholeTurns.{coefficients_long, stand_at}
-use Rattle.exact_simplex.proofs.Bases.{lows_counted, members_begin}
+use Rattle.exact_simplex.proofs.Bases.{low_line_stands, lows_counted, members_begin}
 use Rattle.exact_simplex.proofs.Pivots.{high_place, line_long, member_in, member_is, members_long, row_place, whole_line}
 use Rattle.exact_simplex.proofs.Zips.{zip_long}
 
@@ -142,7 +143,93 @@ stuck_refutes t w line line_in stuck p point meets =
     both z high low = omega (arith, ints)
 
 -- the corner of a table: its values over the common denominator
-corner_of : ℕ → List ℕ → List (List ℤ) → List ℕ
+abbrev pub corner_of : ℕ → List ℕ → List (List ℤ) → List ℕ
 corner_of D [] lows = []
 corner_of D (l ∷ ls) [] = []
 corner_of D (l ∷ ls) (ts ∷ lows) = (l * D + nat_abs (number_at ts 0)) ∷ corner_of D ls lows
+
+corner_first : (l D : ℕ) (z : ℤ) → pos 0 ≤ℤ z → pos (l * D + nat_abs z) ≡ ((pos l *ℤ pos D) +ℤ z)
+corner_first l D (pos n) high = refl
+corner_first l D (negsuc n) high = absurd (omega (arith, ints))
+
+corner_is : (D : ℕ) (low : List ℕ) (lows : List (List ℤ)) → length low ≡ length lows → ((v : ℕ) → v < length low → pos 0 ≤ℤ number_at (slice_index_or lows v []) 0) → IsCorner D low lows (corner_of D low lows)
+corner_is D [] [] same high = tt
+corner_is D [] (ts ∷ lows) same high = absurd (omega arith)
+corner_is D (l ∷ ls) [] same high = absurd (omega arith)
+corner_is D (l ∷ ls) (ts ∷ lows) same high =
+    (corner_first l D (number_at ts 0) (high 0 (omega arith)), corner_is D ls lows (omega arith) (λ v v_in. high (suc v) (omega arith)))
+
+corner_long : (D : ℕ) (low : List ℕ) (lows : List (List ℤ)) → length low ≡ length lows → length (corner_of D low lows) ≡ length low
+corner_long D [] lows same = refl
+corner_long D (l ∷ ls) [] same = absurd (omega arith)
+corner_long D (l ∷ ls) (ts ∷ lows) same = let rest = corner_long D ls lows (omega arith) in omega arith
+
+-- the corner of a table, and that no constant of the table is negative
+abbrev pub corner_point : (t : Table) → IsWholeTable t → Point
+corner_point t w = record { scale = w.common; values = corner_of w.common t.costs.low w.lows }
+
+abbrev pub AreHigh : Table → Type 0
+AreHigh t = All (λ line. pos 0 ≤ℤ (entry line 0).numerator) t.lines.items
+
+counted_lows : (t : Table) (w : IsWholeTable t) → length t.costs.low ≡ length w.lows
+counted_lows t w = lows_counted t.top t.costs t.rows.items t.basis.items t.lines.items w
+
+at_corner : (t : Table) (w : IsWholeTable t) → AreHigh t → IsCorner w.common t.costs.low w.lows (corner_of w.common t.costs.low w.lows)
+at_corner t w high =
+    corner_is w.common t.costs.low w.lows (counted_lows t w)
+    (λ v v_in.
+    (let stands = low_line_stands t.top t.costs t.rows.items t.basis.items t.lines.items w v 0 v_in (omega arith) in
+    high_number (entry (line_at t v) 0).numerator (number_at (slice_index_or w.lows v []) 0) (entry (line_at t v) 0).denominator w.common stands.0 w.positive stands.1
+    (high v [] (omega (arith, members_long t.costs (length t.rows.items), zip_long (IsLine t.top w.common t.costs t.rows.items w.lows) (members_of t.costs (length t.rows.items)) t.lines.items w.lines, v_in)))))
+
+-- each form is its constant at the corner
+corner_high : (t : Table) (w : IsWholeTable t) → AreHigh t → (line : ℕ) → line < length t.lines.items → pos 0 ≤ℤ value_at (member_form (length t.costs.low) t.rows.items (member_at t line)) (corner_point t w)
+corner_high t w high line line_in =
+    let n = length t.costs.low in
+    let f = member_form n t.rows.items (member_at t line) in
+    let l = whole_line t w line line_in in
+    let here = number_there t.top (line_at t line) 0 l.numbers (omega (arith, line_long t w line line_in)) in
+    let stands = stand_at w.common (line_at t line) (line_numbers t w line) 0 l.stand (omega (arith, numbers_long n w.common t.costs.low w.lows f)) in
+    subst (λ z. pos 0 ≤ℤ z) (numbers_at n w.common t.costs.low w.lows f 0 (omega arith) ∙ sym (corner_value w.common t.costs.low w.lows (corner_of w.common t.costs.low w.lows) f (at_corner t w high)))
+    (high_number (entry (line_at t line) 0).numerator (number_at (line_numbers t w line) 0) (entry (line_at t line) 0).denominator w.common here.lowest.positive w.positive stands (high line [] line_in))
+
+-- the same by the member
+member_high : (t : Table) (w : IsWholeTable t) → AreHigh t → (line : ℕ) (member : Member) → line < length (members_of t.costs (length t.rows.items)) → member_at t line ≡ member → pos 0 ≤ℤ value_at (member_form (length t.costs.low) t.rows.items member) (corner_point t w)
+member_high t w high line member line_in is =
+    subst (λ (m : Member). pos 0 ≤ℤ value_at (member_form (length t.costs.low) t.rows.items m) (corner_point t w)) is
+    (corner_high t w high line (omega (arith, zip_long (IsLine t.top w.common t.costs t.rows.items w.lows) (members_of t.costs (length t.rows.items)) t.lines.items w.lines, line_in)))
+
+-- Where no constant is negative, the corner is a point of the box that meets the rows.
+pub corner_solves : (t : Table) → IsWholeTable t → AreHigh t → IsSolved t.costs t.rows.items Feasible
+corner_solves t w high =
+    let n = length t.costs.low in
+    let p = corner_point t w in
+    let many = members_long t.costs (length t.rows.items) in
+    let counted : length p.values ≡ n = corner_long w.common t.costs.low w.lows (counted_lows t w) in
+    let above : (k : ℕ) → k < length p.values → slice_index t.costs.low k * p.scale ≤ slice_index p.values k =
+    λ k k_in. (
+      high_less (slice_index t.costs.low k * p.scale) (slice_index p.values k) (value_at (member_form n t.rows.items (low_member t.costs k)) p)
+      (ap (λ (m : ℕ). value_at (member_form m t.rows.items (low_member t.costs k)) p) (sym counted) ∙ low_value_at t.rows.items k (slice_index t.costs.low k) p k_in)
+      (member_high t w high k (low_member t.costs k) (omega (arith, many, counted, k_in)) (members_begin t.costs (length t.rows.items) k (Low 0 0) (omega (arith, counted, k_in))))
+    ) in
+    let below : (k : ℕ) → k < length p.values → slice_index p.values k ≤ slice_index t.costs.high k * p.scale =
+    λ k k_in. (
+      high_less (slice_index p.values k) (slice_index t.costs.high k * p.scale) (value_at (member_form n t.rows.items (high_member t.costs k)) p)
+      (ap (λ (m : ℕ). value_at (member_form m t.rows.items (high_member t.costs k)) p) (sym counted) ∙ high_value_at t.rows.items k (slice_index t.costs.high k) p k_in)
+      (member_high t w high (n + k) (high_member t.costs k) (omega (arith, many, counted, k_in)) (high_place t.costs (length t.rows.items) k (Low 0 0) (omega (arith, counted, k_in))))
+    ) in
+    (
+      p,
+      (
+        record {
+          scale = w.positive;
+          low_count = sym counted;
+          high_count = w.box.high_count ∙ sym counted;
+          above = above;
+          below = below;
+        },
+        λ k d k_in.
+            subst (λ (f : Form). pos 0 ≤ℤ value_at f p) (get_or_default t.rows.items k no_form d k_in)
+            (member_high t w high (n + n + k) (Row k) (omega (arith, many, k_in)) (row_place t.costs (length t.rows.items) k (Low 0 0) k_in)),
+      ),
+    )

@@ -2,11 +2,12 @@
 use Rattle.std.proofs.Common.{◌≡◌, suc, ◌∙◌, [], ap, sym, subst, List, length, arith}
 use Rattle.std.specs.Prelude.{slice_index_or, slice_set}
 use Rattle.std.proofs.lemmas.List.Edits.{map_over_more}
+use Rattle.std.proofs.lemmas.List.{get_or_default}
 use Rattle.std.proofs.lemmas.Result.{err_from_is_err_and}
 use Rattle.whole_numbers.specs.Fractions.{Fraction}
 use Rattle.exact_simplex.specs.TableRows.{IsWideStep}
 use Rattle.exact_simplex.specs.Turns.{IsTurnStep, turned_by}
-use Rattle.exact_simplex.proofs.RowLaws.{rows_at, rows_set, later_same, any_default}
+use Rattle.exact_simplex.proofs.RowLaws.{rows_at, rows_set, later_same}
 use Rattle.exact_simplex.proofs.turn.turn_rows.Goals as goal
 
 pub turn_row-requires : goal.turn_row-requires
@@ -58,7 +59,7 @@ returns-in_err-turn_row-clause-wide c =
     let same : slice_index_or c.loop-row.rows i d ≡ slice_index_or c.args.rows.now i [] =
     ap (λ (l : List (List Fraction)). slice_index_or l i d) c.loop-row.invariant.turned
     ∙ later_same (λ fs. turned_by fs c.args.quotients.now (suc c.args.column) c.args.inverse) c.args.rows.now i d
-    ∙ any_default c.args.rows.now i d [] c.loop-row-test.true in
+    ∙ get_or_default c.args.rows.now i d [] c.loop-row-test.true in
     rw (p.1, p.2)
     (record {
       row = i;

@@ -2,7 +2,7 @@
 use Rattle.std.proofs.Common.{◌≡◌, ◌<◌, ℕ, suc, ◌∙◌, ap, sym, subst, List, [], map, length, arith}
 use Rattle.std.specs.Prelude.{pos, slice_index_or, slice_set}
 use Rattle.std.specs.Vec.{with_items}
-use Rattle.std.proofs.lemmas.List.{with_items_is, length-map}
+use Rattle.std.proofs.lemmas.List.{get_or_default, with_items_is, length-map}
 use Rattle.std.proofs.lemmas.Result.{err_from_is_err_and}
 use Rattle.whole_numbers.specs.Fractions.{Fraction, divided, whole}
 use Rattle.path_rows.specs.declared.tree.Member.{Member}
@@ -12,7 +12,7 @@ use Rattle.exact_simplex.specs.TableRows.{AreNumbers, IsWideStep, divided_withou
 use Rattle.exact_simplex.specs.Turns.{AreRows, IsQuotientStepOf, TurnsWide, turned_by}
 use Rattle.exact_simplex.specs.Wholes.{IsWhole}
 use Rattle.exact_simplex.specs.Pivots.{line_at, member_at}
-use Rattle.exact_simplex.proofs.RowLaws.{any_default, number_at as number_there}
+use Rattle.exact_simplex.proofs.RowLaws.{number_at as number_there}
 use Rattle.exact_simplex.proofs.WholeTurns.{turned_line}
 use Rattle.exact_simplex.proofs.PivotSteps.{quotient_own}
 use Rattle.exact_simplex.proofs.Pivots.{inverse_not_zero, line_long, member_in, pivot_whole, quotients_wide, turning_wide, whole_line, whole_rows}
@@ -23,7 +23,7 @@ member_at-member-requires-clause-line c = member_in c.args.self.now c.requires.w
 
 -- the line that is read
 read : (t : Table) (line : ℕ) (row : List Fraction) → row ≡ slice_index_or t.lines.items line row → line < length t.lines.items → row ≡ line_at t line
-read t line row is line_in = is ∙ any_default t.lines.items line row [] line_in
+read t line row is line_in = is ∙ get_or_default t.lines.items line row [] line_in
 
 pub take_quotients-requires-clause-width : goal.take_quotients-requires-clause-width
 take_quotients-requires-clause-width c =
