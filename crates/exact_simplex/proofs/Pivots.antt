@@ -112,7 +112,7 @@ turning_wide t w line column ts inverse line_in pivot ts_are inverse_is wide is 
     }
 
 -- what a positive fraction stands for is positive
-positive_number : (z m : ℤ) (d D : ℕ) → 0 < d → 0 < D → (z *ℤ pos D) ≡ (m *ℤ pos d) → pos 0 <ℤ z → (a : ℕ) × (m ≡ pos a) × (0 < a)
+pub positive_number : (z m : ℤ) (d D : ℕ) → 0 < d → 0 < D → (z *ℤ pos D) ≡ (m *ℤ pos d) → pos 0 <ℤ z → (a : ℕ) × (m ≡ pos a) × (0 < a)
 positive_number (pos zero) m d D d_positive D_positive is positive = absurd (omega (arith, ints))
 positive_number (negsuc n) m d D d_positive D_positive is positive = absurd (omega (arith, ints))
 positive_number (pos (suc n)) (pos zero) d D d_positive D_positive is positive =

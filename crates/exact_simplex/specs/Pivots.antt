@@ -1,9 +1,10 @@
 -- What a pivot of a table needs and leaves.
-use Rattle.std.specs.Prelude.{◌≡◌, ◌≢◌, ℕ, zero, suc, ◌<◌, List, [], ◌∷◌, ℤ, pos, negsuc, ◌-ℤ◌, ◌*ℤ◌, ◌<ℤ◌, map, length, slice_index_or}
-use Rattle.whole_numbers.specs.Fractions.{Fraction}
+use Rattle.std.specs.Prelude.{◌≡◌, ◌≢◌, Bool, true, false, ℕ, zero, suc, ◌<◌, List, [], ◌∷◌, ℤ, pos, negsuc, ◌-ℤ◌, ◌*ℤ◌, ◌<ℤ◌, map, length, slice_index_or}
+use Rattle.std.specs.declared.cmp.Ordering.{Ordering}
+use Rattle.whole_numbers.specs.Fractions.{Fraction, order, times}
 use Rattle.path_rows.specs.declared.tree.Member.{Member}
 use Rattle.path_rows.specs.declared.tree.Member.TheVariants.{Low}
-use Rattle.path_rows.specs.Basis.{member_form}
+use Rattle.path_rows.specs.Basis.{entry, member_form}
 use Rattle.exact_simplex.specs.declared.table.Table.{Table}
 use Rattle.exact_simplex.specs.Wholes.{IsWholeTable, members_of, number_at, numbers_of}
 
@@ -49,3 +50,17 @@ pub record KeepsForms (old new : Table) : Type 0 where
   pub top : new.top ≡ old.top
   pub costs : new.costs ≡ old.costs
   pub rows : new.rows.items ≡ old.rows.items
+
+-- By the line's form the first column doesn't come after the second, each over the form's number in it.
+abbrev pub IsNotAfter : Table → ℕ → ℕ → ℕ → Type 0
+IsNotAfter t line first second =
+    (w : IsWholeTable t) → (a : ℕ) → number_at (line_numbers t w line) (suc first) ≡ pos a → LeadsNoNegative (turned_column a (numbers_in (suc second) w.lows) (number_at (line_numbers t w line) (suc second)) (numbers_in (suc first) w.lows))
+
+-- what a test tells whether the other column comes before
+abbrev pub IsOrdered : Bool → Table → ℕ → ℕ → ℕ → Type 0
+IsOrdered true t line column other = IsNotAfter t line other column
+IsOrdered false t line column other = IsNotAfter t line column other
+
+-- how a line's entry in the other column stands to its multiple of that in the column
+abbrev pub entries_order : List Fraction → ℕ → ℕ → Fraction → Ordering
+entries_order fs column other quotient = order (entry fs (suc other)) (times (entry fs (suc column)) quotient)
