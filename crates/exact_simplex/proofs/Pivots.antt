@@ -3,7 +3,7 @@ use Rattle.std.proofs.Common.{◌≡◌, ◌≢◌, ℕ, zero, suc, ◌+◌, ◌
 use Rattle.std.specs.Prelude.{ℤ, pos, negsuc, ◌*ℤ◌, ◌<ℤ◌, slice_index, slice_index_or, slice_set, Any, Result, IfErr}
 use Rattle.std.specs.List.{AllZip}
 use Rattle.std.proofs.lemmas.Int.{ints}
-use Rattle.std.proofs.lemmas.List.{length-map, length-append, get_or_append_left, get_or-append-add}
+use Rattle.std.proofs.lemmas.List.{get_or_default, length-append, get_or_append_left, get_or-append-add}
 use Rattle.cost_base.specs.Lists.{numbers_from}
 use Rattle.cost_base.specs.declared.StepName.{StepName}
 use Rattle.whole_numbers.specs.Fractions.{Fraction, StandsFor, divided, inverse, inverted, listed, whole}
@@ -51,6 +51,10 @@ line_long t w line line_in =
     stand_length w.common (line_at t line) (line_numbers t w line) l.stand
     ∙ numbers_long (length t.costs.low) w.common t.costs.low w.lows (member_form (length t.costs.low) t.rows.items (member_at t line))
 
+-- a line that is read
+pub line_read : (t : Table) (line : ℕ) (row : List Fraction) → row ≡ slice_index_or t.lines.items line row → line < length t.lines.items → row ≡ line_at t line
+line_read t line row is line_in = is ∙ get_or_default t.lines.items line row [] line_in
+
 -- all lines are of the table's width and numbers
 pub whole_rows : (t : Table) (w : IsWholeTable t) → AreRows t.top (suc (length t.costs.low)) t.lines.items
 whole_rows t w = fit (members_of t.costs (length t.rows.items)) t.lines.items w.lines
@@ -66,7 +70,7 @@ whole_rows t w = fit (members_of t.costs (length t.rows.items)) t.lines.items w.
       fit members lines all.1,
     )
 
-form_line : (t : Table) (w : IsWholeTable t) (line : ℕ) → line < length t.lines.items → IsFormLine t.top t.costs t.rows.items t.basis.items (member_at t line) (line_at t line)
+pub form_line : (t : Table) (w : IsWholeTable t) (line : ℕ) → line < length t.lines.items → IsFormLine t.top t.costs t.rows.items t.basis.items (member_at t line) (line_at t line)
 form_line t w line line_in =
     let l = whole_line t w line line_in in
     let is = member_is t w line line_in in
@@ -124,6 +128,18 @@ positive_number (pos (suc n)) (negsuc a) d D d_positive D_positive is positive =
     let other : 0 < suc a * d = grind arith in
     absurd (omega (arith, ints))
 
+-- the number of a form in a column in which its entry is positive
+pub entry_number : (t : Table) (w : IsWholeTable t) (line column : ℕ) → line < length t.lines.items → IsPivot t.basis.items (line_at t line) (suc column) → (a : ℕ) × (number_at (line_numbers t w line) (suc column) ≡ pos a) × (0 < a)
+entry_number t w line column line_in pivot =
+    let n = length t.costs.low in
+    let es = line_at t line in
+    let f = member_form n t.rows.items (member_at t line) in
+    let l = whole_line t w line line_in in
+    let column_in : column < n = omega (arith, pivot.column, w.count) in
+    let here = number_there t.top es (suc column) l.numbers (omega (arith, line_long t w line line_in, column_in)) in
+    let stands = stand_at w.common es (line_numbers t w line) (suc column) l.stand (omega (arith, numbers_long n w.common t.costs.low w.lows f, column_in)) in
+    positive_number (entry es (suc column)).numerator (number_at (line_numbers t w line) (suc column)) (entry es (suc column)).denominator w.common here.lowest.positive w.positive stands pivot.above
+
 -- the table after a pivot is whole
 pub pivot_whole : (t : Table) (w : IsWholeTable t) (line column : ℕ) (news : List (List Fraction)) → line < length t.lines.items → IsPivot t.basis.items (line_at t line) (suc column) → IsLeastIn t line column → news ≡ map (turned_line (line_at t line) (suc column)) t.lines.items → AreRows t.top (suc (length t.costs.low)) news → IsWhole t.top t.costs t.rows.items (slice_set t.basis.items column (member_at t line)) news
 pivot_whole t w line column news line_in pivot least news_are numbers =
@@ -132,9 +148,7 @@ pivot_whole t w line column news line_in pivot least news_are numbers =
     let f = member_form n t.rows.items (member_at t line) in
     let l = whole_line t w line line_in in
     let column_in : column < n = omega (arith, pivot.column, w.count) in
-    let here = number_there t.top es (suc column) l.numbers (omega (arith, line_long t w line line_in, column_in)) in
-    let stands = stand_at w.common es (line_numbers t w line) (suc column) l.stand (omega (arith, numbers_long n w.common t.costs.low w.lows f, column_in)) in
-    let positive = positive_number (entry es (suc column)).numerator (number_at (line_numbers t w line) (suc column)) (entry es (suc column)).denominator w.common here.lowest.positive w.positive stands pivot.above in
+    let positive = entry_number t w line column line_in pivot in
     let p : IsPivotOf t.top t.costs t.rows.items w.common w.lows (member_at t line) es column positive.0 =
     record {
       member = member_is t w line line_in;
@@ -188,3 +202,8 @@ members_long costs rows =
     let lows = map (low_member costs) (numbers_from 0 n) in
     let highs = map (high_member costs) (numbers_from 0 n) in
     omega (arith, length-append (lows ++ highs) (map (λ row. Row row) (numbers_from 0 rows)), length-append lows highs, length-mapped (low_member costs) 0 n, length-mapped (high_member costs) 0 n, length-mapped (λ row. Row row) 0 rows)
+
+pub lines_long : (t : Table) (w : IsWholeTable t) → length t.lines.items ≡ length t.costs.low + length t.costs.low + length t.rows.items
+lines_long t w =
+    sym (zip_long (IsLine t.top w.common t.costs t.rows.items w.lows) (members_of t.costs (length t.rows.items)) t.lines.items w.lines)
+    ∙ members_long t.costs (length t.rows.items)
