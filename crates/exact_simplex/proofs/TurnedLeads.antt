@@ -75,7 +75,7 @@ least_leads a D b k j cs lows D_positive b_positive at_j at_k leads =
           (ap (λ z. b *ℤ z) (sym at_j) ∙ sym (multiples_from_lows a b k j cs lows zeros) ∙ ap (λ z. pos a *ℤ z) at_k ∙ lib.IntN.*ℤ-zero (pos a)))
     ]
 
-length-numbers_in : (place : ℕ) (lows : List (List ℤ)) → (other : ℕ) → length (numbers_in place lows) ≡ length (numbers_in other lows)
+pub length-numbers_in : (place : ℕ) (lows : List (List ℤ)) → (other : ℕ) → length (numbers_in place lows) ≡ length (numbers_in other lows)
 length-numbers_in place [] other = refl
 length-numbers_in place (ts ∷ lows) other = ap suc (length-numbers_in place lows other)
 
