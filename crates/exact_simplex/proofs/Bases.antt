@@ -9,9 +9,9 @@ use Rattle.whole_numbers.specs.Fractions.{Fraction, StandsFor}
 use Rattle.path_rows.specs.declared.form.Form.{Form}
 use Rattle.path_rows.specs.declared.form.CostBox.{CostBox}
 use Rattle.path_rows.specs.declared.tree.Member.{Member}
-use Rattle.path_rows.specs.declared.tree.Member.TheVariants.{Low, High, Row}
+use Rattle.path_rows.specs.declared.tree.Member.TheVariants.{Low, Row}
 use Rattle.path_rows.specs.Basis.{HasEntries, IsBasis, IsFormOf, LeadsPositive, column, entry, forms_of, low_member, member_form}
-use Rattle.exact_simplex.specs.Wholes.{AllLong, IsLine, IsWhole, high_member, low_forms, members_of, number_at}
+use Rattle.exact_simplex.specs.Wholes.{IsLine, IsWhole, high_member, low_forms, members_of, number_at}
 use Rattle.exact_simplex.proofs.Filled.{length-mapped, mapped_at}
 use Rattle.exact_simplex.proofs.RowLaws.{number_at as number_there}
 use Rattle.exact_simplex.proofs.Resolved.{are_entries, stand_length}
@@ -104,13 +104,12 @@ whole_basis top costs rows basis table w =
     let taken : length (take n table) ≡ n = length-take-le n table many in
     let lead : (k : ℕ) → k < length basis → LeadsPositive (column (take n table) (suc k)) =
     λ k k_in. (
-      leads_stand w.common (suc k) (take n table) w.lows w.positive
-      (zip_from (λ line ts. (0 < (entry line (suc k)).denominator) × StandsFor (entry line (suc k)) (number_at ts (suc k)) w.common) (take n table) w.lows [] [] (taken ∙ counted)
-      (λ v v_in. subst (λ (line : List Fraction). (0 < (entry line (suc k)).denominator) × StandsFor (entry line (suc k)) (number_at (slice_index_or w.lows v []) (suc k)) w.common) (sym (get_or-take n table v [] (omega (arith, taken, v_in))))
-      (low_line_stands top costs rows basis table w v (suc k) (omega (arith, taken, v_in)) (omega (arith, k_in, w.count)))))
-      (w.lead k (omega (arith, k_in, w.count)))
-    ) in
-    (
+    leads_stand w.common (suc k) (take n table) w.lows w.positive
+    (zip_from (λ line ts. (0 < (entry line (suc k)).denominator) × StandsFor (entry line (suc k)) (number_at ts (suc k)) w.common) (take n table) w.lows [] [] (taken ∙ counted)
+    (λ v v_in. subst (λ (line : List Fraction). (0 < (entry line (suc k)).denominator) × StandsFor (entry line (suc k)) (number_at (slice_index_or w.lows v []) (suc k)) w.common) (sym (get_or-take n table v [] (omega (arith, taken, v_in))))
+    (low_line_stands top costs rows basis table w v (suc k) (omega (arith, taken, v_in)) (omega (arith, k_in, w.count)))))
+    (w.lead k (omega (arith, k_in, w.count)))
+    ) in (
       take n table,
       record {
         count = w.count;

@@ -1,6 +1,6 @@
 -- The choice of a pivot's column: which of two columns comes first, and the steps that tell.
-use Rattle.std.proofs.Common.{◌≡◌, ◌≢◌, ℕ, zero, suc, ◌+◌, ◌<◌, ◌≤◌, refl, sym, ◌∙◌, ap, subst, List, [], ◌∷◌, length, arith, inl, inr, Ordering, Equal, Greater, Less}
-use Rattle.std.specs.Prelude.{ℤ, pos, ◌<ℤ◌, slice_index_or, Any}
+use Rattle.std.proofs.Common.{◌≡◌, ℕ, suc, ◌+◌, ◌<◌, refl, sym, ◌∙◌, ap, subst, List, length, arith, inl, inr, Ordering, Equal, Greater, Less}
+use Rattle.std.specs.Prelude.{ℤ, pos, Any}
 use Rattle.std.proofs.lemmas.Bool.{cases_eq}
 use Rattle.std.proofs.lemmas.Int.{ints}
 use Rattle.cost_base.specs.declared.StepName.TheVariants.{Div, Mul}
@@ -10,7 +10,6 @@ use Rattle.path_rows.specs.Basis.{entry}
 use Rattle.path_rows.specs.Steps.{IsPivot, IsTooWide}
 use Rattle.path_rows.specs.Steps.IsStep.{pivot_product}
 use Rattle.exact_simplex.specs.declared.table.Table.{Table}
-use Rattle.exact_simplex.specs.TableRows.{IsWideStep}
 use Rattle.exact_simplex.specs.TableRows.IsDivideStep.{quotient}
 use Rattle.exact_simplex.specs.Entries.{IsPassing}
 use Rattle.exact_simplex.specs.Tableaus.{wide_at}

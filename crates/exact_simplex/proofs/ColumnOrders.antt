@@ -1,16 +1,14 @@
 -- Two columns compared, line by line, each over its number in the pivot's form.
-use Rattle.std.proofs.Common.{◌≡◌, ◌≢◌, ℕ, zero, suc, ◌+◌, ◌*◌, ◌<◌, ◌≤◌, refl, sym, ◌∙◌, ap, subst, List, [], ◌∷◌, map, length, arith, Ordering, Less, Equal, Greater}
+use Rattle.std.proofs.Common.{◌≡◌, ℕ, zero, suc, ◌*◌, ◌<◌, ◌≤◌, refl, sym, ◌∙◌, ap, subst, List, [], ◌∷◌, length, arith, Ordering, Less, Equal, Greater}
 use Rattle.std.specs.Prelude.{ℤ, pos, negsuc, ◌-ℤ◌, ◌*ℤ◌, ◌<ℤ◌, slice_index_or}
 use Rattle.std.specs.Ordering.{MatchOrdering, int_cmp}
 use Rattle.std.proofs.lemmas.Int.{ints}
-use Rattle.std.proofs.lemmas.List.{get_or-map}
-use Rattle.whole_numbers.specs.Fractions.{Fraction, StandsFor, divided, times, whole}
+use Rattle.whole_numbers.specs.Fractions.{StandsFor, divided, times, whole}
 use Rattle.whole_numbers.proofs.FractionLaws.{divided_stands, product_positive, times_stands}
 use Rattle.whole_numbers.proofs.Orders.{order_ranks, order_stands, scaled_cmp}
 use Rattle.whole_numbers.proofs.Ring.{var, num, ◌⊖◌, ◌⊗◌, ring, ring_by, using, nothing}
 use Rattle.path_rows.specs.Basis.{entry, member_form}
 use Rattle.exact_simplex.specs.declared.table.Table.{Table}
-use Rattle.exact_simplex.specs.TableRows.{AreNumbers}
 use Rattle.exact_simplex.specs.Wholes.{IsWholeTable, number_at}
 use Rattle.exact_simplex.specs.Pivots.{LeadsNoNegative, entries_order, line_at, line_numbers, member_at, numbers_in, turned_column}
 use Rattle.exact_simplex.proofs.Numbers.{divided_lowest, times_lowest}

@@ -1,6 +1,6 @@
 -- A product with 0, or a difference with 0, makes no whole number that passes the top.
-use Rattle.std.proofs.Common.{◌≡◌, ℕ, zero, suc, ◌+◌, ◌*◌, ◌/◌, ◌<◌, ◌≤◌, refl, sym, ◌∙◌, ap, List, [], ◌∷◌, length, arith}
-use Rattle.std.specs.Prelude.{ℤ, pos, ◌+ℤ◌, ◌*ℤ◌, nat_abs, neg_ℤ, slice_index_or, Any}
+use Rattle.std.proofs.Common.{◌≡◌, ℕ, zero, suc, ◌*◌, ◌/◌, ◌<◌, ◌≤◌, refl, ◌∙◌, ap, List, [], ◌∷◌, length, arith}
+use Rattle.std.specs.Prelude.{ℤ, pos, ◌+ℤ◌, ◌*ℤ◌, nat_abs, slice_index_or, Any}
 use native.Mathlib.Nat.{div-one, mul-one, mul-zero, zero-div, zero-mod}
 use Rattle.std.proofs.Math.Nat.{div_self}
 use Rattle.cost_base.specs.declared.StepName.TheVariants.{Mul, Sub}
@@ -47,8 +47,7 @@ sum_most top d g a g_is a_in d_in =
     let last_is : (d / g) * (1 / gcd (nat_abs (u +ℤ v)) g) ≡ d =
     ap (λ (k : ℕ). (d / k) * (1 / gcd (nat_abs (u +ℤ v)) k)) g_is
     ∙ ap (λ (k : ℕ). (d / 1) * (1 / k)) (gcd-one (nat_abs (u +ℤ v)))
-    ∙ mul-one (d / 1) ∙ div-one d in
-    (
+    ∙ mul-one (d / 1) ∙ div-one d in (
       omega (arith, ap nat_abs u_is, a_in),
       (omega (arith, ap nat_abs v_is), (omega (arith, ap nat_abs s_is, a_in), (omega (arith, last_is, d_in), tt))),
     )

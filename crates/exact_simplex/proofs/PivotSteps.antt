@@ -1,18 +1,17 @@
 -- The steps of a pivot are steps of the basis.
-use Rattle.std.proofs.Common.{◌≡◌, ◌≢◌, ℕ, zero, suc, ◌+◌, ◌<◌, ◌≤◌, cond, true, false, refl, sym, ◌∙◌, ap, subst, List, [], ◌∷◌, take, length, arith, inl, inr, zero-add}
-use Rattle.std.specs.Prelude.{pos, ◌==◌, slice_index_or, Any}
+use Rattle.std.proofs.Common.{◌≡◌, ◌≢◌, ℕ, zero, suc, ◌+◌, ◌<◌, cond, sym, ◌∙◌, ap, subst, List, [], ◌∷◌, length, arith, inl, inr, zero-add}
+use Rattle.std.specs.Prelude.{pos, ◌==◌, Any}
 use Rattle.std.proofs.lemmas.Bool.{cases_eq}
 use Rattle.cost_base.specs.declared.StepName.{StepName}
 use Rattle.cost_base.specs.declared.StepName.TheVariants.{Sub, Mul, Div}
-use Rattle.whole_numbers.specs.Fractions.{Fraction, IsLowest, divided, listed, times, whole}
+use Rattle.whole_numbers.specs.Fractions.{Fraction, divided, listed, times, whole}
 use Rattle.path_rows.specs.declared.form.Form.{Form}
 use Rattle.path_rows.specs.declared.form.CostBox.{CostBox}
 use Rattle.path_rows.specs.declared.tree.Member.{Member}
-use Rattle.path_rows.specs.declared.tree.Member.TheVariants.{Low}
 use Rattle.path_rows.specs.Basis.{HasEntries, IsFormOf, entry}
 use Rattle.path_rows.specs.Steps.{IsPivot, IsStep}
 use Rattle.path_rows.specs.Steps.IsStep.{pivot_quotient, pivot_inverse, pivot_product, pivot_inverse_product, pivot_difference}
-use Rattle.exact_simplex.specs.TableRows.{AreNumbers, IsCrossStep, IsDivideStep, IsNumber, divided_without, nothing}
+use Rattle.exact_simplex.specs.TableRows.{AreNumbers, IsCrossStep, IsDivideStep, divided_without, nothing}
 use Rattle.exact_simplex.specs.TableRows.IsCrossStep.{product, difference}
 use Rattle.exact_simplex.specs.TableRows.IsDivideStep.{quotient}
 use Rattle.exact_simplex.specs.Turns.{IsQuotientStepOf, IsTurnStep}

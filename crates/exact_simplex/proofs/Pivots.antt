@@ -1,25 +1,23 @@
 -- A pivot of a table: its lines, its steps, and what is left.
-use Rattle.std.proofs.Common.{◌≡◌, ◌≢◌, ℕ, zero, suc, ◌+◌, ◌-◌, ◌*◌, ◌<◌, ◌≤◌, refl, sym, ◌∙◌, ap, subst, List, [], ◌∷◌, ◌++◌, map, take, drop, length, arith, append-nil, zero-add}
-use Rattle.std.specs.Prelude.{ℤ, pos, negsuc, ◌*ℤ◌, ◌<ℤ◌, slice_index, slice_index_or, slice_set, Any, Result, IfErr}
+use Rattle.std.proofs.Common.{◌≡◌, ◌≢◌, ℕ, zero, suc, ◌+◌, ◌*◌, ◌<◌, refl, sym, ◌∙◌, ap, subst, List, [], ◌∷◌, ◌++◌, map, length, arith, zero-add}
+use Rattle.std.specs.Prelude.{ℤ, pos, negsuc, ◌*ℤ◌, ◌<ℤ◌, slice_index_or, slice_set}
 use Rattle.std.specs.List.{AllZip}
 use Rattle.std.proofs.lemmas.Int.{ints}
 use Rattle.std.proofs.lemmas.List.{get_or_default, length-append, get_or_append_left, get_or-append-add}
 use Rattle.cost_base.specs.Lists.{numbers_from}
-use Rattle.cost_base.specs.declared.StepName.{StepName}
-use Rattle.whole_numbers.specs.Fractions.{Fraction, StandsFor, divided, inverse, inverted, listed, whole}
+use Rattle.whole_numbers.specs.Fractions.{Fraction, divided, inverse, inverted, whole}
 use Rattle.wide_fraction.specs.declared.steps.Wide.{Wide}
-use Rattle.path_rows.specs.declared.form.Form.{Form}
 use Rattle.path_rows.specs.declared.form.CostBox.{CostBox}
 use Rattle.path_rows.specs.declared.tree.Member.{Member}
-use Rattle.path_rows.specs.declared.tree.Member.TheVariants.{Low, High, Row}
+use Rattle.path_rows.specs.declared.tree.Member.TheVariants.{Low, Row}
 use Rattle.path_rows.specs.Basis.{IsFormOf, entry, low_member, member_form}
 use Rattle.path_rows.specs.Steps.{IsPivot, IsTooWide}
 use Rattle.exact_simplex.specs.declared.table.Table.{Table}
-use Rattle.exact_simplex.specs.TableRows.{AreNumbers, IsNumber, IsWideStep, divided_without, nothing}
+use Rattle.exact_simplex.specs.TableRows.{IsWideStep, divided_without}
 use Rattle.exact_simplex.specs.Tableaus.{wide_at}
-use Rattle.exact_simplex.specs.Turns.{AreRows, IsQuotientStepOf, IsTurnStep, TurnsWide, turned_by}
-use Rattle.exact_simplex.specs.Wholes.{IsLine, IsWhole, IsWholeTable, high_member, members_of, number_at, number_of, numbers_of}
-use Rattle.exact_simplex.specs.Pivots.{IsLeastIn, KeepsForms, line_at, line_numbers, member_at}
+use Rattle.exact_simplex.specs.Turns.{AreRows, IsQuotientStepOf, IsTurnStep, TurnsWide}
+use Rattle.exact_simplex.specs.Wholes.{IsLine, IsWhole, IsWholeTable, high_member, members_of, number_at, numbers_of}
+use Rattle.exact_simplex.specs.Pivots.{IsLeastIn, line_at, line_numbers, member_at}
 use Rattle.exact_simplex.proofs.Filled.{length-mapped, mapped_at}
 use Rattle.exact_simplex.proofs.Resolved.{stand_length}
 use Rattle.exact_simplex.proofs.Numbers.{inverse_positive}
@@ -28,7 +26,7 @@ use Rattle.exact_simplex.proofs.TurnedNumbers.{numbers_at, numbers_long}
 use Rattle.exact_simplex.proofs.WholeTurns.{IsPivotOf, stand_at, turned_line, whole_turned}
 use Rattle.exact_simplex.proofs.Bases.{line_entries, whole_basis}
 use Rattle.exact_simplex.proofs.Starts.{members_are}
-use Rattle.exact_simplex.proofs.PivotSteps.{IsFormLine, quotient_is_step, quotient_own, turn_is_step}
+use Rattle.exact_simplex.proofs.PivotSteps.{IsFormLine, quotient_is_step, turn_is_step}
 use Rattle.exact_simplex.proofs.Zips.{zip_at, zip_long}
 
 -- a line of a whole table is that of its member
@@ -65,7 +63,7 @@ whole_rows t w = fit (members_of t.costs (length t.rows.items)) t.lines.items w.
     fit (member ∷ members) [] all = absurd all
     fit (member ∷ members) (line ∷ lines) all = (
       stand_length w.common line (numbers_of (length t.costs.low) w.common t.costs.low w.lows (member_form (length t.costs.low) t.rows.items member)) all.0.stand
-      ∙ numbers_long (length t.costs.low) w.common t.costs.low w.lows (member_form (length t.costs.low) t.rows.items member),
+          ∙ numbers_long (length t.costs.low) w.common t.costs.low w.lows (member_form (length t.costs.low) t.rows.items member),
       all.0.numbers,
       fit members lines all.1,
     )

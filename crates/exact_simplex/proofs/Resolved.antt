@@ -1,15 +1,14 @@
 -- Every form is its value at the low corner plus the sum of the forms x - low, each times its coefficient; so the
 -- entries of every form are known from those of the forms x - low.
-use Rattle.std.proofs.Common.{◌≡◌, ◌≢◌, ℕ, zero, suc, ◌+◌, ◌<◌, ◌≤◌, cond, true, false, refl, sym, ◌∙◌, ap, subst, List, [], ◌∷◌, length, arith, inl, inr, zero-add}
+use Rattle.std.proofs.Common.{◌≡◌, ◌≢◌, ℕ, zero, suc, ◌+◌, ◌<◌, ◌≤◌, cond, refl, sym, ◌∙◌, ap, subst, List, [], ◌∷◌, length, arith, inl, inr, zero-add}
 use Rattle.std.specs.Prelude.{ℤ, pos, ◌+ℤ◌, ◌*ℤ◌, neg_ℤ, ◌==◌, slice_index_or, All}
 use Rattle.std.proofs.lemmas.Bool.{cases_lt}
 use Rattle.std.proofs.lemmas.List.{get_or_past}
 use Rattle.whole_numbers.specs.Fractions.{Fraction, IsLowest}
 use Rattle.whole_numbers.proofs.Ring.{var, num, ◌⊕◌, ◌⊗◌, neg, ring}
 use Rattle.path_rows.specs.declared.form.Form.{Form}
-use Rattle.path_rows.specs.declared.tree.Member.TheVariants.{Low}
 use Rattle.path_rows.specs.Forms.{dot, value}
-use Rattle.path_rows.specs.Basis.{AreEntries, coordinate, member_form, one_form, unit}
+use Rattle.path_rows.specs.Basis.{AreEntries, coordinate, one_form, unit}
 use Rattle.exact_simplex.specs.TableRows.{AreNumbers}
 use Rattle.exact_simplex.specs.Wholes.{number_of, numbers_of, AllLong, AreMixtures, low_forms, Stand}
 use Rattle.exact_simplex.proofs.Columns.{same_test, other_test}

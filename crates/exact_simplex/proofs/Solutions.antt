@@ -2,37 +2,36 @@
 -- where a form is stuck.
 use Rattle.std.proofs.Common.{◌≡◌, ℕ, zero, suc, ◌+◌, ◌*◌, ◌<◌, ◌≤◌, refl, sym, ◌∙◌, ap, subst, List, [], ◌∷◌, map, length, arith}
 use Rattle.std.specs.Prelude.{ℤ, pos, negsuc, ◌+ℤ◌, ◌-ℤ◌, ◌*ℤ◌, neg_ℤ, nat_abs, ◌<ℤ◌, ◌≤ℤ◌, slice_index, slice_index_or, All}
-use Rattle.std.specs.List.{AllZip}
 use Rattle.std.proofs.lemmas.Int.{ints}
 use Rattle.std.proofs.lemmas.List.{get_or_default}
 use Rattle.cost_base.specs.Lists.{numbers_from}
-use Rattle.whole_numbers.specs.Fractions.{Fraction, StandsFor}
+use Rattle.whole_numbers.specs.Fractions.{Fraction}
 use Rattle.whole_numbers.proofs.Ring.{var, num, ◌⊕◌, ◌⊖◌, ◌⊗◌, neg, ring}
 use Rattle.area_graph.specs.declared.Point.{Point}
 use Rattle.path_rows.specs.declared.form.Form.{Form}
 use Rattle.path_rows.specs.declared.form.CostBox.{CostBox}
 use Rattle.path_rows.specs.declared.tree.Member.{Member}
 use Rattle.path_rows.specs.declared.tree.Member.TheVariants.{Low, High, Row}
-use Rattle.path_rows.specs.Forms.{dot, no_form, value_at}
+use Rattle.path_rows.specs.Forms.{no_form, value_at}
 use Rattle.path_rows.specs.Boxes.{IsPointOf}
-use Rattle.path_rows.specs.Basis.{IsFormOf, entry, forms_of, low_member, member_form, unit}
+use Rattle.path_rows.specs.Basis.{IsFormOf, entry, forms_of, low_member, member_form}
 use Rattle.path_rows.specs.Steps.{IsStuck}
 use Rattle.exact_simplex.specs.declared.table.Table.{Table}
 use Rattle.exact_simplex.specs.declared.stage.Solved.TheVariants.{Feasible, Refuted}
 use Rattle.exact_simplex.specs.TableRows.{AreNumbers}
 use Rattle.exact_simplex.specs.Tableaus.{IsSolved, MeetsRows}
-use Rattle.exact_simplex.specs.Wholes.{IsLine, IsWholeTable, Stand, high_member, low_forms, members_of, number_at, number_of, numbers_of}
+use Rattle.exact_simplex.specs.Wholes.{IsLine, IsWholeTable, Stand, high_member, low_forms, members_of, number_at, number_of}
 use Rattle.exact_simplex.specs.Pivots.{line_at, line_numbers, member_at}
 use Rattle.exact_simplex.proofs.Corner.{MetAt, NotAbove, stuck_negative}
 use Rattle.exact_simplex.proofs.Tables.{IsCorner, corner_value}
 use Rattle.exact_simplex.proofs.Blends.{form_mixture}
-use Rattle.exact_simplex.proofs.Resolved.{resolved, stand_length}
+use Rattle.exact_simplex.proofs.Resolved.{resolved}
 use Rattle.exact_simplex.proofs.RowLaws.{number_at as number_there}
 use Rattle.exact_simplex.proofs.TurnedNumbers.{numbers_at, numbers_long}
 use Rattle.exact_simplex.proofs.Units.{unit_dot}
 use Rattle.exact_simplex.proofs.WholeTurns.{coefficients_long, stand_at}
 use Rattle.exact_simplex.proofs.Bases.{low_line_stands, lows_counted, members_begin}
-use Rattle.exact_simplex.proofs.Pivots.{high_place, line_long, member_in, member_is, members_long, row_place, whole_line}
+use Rattle.exact_simplex.proofs.Pivots.{high_place, line_long, member_is, members_long, row_place, whole_line}
 use Rattle.exact_simplex.proofs.Zips.{zip_long}
 
 -- a number that a fraction stands for has its sign
@@ -208,17 +207,16 @@ corner_solves t w high =
     let counted : length p.values ≡ n = corner_long w.common t.costs.low w.lows (counted_lows t w) in
     let above : (k : ℕ) → k < length p.values → slice_index t.costs.low k * p.scale ≤ slice_index p.values k =
     λ k k_in. (
-      high_less (slice_index t.costs.low k * p.scale) (slice_index p.values k) (value_at (member_form n t.rows.items (low_member t.costs k)) p)
-      (ap (λ (m : ℕ). value_at (member_form m t.rows.items (low_member t.costs k)) p) (sym counted) ∙ low_value_at t.rows.items k (slice_index t.costs.low k) p k_in)
-      (member_high t w high k (low_member t.costs k) (omega (arith, many, counted, k_in)) (members_begin t.costs (length t.rows.items) k (Low 0 0) (omega (arith, counted, k_in))))
+    high_less (slice_index t.costs.low k * p.scale) (slice_index p.values k) (value_at (member_form n t.rows.items (low_member t.costs k)) p)
+    (ap (λ (m : ℕ). value_at (member_form m t.rows.items (low_member t.costs k)) p) (sym counted) ∙ low_value_at t.rows.items k (slice_index t.costs.low k) p k_in)
+    (member_high t w high k (low_member t.costs k) (omega (arith, many, counted, k_in)) (members_begin t.costs (length t.rows.items) k (Low 0 0) (omega (arith, counted, k_in))))
     ) in
     let below : (k : ℕ) → k < length p.values → slice_index p.values k ≤ slice_index t.costs.high k * p.scale =
     λ k k_in. (
-      high_less (slice_index p.values k) (slice_index t.costs.high k * p.scale) (value_at (member_form n t.rows.items (high_member t.costs k)) p)
-      (ap (λ (m : ℕ). value_at (member_form m t.rows.items (high_member t.costs k)) p) (sym counted) ∙ high_value_at t.rows.items k (slice_index t.costs.high k) p k_in)
-      (member_high t w high (n + k) (high_member t.costs k) (omega (arith, many, counted, k_in)) (high_place t.costs (length t.rows.items) k (Low 0 0) (omega (arith, counted, k_in))))
-    ) in
-    (
+    high_less (slice_index p.values k) (slice_index t.costs.high k * p.scale) (value_at (member_form n t.rows.items (high_member t.costs k)) p)
+    (ap (λ (m : ℕ). value_at (member_form m t.rows.items (high_member t.costs k)) p) (sym counted) ∙ high_value_at t.rows.items k (slice_index t.costs.high k) p k_in)
+    (member_high t w high (n + k) (high_member t.costs k) (omega (arith, many, counted, k_in)) (high_place t.costs (length t.rows.items) k (Low 0 0) (omega (arith, counted, k_in))))
+    ) in (
       p,
       (
         record {

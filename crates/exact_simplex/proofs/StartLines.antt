@@ -1,5 +1,5 @@
 -- The lines of the starting basis, as they are made.
-use Rattle.std.proofs.Common.{◌≡◌, ◌≢◌, ℕ, zero, suc, ◌+◌, ◌^◌, ◌<◌, ◌≤◌, cond, Bool, true, false, refl, sym, ◌∙◌, ap, subst, List, [], ◌∷◌, ◌++◌, map, length, arith, append-nil, append_assoc, zero-add}
+use Rattle.std.proofs.Common.{◌≡◌, ℕ, zero, suc, ◌+◌, ◌^◌, ◌<◌, ◌≤◌, cond, Bool, true, false, refl, sym, ◌∙◌, ap, subst, List, [], ◌∷◌, ◌++◌, map, length, arith, append-nil, append_assoc, zero-add}
 use Rattle.std.specs.Prelude.{ℤ, pos, negsuc, ◌-ℤ◌, ◌==◌, nat_abs, slice_index, slice_index_or, slice_set}
 use Rattle.std.proofs.Math.Pow.{pow_mono}
 use Rattle.std.proofs.lemmas.List.{length-map, map-append}
@@ -10,7 +10,7 @@ use Rattle.whole_numbers.proofs.Divisors.{gcd-one}
 use Rattle.wide_fraction.specs.Widths.{IsTop}
 use Rattle.area_graph.proofs.Numbers.{numbers_from_more}
 use Rattle.path_rows.specs.declared.form.CostBox.{CostBox}
-use Rattle.path_rows.specs.Basis.{entry, low_member, unit}
+use Rattle.path_rows.specs.Basis.{low_member, unit}
 use Rattle.exact_simplex.specs.TableRows.{AreNumbers, IsNumber, nothing}
 use Rattle.exact_simplex.specs.Turns.{AreRows}
 use Rattle.exact_simplex.specs.Wholes.{high_member, members_of, starting_line}

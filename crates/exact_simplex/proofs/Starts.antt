@@ -1,16 +1,16 @@
 -- At the starting basis the table is whole: a form's numbers over 1 are its value at the low corner and its coefficients.
-use Rattle.std.proofs.Common.{◌≡◌, ◌≢◌, ℕ, zero, suc, ◌+◌, ◌<◌, ◌≤◌, refl, sym, ◌∙◌, ap, subst, List, [], ◌∷◌, ◌++◌, map, length, arith, zero-add}
+use Rattle.std.proofs.Common.{◌≡◌, ◌≢◌, ℕ, zero, suc, ◌+◌, ◌<◌, refl, sym, ◌∙◌, ap, subst, List, [], ◌∷◌, ◌++◌, map, length, arith, zero-add}
 use Rattle.std.specs.Prelude.{ℤ, pos, ◌+ℤ◌, ◌*ℤ◌, slice_index, slice_index_or, All}
 use Rattle.std.specs.List.{AllZip}
 use Rattle.std.proofs.lemmas.List.{get_or-map, length-map}
 use Rattle.std.proofs.lemmas.List.Elements.{All-append}
 use Rattle.cost_base.specs.Lists.{numbers_from}
-use Rattle.whole_numbers.specs.Fractions.{Fraction, StandsFor, whole}
+use Rattle.whole_numbers.specs.Fractions.{whole}
 use Rattle.whole_numbers.proofs.Ring.{var, num, ◌⊕◌, ◌⊗◌, ring}
 use Rattle.path_rows.specs.declared.form.Form.{Form}
 use Rattle.path_rows.specs.declared.form.CostBox.{CostBox}
 use Rattle.path_rows.specs.declared.tree.Member.{Member}
-use Rattle.path_rows.specs.declared.tree.Member.TheVariants.{Low, High, Row}
+use Rattle.path_rows.specs.declared.tree.Member.TheVariants.{Low, Row}
 use Rattle.path_rows.specs.Forms.{no_form, value}
 use Rattle.path_rows.specs.Boxes.{IsBox}
 use Rattle.path_rows.specs.Basis.{IsFormOf, LeadsPositive, coordinate, forms_of, low_member, member_form, mixture, one_form, unit}
@@ -19,7 +19,7 @@ use Rattle.exact_simplex.specs.Turns.{AreRows}
 use Rattle.exact_simplex.specs.Wholes.{AllLong, AreMixtures, IsLine, IsWhole, Stand, from_lows, high_member, low_forms, members_of, number_at, number_of, numbers_of, starting_line}
 use Rattle.exact_simplex.proofs.Filled.{length-mapped, mapped_at, mapped_same}
 use Rattle.exact_simplex.proofs.Blends.{listed_at}
-use Rattle.exact_simplex.proofs.Lex.{positive_leads, zero_leads}
+use Rattle.exact_simplex.proofs.Lex.{zero_leads}
 use Rattle.exact_simplex.proofs.Resolved.{unit_other, unit_same}
 use Rattle.exact_simplex.proofs.Units.{low_value, unit_from_lows}
 use Rattle.exact_simplex.proofs.WholeTurns.{coefficients_long}

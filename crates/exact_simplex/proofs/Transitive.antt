@@ -1,12 +1,11 @@
 -- The order of columns, each over its number in the pivot's form, is transitive.
-use Rattle.std.proofs.Common.{◌≡◌, ℕ, zero, suc, ◌*◌, ◌<◌, refl, sym, ◌∙◌, ap, subst, List, [], ◌∷◌, length, arith}
+use Rattle.std.proofs.Common.{◌≡◌, ℕ, zero, suc, ◌*◌, ◌<◌, refl, sym, ap, subst, List, [], ◌∷◌, length, arith}
 use Rattle.std.specs.Prelude.{ℤ, pos, negsuc, ◌+ℤ◌, ◌-ℤ◌, ◌*ℤ◌, ◌<ℤ◌}
 use Rattle.std.proofs.lemmas.Int.{ints}
 use Rattle.whole_numbers.proofs.Ring.{var, ◌⊕◌, ◌⊖◌, ◌⊗◌, ring}
 use Rattle.path_rows.specs.Steps.{IsPivot}
 use Rattle.exact_simplex.specs.declared.table.Table.{Table}
-use Rattle.exact_simplex.specs.Wholes.{number_at}
-use Rattle.exact_simplex.specs.Pivots.{IsNotAfter, LeadsNoNegative, line_at, line_numbers, numbers_in, turned_column}
+use Rattle.exact_simplex.specs.Pivots.{IsNotAfter, LeadsNoNegative, line_at, numbers_in, turned_column}
 use Rattle.exact_simplex.proofs.Corner.{leads_negative, leads_zero}
 use Rattle.exact_simplex.proofs.Lex.{scaled, scaled_follows, sum_follows, summed}
 use Rattle.exact_simplex.proofs.TurnedLeads.{length-numbers_in}

@@ -5,7 +5,7 @@ use Rattle.std.specs.Prelude.{ℤ, pos, ◌-ℤ◌, ◌*ℤ◌, slice_index_or, 
 use Rattle.std.proofs.lemmas.Bool.{cases_eq}
 use Rattle.std.proofs.lemmas.List.{length-set}
 use Rattle.cost_base.specs.Lists.{numbers_from}
-use Rattle.whole_numbers.proofs.Ring.{var, num, ◌⊗◌, ring}
+use Rattle.whole_numbers.proofs.Ring.{var, ◌⊗◌, ring}
 use Rattle.path_rows.specs.declared.form.Form.{Form}
 use Rattle.path_rows.specs.Forms.{no_form}
 use Rattle.path_rows.specs.Basis.{IsMixture}
@@ -33,19 +33,19 @@ numbers_turned n D a low lows f rs j counted long at_j j_in =
     let news = turned fs rs (suc j) D in
     let place_turned : (place : ℕ) → 0 ≤ place → place < 0 + suc n → number_of (D * a) low (turned_rows lows rs (suc j) D) f place ≡ number_at news place =
     λ place from place_in. (
-      elim (cases_eq place (suc j)) [
-        | inl own ↦
-            subst (λ (p : ℕ). number_of (D * a) low (turned_rows lows rs (suc j) D) f p ≡ number_at news p) (sym own)
-            (number_same D a low lows f rs j long (omega (arith, counted))
-            ∙ ap (λ z. z *ℤ pos D) (sym (numbers_at n D low lows f (suc j) (omega (arith, j_in))))
-            ∙ sym (turned_same fs rs (suc j) D same (omega (arith, same, counted, j_in))))
-        | inr other ↦
-            number_other D a low lows f rs j place long at_j other (omega (arith, counted))
-            ∙ ap (λ z. (z *ℤ pos a) -ℤ (number_of D low lows f (suc j) *ℤ number_at rs place)) (sym (numbers_at n D low lows f place (omega arith)))
-            ∙ ap (λ z. (number_at fs place *ℤ pos a) -ℤ (z *ℤ number_at rs place)) (sym (numbers_at n D low lows f (suc j) (omega (arith, j_in))))
-            ∙ ap (λ z. (number_at fs place *ℤ z) -ℤ (number_at fs (suc j) *ℤ number_at rs place)) (sym at_j)
-            ∙ sym (turned_other fs rs (suc j) D place same other (omega (arith, same, counted)))
-      ]
+    elim (cases_eq place (suc j)) [
+      | inl own ↦
+          subst (λ (p : ℕ). number_of (D * a) low (turned_rows lows rs (suc j) D) f p ≡ number_at news p) (sym own)
+          (number_same D a low lows f rs j long (omega (arith, counted))
+          ∙ ap (λ z. z *ℤ pos D) (sym (numbers_at n D low lows f (suc j) (omega (arith, j_in))))
+          ∙ sym (turned_same fs rs (suc j) D same (omega (arith, same, counted, j_in))))
+      | inr other ↦
+          number_other D a low lows f rs j place long at_j other (omega (arith, counted))
+          ∙ ap (λ z. (z *ℤ pos a) -ℤ (number_of D low lows f (suc j) *ℤ number_at rs place)) (sym (numbers_at n D low lows f place (omega arith)))
+          ∙ ap (λ z. (number_at fs place *ℤ pos a) -ℤ (z *ℤ number_at rs place)) (sym (numbers_at n D low lows f (suc j) (omega (arith, j_in))))
+          ∙ ap (λ z. (number_at fs place *ℤ z) -ℤ (number_at fs (suc j) *ℤ number_at rs place)) (sym at_j)
+          ∙ sym (turned_other fs rs (suc j) D place same other (omega (arith, same, counted)))
+    ]
     ) in
     mapped_same (number_of (D * a) low (turned_rows lows rs (suc j) D) f) (number_at news) 0 (suc n) place_turned
     ∙ ap (λ m. map (number_at news) (numbers_from 0 m)) (sym (length-turned fs rs (suc j) D same ∙ numbers_long n D low lows f))

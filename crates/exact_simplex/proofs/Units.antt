@@ -1,5 +1,5 @@
 -- Forms with one coefficient: x - low and high - x. Their sums are that coefficient times what stands at its place.
-use Rattle.std.proofs.Common.{◌≡◌, ◌≢◌, ℕ, zero, suc, ◌+◌, ◌<◌, ◌≤◌, cond, true, false, refl, sym, ◌∙◌, ap, List, [], ◌∷◌, map, length, arith, add-zero}
+use Rattle.std.proofs.Common.{◌≡◌, ◌≢◌, ℕ, zero, suc, ◌+◌, ◌<◌, cond, refl, sym, ◌∙◌, ap, List, [], ◌∷◌, map, length, arith}
 use Rattle.std.specs.Prelude.{ℤ, pos, negsuc, ◌+ℤ◌, ◌-ℤ◌, ◌*ℤ◌, ◌==◌, neg_ℤ, slice_index, slice_index_or}
 use Rattle.std.proofs.lemmas.List.{get_or-map}
 use Rattle.cost_base.specs.Lists.{numbers_from}

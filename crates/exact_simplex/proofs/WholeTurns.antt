@@ -1,6 +1,6 @@
 -- A pivot keeps the table whole.
-use Rattle.std.proofs.Common.{◌≡◌, ◌≢◌, ℕ, zero, suc, ◌+◌, ◌*◌, ◌<◌, ◌≤◌, refl, sym, ◌∙◌, ap, subst, List, [], ◌∷◌, map, length, arith, inl, inr}
-use Rattle.std.specs.Prelude.{ℤ, pos, negsuc, ◌*ℤ◌, slice_index_or, slice_set, All}
+use Rattle.std.proofs.Common.{◌≡◌, ◌≢◌, ℕ, zero, suc, ◌*◌, ◌<◌, refl, sym, ◌∙◌, ap, subst, List, [], ◌∷◌, map, length, arith}
+use Rattle.std.specs.Prelude.{ℤ, pos, negsuc, slice_index_or, slice_set, All}
 use Rattle.std.specs.List.{AllZip}
 use Rattle.std.proofs.lemmas.List.{length-map, length-set, map-set}
 use Rattle.std.proofs.lemmas.List.Elements.{All-set}
@@ -10,9 +10,9 @@ use Rattle.path_rows.specs.declared.form.Form.{Form}
 use Rattle.path_rows.specs.declared.form.CostBox.{CostBox}
 use Rattle.path_rows.specs.declared.tree.Member.{Member}
 use Rattle.path_rows.specs.declared.tree.Member.TheVariants.{Low, High, Row}
-use Rattle.path_rows.specs.Forms.{form_at, no_form}
-use Rattle.path_rows.specs.Basis.{IsFormOf, IsMixture, entry, forms_of, member_form, unit}
-use Rattle.exact_simplex.specs.TableRows.{AreNumbers, IsNumber, divided_without}
+use Rattle.path_rows.specs.Forms.{no_form}
+use Rattle.path_rows.specs.Basis.{IsFormOf, IsMixture, entry, forms_of, member_form}
+use Rattle.exact_simplex.specs.TableRows.{AreNumbers, divided_without}
 use Rattle.exact_simplex.specs.Tableaus.{FitsBox}
 use Rattle.exact_simplex.specs.Turns.{AreRows, turned_by, unless_none}
 use Rattle.exact_simplex.specs.Wholes.{AllLong, IsLine, IsWhole, Stand, low_forms, members_of, number_at, number_of, numbers_of}

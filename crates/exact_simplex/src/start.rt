@@ -131,11 +131,7 @@ fn push_high_rows(
 }
 
 /// The lines of the box at the starting basis.
-pub fn bound_rows(
-    alloc: Global,
-    costs: &CostBox,
-    top: Top,
-) -> Result<Vec<TableRow>, OutOfMemory>
+pub fn bound_rows(alloc: Global, costs: &CostBox, top: Top) -> Result<Vec<TableRow>, OutOfMemory>
     requires ranges { IsBox (length costs.now.low) costs.now }
     requires few { length costs.now.low < 2 ^ 32 }
     ensures rows { IfOk result (λ rows. rows.items ≡ map (starting_line costs.now []) (members_of costs.now 0)) }
@@ -149,11 +145,7 @@ pub fn bound_rows(
 }
 
 /// The table of a box without rows, at the basis of the forms x - low.
-pub fn starting_table(
-    alloc: Global,
-    costs: &CostBox,
-    top: Top,
-) -> Result<Table, OutOfMemory>
+pub fn starting_table(alloc: Global, costs: &CostBox, top: Top) -> Result<Table, OutOfMemory>
     requires ranges { IsBox (length costs.now.low) costs.now }
     requires few { length costs.now.low < 2 ^ 32 }
     ensures held { IfOk result (λ table. held_of table Open ≡ record { top = top; costs = costs.now; rows = []; basis = starting costs.now; stage = Open }) }

@@ -63,8 +63,7 @@ impl Table {
         ensures wide { IfErr result (λ wide. IsTooWide self.new.top self.new.costs self.new.rows.items (wide_at wide self.new.basis.items)) }
     {
         let member = self.member_at(line);
-        let inverse =
-            take_quotients(&self.lines[line], column, &mut self.quotients, self.top)?;
+        let inverse = take_quotients(&self.lines[line], column, &mut self.quotients, self.top)?;
         turn_rows(
             self.lines.as_mut_slice(),
             column,

@@ -1,5 +1,5 @@
 -- The row of zeros gets its constant and its entry.
-use Rattle.std.proofs.Common.{◌≡◌, ◌<◌, ℕ, suc, ◌∙◌, ap, sym, subst, ◌∷◌, length, map, arith, w64}
+use Rattle.std.proofs.Common.{◌≡◌, suc, ◌∙◌, ap, ◌∷◌, length, map, arith, w64}
 use Rattle.std.proofs.lemmas.Int.{to_z-of_z}
 use Rattle.cost_base.specs.Lists.{numbers_from}
 use Rattle.whole_numbers.specs.Fractions.{whole}

@@ -1,5 +1,5 @@
 -- All lines of the box were put.
-use Rattle.std.proofs.Common.{[], refl, ap, length}
+use Rattle.std.proofs.Common.{ap, length}
 use Rattle.exact_simplex.proofs.StartLines.{bound_lines}
 use Rattle.exact_simplex.proofs.start.bound_rows.Goals as goal
 

@@ -1,5 +1,5 @@
 -- One more form is put.
-use Rattle.std.proofs.Common.{refl, [], ◌∙◌, sym}
+use Rattle.std.proofs.Common.{refl, []}
 use Rattle.std.specs.Prelude.{slice_index}
 use Rattle.path_rows.specs.declared.tree.Member.TheVariants.{Low}
 use Rattle.exact_simplex.proofs.StartLines.{put_more}

@@ -1,5 +1,5 @@
 -- The new table is what a tableau keeps.
-use Rattle.std.proofs.Common.{◌≡◌, suc, ◌∙◌, ap, length}
+use Rattle.std.proofs.Common.{suc, ◌∙◌, ap, length}
 use Rattle.exact_simplex.proofs.Sounds.{blank_long, started}
 use Rattle.exact_simplex.proofs.start.starting_table.Goals as goal
 

@@ -1,8 +1,7 @@
 -- The line's place tells its member.
-use Rattle.std.proofs.Common.{◌≡◌, ◌<◌, ℕ, ◌+◌, ◌-◌, ◌∙◌, ap, sym, subst, length, arith}
+use Rattle.std.proofs.Common.{◌≡◌, ℕ, ◌+◌, ◌-◌, ◌∙◌, ap, sym, length, arith}
 use Rattle.std.specs.Prelude.{slice_index_or, slice_index}
-use Rattle.path_rows.specs.declared.tree.Member.{Member}
-use Rattle.path_rows.specs.declared.tree.Member.TheVariants.{Low, High, Row}
+use Rattle.path_rows.specs.declared.tree.Member.TheVariants.{Low, High}
 use Rattle.exact_simplex.specs.Wholes.{members_of}
 use Rattle.exact_simplex.proofs.Bases.{members_begin}
 use Rattle.exact_simplex.proofs.Pivots.{high_place, members_long, row_place}

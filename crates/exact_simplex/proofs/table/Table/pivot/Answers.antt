@@ -1,6 +1,6 @@
 -- The quotients are made, each line is turned, and the line's form enters the basis.
-use Rattle.std.proofs.Common.{◌≡◌, ◌<◌, ℕ, suc, ◌∙◌, ap, sym, subst, List, [], map, length, arith}
-use Rattle.std.specs.Prelude.{pos, slice_index_or, slice_set}
+use Rattle.std.proofs.Common.{◌≡◌, ℕ, suc, ◌∙◌, ap, sym, subst, List, map, length, arith}
+use Rattle.std.specs.Prelude.{pos, slice_set}
 use Rattle.std.specs.Vec.{with_items}
 use Rattle.std.proofs.lemmas.List.{with_items_is, length-map}
 use Rattle.std.proofs.lemmas.Result.{err_from_is_err_and}
