@@ -1,10 +1,11 @@
 -- What a pivot of a table needs and leaves.
-use Rattle.std.specs.Prelude.{◌≡◌, ◌≢◌, Bool, true, false, ℕ, zero, suc, ◌<◌, List, [], ◌∷◌, ℤ, pos, negsuc, ◌-ℤ◌, ◌*ℤ◌, ◌<ℤ◌, map, length, slice_index_or}
+use Rattle.std.specs.Prelude.{◌≡◌, ◌≢◌, Bool, true, false, ℕ, zero, suc, ◌<◌, List, [], ◌∷◌, ℤ, pos, negsuc, ◌-ℤ◌, ◌*ℤ◌, ◌<ℤ◌, ◌≤ℤ◌, Option, None, Some, map, length, slice_index_or}
 use Rattle.std.specs.declared.cmp.Ordering.{Ordering}
 use Rattle.whole_numbers.specs.Fractions.{Fraction, order, times}
 use Rattle.path_rows.specs.declared.tree.Member.{Member}
 use Rattle.path_rows.specs.declared.tree.Member.TheVariants.{Low}
 use Rattle.path_rows.specs.Basis.{entry, member_form}
+use Rattle.path_rows.specs.Steps.{IsPivot}
 use Rattle.exact_simplex.specs.declared.table.Table.{Table}
 use Rattle.exact_simplex.specs.Wholes.{IsWholeTable, members_of, number_at, numbers_of}
 
@@ -64,3 +65,10 @@ IsOrdered false t line column other = IsNotAfter t line column other
 -- how a line's entry in the other column stands to its multiple of that in the column
 abbrev pub entries_order : List Fraction → ℕ → ℕ → Fraction → Ordering
 entries_order fs column other quotient = order (entry fs (suc other)) (times (entry fs (suc column)) quotient)
+
+-- What was found in a line in the columns before a bound: no positive entry; or one, whose column doesn't come after
+-- that of any other.
+abbrev pub IsBestBelow : Table → ℕ → ℕ → Option ℕ → Type 0
+IsBestBelow t line bound None = (k : ℕ) → k < bound → (entry (line_at t line) (suc k)).numerator ≤ℤ pos 0
+IsBestBelow t line bound (Some column) =
+    IsPivot t.basis.items (line_at t line) (suc column) × ((k : ℕ) → k < bound → k ≢ column → pos 0 <ℤ (entry (line_at t line) (suc k)).numerator → IsNotAfter t line column k)
