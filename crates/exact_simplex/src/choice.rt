@@ -1,5 +1,5 @@
 //! The choice of a pivot's column.
-ghost use Rattle.std.specs.Prelude.{◌≡◌, ◌≢◌, ℕ, suc, ◌<◌, length, pos, IfErr, IfOk};
+ghost use Rattle.std.specs.Prelude.{◌≡◌, ◌≢◌, ℕ, suc, ◌+◌, ◌<◌, length, pos, ◌<ℤ◌, Some, IfErr, IfOk};
 ghost use Rattle.cost_base.specs.declared.StepName.TheVariants.{Div, Mul};
 ghost use Rattle.whole_numbers.specs.Fractions.{divided};
 ghost use Rattle.wide_fraction.specs.Widths.{IsWithin};
@@ -7,7 +7,7 @@ ghost use Rattle.path_rows.specs.Basis.{entry};
 ghost use Rattle.path_rows.specs.Steps.{IsPivot, IsTooWide};
 ghost use Rattle.exact_simplex.specs.TableRows.{AreNumbers};
 ghost use Rattle.exact_simplex.specs.Entries.{IsPassing};
-ghost use Rattle.exact_simplex.specs.Pivots.{IsOrdered, entries_order, line_at};
+ghost use Rattle.exact_simplex.specs.Pivots.{IsBestBelow, IsOrdered, entries_order, line_at};
 ghost use Rattle.exact_simplex.specs.Tableaus.{wide_at};
 ghost use Rattle.exact_simplex.specs.Wholes.{IsWholeTable};
 
@@ -75,5 +75,42 @@ impl Table {
             }
         }
         Ok(false)
+    }
+
+    /// The better of the best column so far and one more in which the line has a positive entry.
+    fn better(&self, line: usize, best: Option<u32>, column: u32) -> Result<u32, Wide>
+        requires whole { IsWholeTable self.now }
+        requires line { line < length self.now.lines.items }
+        requires column { IsPivot self.now.basis.items (line_at self.now line) (suc column) }
+        requires best { IsBestBelow self.now line column best }
+        ensures best { IfOk result (λ better. IsBestBelow self.now line (column + 1) (Some better)) }
+        ensures wide { IfErr result (λ wide. IsTooWide self.now.top self.now.costs self.now.rows.items (wide_at wide self.now.basis.items)) }
+    {
+        match best {
+            None => Ok(column),
+            Some(best) => {
+                let changes = self.precedes(line, best, column)?;
+                if changes { Ok(column) } else { Ok(best) }
+            }
+        }
+    }
+
+    /// The best column so far, once one more was looked at.
+    fn look_at(&self, line: usize, best: Option<u32>, column: u32) -> Result<Option<u32>, Wide>
+        requires whole { IsWholeTable self.now }
+        requires line { line < length self.now.lines.items }
+        requires below { (entry (line_at self.now line) 0).numerator <ℤ pos 0 }
+        requires column { column < length self.now.costs.low }
+        requires best { IsBestBelow self.now line column best }
+        ensures best { IfOk result (λ found. IsBestBelow self.now line (column + 1) found) }
+        ensures wide { IfErr result (λ wide. IsTooWide self.now.top self.now.costs self.now.rows.items (wide_at wide self.now.basis.items)) }
+    {
+        let entry = self.lines[line].entry(column);
+        if entry.is_positive() {
+            let better = self.better(line, best, column)?;
+            Ok(Some(better))
+        } else {
+            Ok(best)
+        }
     }
 }
