@@ -9,7 +9,7 @@ ghost use Rattle.exact_simplex.specs.TableRows.{AreNumbers};
 ghost use Rattle.exact_simplex.specs.Entries.{IsPassing};
 ghost use Rattle.exact_simplex.specs.Pivots.{IsBestBelow, IsOrdered, entries_order, line_at};
 ghost use Rattle.exact_simplex.specs.Tableaus.{wide_at};
-ghost use Rattle.exact_simplex.specs.Wholes.{IsWholeTable};
+ghost use Rattle.exact_simplex.specs.Wholes.{HasRoom, IsWholeTable};
 
 use crate::row::TableRow;
 use crate::table::Table;
@@ -112,5 +112,27 @@ impl Table {
         } else {
             Ok(best)
         }
+    }
+
+    /// The column of a pivot on a line whose constant is negative: of the columns in which it has a positive entry the
+    /// least one, each over that entry. None exactly where it has no positive entry.
+    ///
+    /// # Errors
+    ///
+    /// `Wide` where a step of a comparison makes a whole number that passes `top`.
+    pub fn choose(&self, line: usize) -> Result<Option<u32>, Wide>
+        requires whole { IsWholeTable self.now }
+        requires room { HasRoom self.now }
+        requires line { line < length self.now.lines.items }
+        requires below { (entry (line_at self.now line) 0).numerator <ℤ pos 0 }
+        ensures best { IfOk result (λ best. IsBestBelow self.now line (length self.now.costs.low) best) }
+        ensures wide { IfErr result (λ wide. IsTooWide self.now.top self.now.costs self.now.rows.items (wide_at wide self.now.basis.items)) }
+    {
+        let width = self.costs.low.as_slice().len() as u32;
+        let mut best = None;
+        for column in 0..width {
+            best = self.look_at(line, best, column)?;
+        }
+        Ok(best)
     }
 }

@@ -1,5 +1,5 @@
 -- The new column comes before the best so far.
-use Rattle.std.proofs.Common.{◌<◌, ℕ, suc, subst, length, arith}
+use Rattle.std.proofs.Common.{◌<◌, subst, length, arith}
 use Rattle.exact_simplex.specs.Pivots.{IsBestBelow, IsOrdered}
 use Rattle.exact_simplex.proofs.Bests.{best_changes}
 use Rattle.exact_simplex.proofs.table.Table.better.Goals as goal

@@ -1,5 +1,5 @@
 -- The column is a pivot where the line's entry in it is positive, and else changes nothing.
-use Rattle.std.proofs.Common.{suc, ap, length, arith}
+use Rattle.std.proofs.Common.{ap, length, arith}
 use Rattle.exact_simplex.proofs.Pivots.{line_long, line_read}
 use Rattle.exact_simplex.proofs.table.Table.look_at.Goals as goal
 
