@@ -1,10 +1,10 @@
 -- The best column so far, as one more column is looked at.
-use Rattle.std.proofs.Common.{ℕ, suc, ◌+◌, ◌<◌, sym, subst, length, arith, inl, inr}
+use Rattle.std.proofs.Common.{◌≤◌, zero, ℕ, suc, ◌+◌, ◌<◌, sym, subst, length, arith, inl, inr}
 use Rattle.std.specs.Prelude.{ℤ, pos, ◌<ℤ◌, ◌≤ℤ◌, Option, None, Some}
 use Rattle.std.proofs.lemmas.Bool.{cases_eq}
 use Rattle.std.proofs.lemmas.Int.{ints}
 use Rattle.path_rows.specs.Basis.{entry}
-use Rattle.path_rows.specs.Steps.{IsPivot}
+use Rattle.path_rows.specs.Steps.{IsPivot, IsStuck}
 use Rattle.exact_simplex.specs.declared.table.Table.{Table}
 use Rattle.exact_simplex.specs.Wholes.{IsWholeTable}
 use Rattle.exact_simplex.specs.Pivots.{IsBestBelow, IsNotAfter, line_at}
@@ -69,3 +69,12 @@ best_kept t line column (Some best) low so_far = (
   where
     both : {z : ℤ} → z ≤ℤ pos 0 → pos 0 <ℤ z → ⊥
     both {z} lower higher = omega (arith, ints)
+
+-- a line without a positive entry is stuck
+pub best_stuck : (t : Table) (w : IsWholeTable t) (line : ℕ) → (entry (line_at t line) 0).numerator <ℤ pos 0 → IsBestBelow t line (length t.costs.low) None → IsStuck t.basis.items (line_at t line)
+best_stuck t w line below none =
+    record { below = below; none_above = none_above }
+  where
+    none_above : (k : ℕ) → 1 ≤ k → k ≤ length t.basis.items → (entry (line_at t line) k).numerator ≤ℤ pos 0
+    none_above zero k_from k_in = absurd (omega arith)
+    none_above (suc k) k_from k_in = none k (omega (arith, w.count, k_in))
