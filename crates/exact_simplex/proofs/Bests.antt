@@ -1,13 +1,17 @@
 -- The best column so far, as one more column is looked at.
-use Rattle.std.proofs.Common.{◌≤◌, zero, ℕ, suc, ◌+◌, ◌<◌, sym, subst, length, arith, inl, inr}
+use Rattle.std.proofs.Common.{◌≡◌, ◌≤◌, zero, ℕ, suc, ◌+◌, ◌<◌, sym, subst, length, arith, inl, inr}
 use Rattle.std.specs.Prelude.{ℤ, pos, ◌<ℤ◌, ◌≤ℤ◌, Option, None, Some}
 use Rattle.std.proofs.lemmas.Bool.{cases_eq}
 use Rattle.std.proofs.lemmas.Int.{ints}
-use Rattle.path_rows.specs.Basis.{entry}
+use Rattle.path_rows.specs.Basis.{entry, member_form}
 use Rattle.path_rows.specs.Steps.{IsPivot, IsStuck}
 use Rattle.exact_simplex.specs.declared.table.Table.{Table}
-use Rattle.exact_simplex.specs.Wholes.{IsWholeTable}
-use Rattle.exact_simplex.specs.Pivots.{IsBestBelow, IsNotAfter, line_at}
+use Rattle.exact_simplex.specs.Wholes.{IsWholeTable, number_at}
+use Rattle.exact_simplex.specs.Pivots.{IsBestBelow, IsLeastIn, IsNotAfter, line_at, line_numbers, member_at}
+use Rattle.exact_simplex.proofs.RowLaws.{number_at as number_there}
+use Rattle.exact_simplex.proofs.TurnedNumbers.{numbers_long}
+use Rattle.exact_simplex.proofs.WholeTurns.{stand_at}
+use Rattle.exact_simplex.proofs.Pivots.{line_long, positive_number, whole_line}
 use Rattle.exact_simplex.proofs.Transitive.{not_after_chain}
 
 -- a column with a positive entry in a line with a negative constant is a pivot
@@ -78,3 +82,20 @@ best_stuck t w line below none =
     none_above : (k : ℕ) → 1 ≤ k → k ≤ length t.basis.items → (entry (line_at t line) k).numerator ≤ℤ pos 0
     none_above zero k_from k_in = absurd (omega arith)
     none_above (suc k) k_from k_in = none k (omega (arith, w.count, k_in))
+
+-- the best of all columns is the least
+pub best_least : (t : Table) (line column : ℕ) → line < length t.lines.items → IsBestBelow t line (length t.costs.low) (Some column) → IsLeastIn t line column
+best_least t line column line_in best w k k_in other a at_column above =
+    best.1 k k_in other (entry_above w k k_in above) w a at_column
+  where
+    positive : (z : ℤ) (n : ℕ) → z ≡ pos n → 0 < n → pos 0 <ℤ z
+    positive z n is n_positive = omega (arith, ints)
+
+    entry_above : (w : IsWholeTable t) (k : ℕ) → k < length t.costs.low → pos 0 <ℤ number_at (line_numbers t w line) (suc k) → pos 0 <ℤ (entry (line_at t line) (suc k)).numerator
+    entry_above w k k_in above =
+        let l = whole_line t w line line_in in
+        let long = line_long t w line line_in in
+        let here = number_there t.top (line_at t line) (suc k) l.numbers (omega (arith, long, k_in)) in
+        let stands = stand_at w.common (line_at t line) (line_numbers t w line) (suc k) l.stand (omega (arith, numbers_long (length t.costs.low) w.common t.costs.low w.lows (member_form (length t.costs.low) t.rows.items (member_at t line)), k_in)) in
+        let found = positive_number (number_at (line_numbers t w line) (suc k)) (entry (line_at t line) (suc k)).numerator w.common (entry (line_at t line) (suc k)).denominator w.positive here.lowest.positive (sym stands) above in
+        positive (entry (line_at t line) (suc k)).numerator found.0 found.1 found.2

@@ -15,7 +15,7 @@ use Rattle.path_rows.specs.Steps.{IsPivot, IsTooWide}
 use Rattle.exact_simplex.specs.declared.table.Table.{Table}
 use Rattle.exact_simplex.specs.TableRows.{IsWideStep, divided_without}
 use Rattle.exact_simplex.specs.Tableaus.{wide_at}
-use Rattle.exact_simplex.specs.Turns.{AreRows, IsQuotientStepOf, IsTurnStep, TurnsWide}
+use Rattle.exact_simplex.specs.Turns.{AreRows, IsQuotientStepOf, IsTurnStep, TurnsWide, turned_by}
 use Rattle.exact_simplex.specs.Wholes.{IsLine, IsWhole, IsWholeTable, high_member, members_of, number_at, numbers_of}
 use Rattle.exact_simplex.specs.Pivots.{IsLeastIn, line_at, line_numbers, member_at}
 use Rattle.exact_simplex.proofs.Filled.{length-mapped, mapped_at}
@@ -138,24 +138,36 @@ entry_number t w line column line_in pivot =
     let stands = stand_at w.common es (line_numbers t w line) (suc column) l.stand (omega (arith, numbers_long n w.common t.costs.low w.lows f, column_in)) in
     positive_number (entry es (suc column)).numerator (number_at (line_numbers t w line) (suc column)) (entry es (suc column)).denominator w.common here.lowest.positive w.positive stands pivot.above
 
+-- the lines, turned by the quotients and the inverse that were made of a row
+pub news_turned : (es row qs : List Fraction) (place : ℕ) (inverse : Fraction) (news rows lines : List (List Fraction)) → news ≡ map (λ fs. turned_by fs qs place inverse) rows → rows ≡ lines → qs ≡ divided_without place (entry row place) row 0 → inverse ≡ divided (whole (pos 1)) (entry row place) → row ≡ es → news ≡ map (turned_line es place) lines
+news_turned es row qs place inverse news rows lines news_are rows_are qs_are inverse_is row_is =
+    news_are
+    ∙ ap (map (λ fs. turned_by fs qs place inverse)) rows_are
+    ∙ ap (λ (ts : List Fraction). map (λ fs. turned_by fs ts place inverse) lines) (qs_are ∙ ap (λ (r : List Fraction). divided_without place (entry r place) r 0) row_is)
+    ∙ ap (λ (q : Fraction). map (λ fs. turned_by fs (divided_without place (entry es place) es 0) place q) lines) (inverse_is ∙ ap (λ (r : List Fraction). divided (whole (pos 1)) (entry r place)) row_is)
+
+-- what a pivot of the table needs
+pub pivot_of : (t : Table) (w : IsWholeTable t) (line column a : ℕ) → line < length t.lines.items → IsPivot t.basis.items (line_at t line) (suc column) → IsLeastIn t line column → number_at (line_numbers t w line) (suc column) ≡ pos a → 0 < a → IsPivotOf t.top t.costs t.rows.items w.common w.lows (member_at t line) (line_at t line) column a
+pivot_of t w line column a line_in pivot least at_column positive =
+    let n = length t.costs.low in
+    let f = member_form n t.rows.items (member_at t line) in
+    let column_in : column < n = omega (arith, pivot.column, w.count) in
+    record {
+      member = member_is t w line line_in;
+      line = whole_line t w line line_in;
+      j_in = column_in;
+      at_j = sym (numbers_at n w.common t.costs.low w.lows f (suc column) (omega (arith, column_in))) ∙ at_column;
+      positive = positive;
+      least = least w;
+    }
+
 -- the table after a pivot is whole
 pub pivot_whole : (t : Table) (w : IsWholeTable t) (line column : ℕ) (news : List (List Fraction)) → line < length t.lines.items → IsPivot t.basis.items (line_at t line) (suc column) → IsLeastIn t line column → news ≡ map (turned_line (line_at t line) (suc column)) t.lines.items → AreRows t.top (suc (length t.costs.low)) news → IsWhole t.top t.costs t.rows.items (slice_set t.basis.items column (member_at t line)) news
 pivot_whole t w line column news line_in pivot least news_are numbers =
     let n = length t.costs.low in
     let es = line_at t line in
-    let f = member_form n t.rows.items (member_at t line) in
-    let l = whole_line t w line line_in in
-    let column_in : column < n = omega (arith, pivot.column, w.count) in
     let positive = entry_number t w line column line_in pivot in
-    let p : IsPivotOf t.top t.costs t.rows.items w.common w.lows (member_at t line) es column positive.0 =
-    record {
-      member = member_is t w line line_in;
-      line = l;
-      j_in = column_in;
-      at_j = sym (numbers_at n w.common t.costs.low w.lows f (suc column) (omega (arith, column_in))) ∙ positive.1;
-      positive = positive.2;
-      least = least w;
-    } in
+    let p = pivot_of t w line column positive.0 line_in pivot least positive.1 positive.2 in
     subst (λ (lines : List (List Fraction)). IsWhole t.top t.costs t.rows.items (slice_set t.basis.items column (member_at t line)) lines) (sym news_are)
     (whole_turned t.top t.costs t.rows.items t.basis.items t.lines.items (member_at t line) es column positive.0 w p (subst (AreRows t.top (suc n)) news_are numbers))
 

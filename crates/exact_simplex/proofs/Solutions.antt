@@ -1,12 +1,13 @@
 -- What a whole table shows of the points of its box: its corner, where no constant is negative, and that there is none
 -- where a form is stuck.
 use Rattle.std.proofs.Common.{◌≡◌, ℕ, zero, suc, ◌+◌, ◌*◌, ◌<◌, ◌≤◌, refl, sym, ◌∙◌, ap, subst, List, [], ◌∷◌, map, length, arith}
-use Rattle.std.specs.Prelude.{ℤ, pos, negsuc, ◌+ℤ◌, ◌-ℤ◌, ◌*ℤ◌, neg_ℤ, nat_abs, ◌<ℤ◌, ◌≤ℤ◌, slice_index, slice_index_or, All}
+use Rattle.std.specs.Prelude.{ℤ, pos, negsuc, ◌+ℤ◌, ◌-ℤ◌, ◌*ℤ◌, neg_ℤ, nat_abs, ◌<ℤ◌, ◌≤ℤ◌, Result, Ok, Err, IfOk, OnOk, slice_index, slice_index_or, All}
 use Rattle.std.proofs.lemmas.Int.{ints}
 use Rattle.std.proofs.lemmas.List.{get_or_default}
 use Rattle.cost_base.specs.Lists.{numbers_from}
 use Rattle.whole_numbers.specs.Fractions.{Fraction}
 use Rattle.whole_numbers.proofs.Ring.{var, num, ◌⊕◌, ◌⊖◌, ◌⊗◌, neg, ring}
+use Rattle.wide_fraction.specs.declared.steps.Wide.{Wide}
 use Rattle.area_graph.specs.declared.Point.{Point}
 use Rattle.path_rows.specs.declared.form.Form.{Form}
 use Rattle.path_rows.specs.declared.form.CostBox.{CostBox}
@@ -17,11 +18,13 @@ use Rattle.path_rows.specs.Boxes.{IsPointOf}
 use Rattle.path_rows.specs.Basis.{IsFormOf, entry, forms_of, low_member, member_form}
 use Rattle.path_rows.specs.Steps.{IsStuck}
 use Rattle.exact_simplex.specs.declared.table.Table.{Table}
+use Rattle.exact_simplex.specs.declared.stage.Solved.{Solved}
+use Rattle.exact_simplex.specs.declared.stage.Stage.TheVariants.{Ended}
 use Rattle.exact_simplex.specs.declared.stage.Solved.TheVariants.{Feasible, Refuted}
 use Rattle.exact_simplex.specs.TableRows.{AreNumbers}
 use Rattle.exact_simplex.specs.Tableaus.{IsSolved, MeetsRows}
-use Rattle.exact_simplex.specs.Wholes.{IsLine, IsWholeTable, Stand, high_member, low_forms, members_of, number_at, number_of}
-use Rattle.exact_simplex.specs.Pivots.{line_at, line_numbers, member_at}
+use Rattle.exact_simplex.specs.Wholes.{IsLine, IsShown, IsWholeTable, Stand, high_member, low_forms, members_of, number_at, number_of}
+use Rattle.exact_simplex.specs.Pivots.{AreHigh, KeepsForms, line_at, line_numbers, member_at}
 use Rattle.exact_simplex.proofs.Corner.{MetAt, NotAbove, stuck_negative}
 use Rattle.exact_simplex.proofs.Tables.{IsCorner, corner_value}
 use Rattle.exact_simplex.proofs.Blends.{form_mixture}
@@ -35,14 +38,14 @@ use Rattle.exact_simplex.proofs.Pivots.{high_place, line_long, member_is, member
 use Rattle.exact_simplex.proofs.Zips.{zip_long}
 
 -- a number that a fraction stands for has its sign
-negative_number : (z m : ℤ) (d D : ℕ) → 0 < d → 0 < D → (z *ℤ pos D) ≡ (m *ℤ pos d) → z <ℤ pos 0 → m <ℤ pos 0
+pub negative_number : (z m : ℤ) (d D : ℕ) → 0 < d → 0 < D → (z *ℤ pos D) ≡ (m *ℤ pos d) → z <ℤ pos 0 → m <ℤ pos 0
 negative_number (pos n) m d D d_positive D_positive is negative = absurd (omega (arith, ints))
 negative_number (negsuc n) (negsuc a) d D d_positive D_positive is negative = omega (arith, ints)
 negative_number (negsuc n) (pos a) d D d_positive D_positive is negative =
     let product : 0 < suc n * D = grind arith in
     absurd (omega (arith, ints))
 
-low_number : (z m : ℤ) (d D : ℕ) → 0 < d → 0 < D → (z *ℤ pos D) ≡ (m *ℤ pos d) → z ≤ℤ pos 0 → m ≤ℤ pos 0
+pub low_number : (z m : ℤ) (d D : ℕ) → 0 < d → 0 < D → (z *ℤ pos D) ≡ (m *ℤ pos d) → z ≤ℤ pos 0 → m ≤ℤ pos 0
 low_number z (pos zero) d D d_positive D_positive is low = omega (arith, ints)
 low_number z (negsuc a) d D d_positive D_positive is low = omega (arith, ints)
 low_number (pos zero) (pos (suc a)) d D d_positive D_positive is low =
@@ -54,7 +57,7 @@ low_number (negsuc n) (pos (suc a)) d D d_positive D_positive is low =
     let other : 0 < suc n * D = grind arith in
     absurd (omega (arith, ints))
 
-high_number : (z m : ℤ) (d D : ℕ) → 0 < d → 0 < D → (z *ℤ pos D) ≡ (m *ℤ pos d) → pos 0 ≤ℤ z → pos 0 ≤ℤ m
+pub high_number : (z m : ℤ) (d D : ℕ) → 0 < d → 0 < D → (z *ℤ pos D) ≡ (m *ℤ pos d) → pos 0 ≤ℤ z → pos 0 ≤ℤ m
 high_number z (pos a) d D d_positive D_positive is high = omega (arith, ints)
 high_number (negsuc n) (negsuc a) d D d_positive D_positive is high = absurd (omega (arith, ints))
 high_number (pos n) (negsuc a) d D d_positive D_positive is high =
@@ -163,12 +166,9 @@ corner_long D [] lows same = refl
 corner_long D (l ∷ ls) [] same = absurd (omega arith)
 corner_long D (l ∷ ls) (ts ∷ lows) same = let rest = corner_long D ls lows (omega arith) in omega arith
 
--- the corner of a table, and that no constant of the table is negative
+-- the corner of a table
 abbrev pub corner_point : (t : Table) → IsWholeTable t → Point
 corner_point t w = record { scale = w.common; values = corner_of w.common t.costs.low w.lows }
-
-abbrev pub AreHigh : Table → Type 0
-AreHigh t = All (λ line. pos 0 ≤ℤ (entry line 0).numerator) t.lines.items
 
 counted_lows : (t : Table) (w : IsWholeTable t) → length t.costs.low ≡ length w.lows
 counted_lows t w = lows_counted t.top t.costs t.rows.items t.basis.items t.lines.items w
@@ -231,3 +231,15 @@ corner_solves t w high =
             (member_high t w high (n + n + k) (Row k) (omega (arith, many, k_in)) (row_place t.costs (length t.rows.items) k (Low 0 0) k_in)),
       ),
     )
+
+-- what the lines show is so
+pub shown_solves : (t : Table) (w : IsWholeTable t) (solved : Solved) → IsShown t.basis.items t.lines.items (Ended solved) → IsSolved t.costs t.rows.items solved
+shown_solves t w Feasible high = corner_solves t w high
+shown_solves t w (Refuted line) stuck = stuck_refutes t w line stuck.0 stuck.1
+
+-- what the work on a table found is so of the forms that it began with
+pub settled_solves : (old new : Table) (found : Result Solved Wide) → KeepsForms old new → OnOk found (IsWholeTable new) → IfOk found (λ solved. IsShown new.basis.items new.lines.items (Ended solved)) → IfOk found (λ solved. IsSolved old.costs old.rows.items solved)
+settled_solves old new (Ok solved) keeps w shown =
+    subst (λ (rows : List Form). IsSolved old.costs rows solved) keeps.rows
+    (subst (λ (costs : CostBox). IsSolved costs new.rows.items solved) keeps.costs (shown_solves new w solved shown))
+settled_solves old new (Err wide) keeps w shown = tt

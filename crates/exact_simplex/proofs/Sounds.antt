@@ -1,4 +1,4 @@
--- What a tableau keeps, when it is made.
+-- What a tableau keeps: when it is made, when it is solved and when it stops.
 use Rattle.std.proofs.Common.{◌≡◌, ℕ, suc, ◌^◌, ◌<◌, ◌∙◌, ap, subst, List, [], ◌∷◌, map, length, arith}
 use Rattle.std.specs.Prelude.{All, slice_index}
 use Rattle.cost_base.specs.Lists.{numbers_from}
@@ -6,12 +6,15 @@ use Rattle.whole_numbers.specs.Fractions.{Fraction}
 use Rattle.path_rows.specs.declared.form.CostBox.{CostBox}
 use Rattle.path_rows.specs.declared.tree.Member.TheVariants.{Low}
 use Rattle.path_rows.specs.Boxes.{IsBox}
+use Rattle.path_rows.specs.Steps.{IsTooWide}
+use Rattle.wide_fraction.specs.declared.steps.Wide.{Wide}
 use Rattle.exact_simplex.specs.declared.table.Table.{Table}
-use Rattle.exact_simplex.specs.declared.stage.Stage.TheVariants.{Open}
+use Rattle.exact_simplex.specs.declared.stage.Solved.{Solved}
+use Rattle.exact_simplex.specs.declared.stage.Stage.TheVariants.{Ended, Open, Stopped}
 use Rattle.exact_simplex.specs.TableRows.{nothing}
-use Rattle.exact_simplex.specs.Tableaus.{FitsBox, starting}
+use Rattle.exact_simplex.specs.Tableaus.{FitsBox, starting, wide_at}
 use Rattle.exact_simplex.specs.Turns.{AreRows}
-use Rattle.exact_simplex.specs.Wholes.{IsSound, IsWhole, members_of, starting_line}
+use Rattle.exact_simplex.specs.Wholes.{HasRoom, IsShown, IsSound, IsWhole, IsWholeTable, members_of, starting_line}
 use Rattle.exact_simplex.proofs.Filled.{length-mapped}
 use Rattle.exact_simplex.proofs.Bases.{whole_basis}
 use Rattle.exact_simplex.proofs.Starts.{whole_start}
@@ -34,3 +37,12 @@ started t costs low box few costs_are rows_are low_is basis_is lines_are numbers
       basis = whole_basis t.top t.costs t.rows.items t.basis.items t.lines.items whole;
       room = record { few = rw costs_are few; quotients = rw costs_are quotients; scratch = rw costs_are scratch };
     }
+
+-- a table that shows an answer, and one at which a step was too wide
+pub ended : (t : Table) (solved : Solved) → IsWholeTable t → IsShown t.basis.items t.lines.items (Ended solved) → HasRoom t → IsSound t (Ended solved)
+ended t solved w shown room =
+    record { whole = λ going. w; shown = shown; basis = whole_basis t.top t.costs t.rows.items t.basis.items t.lines.items w; room = room }
+
+pub stopped : (t : Table) (wide : Wide) → IsTooWide t.top t.costs t.rows.items (wide_at wide t.basis.items) → HasRoom t → IsSound t (Stopped wide)
+stopped t wide too_wide room =
+    record { whole = λ going. absurd going; shown = tt; basis = (too_wide.lows, too_wide.table); room = room }

@@ -12,7 +12,7 @@ use Rattle.exact_simplex.proofs.Rise.{turned_leads}
 use Rattle.exact_simplex.proofs.Pivot.{turned}
 use Rattle.exact_simplex.proofs.Turns.{turned_rows, turned_other, turned_same}
 
-column_other : (a D : ℕ) (lows : List (List ℤ)) (rs : List ℤ) (j place : ℕ) → AllLong (length rs) lows → number_at rs j ≡ pos a → place ≢ j → place < length rs → numbers_in place (turned_rows lows rs j D) ≡ turned_column a (numbers_in place lows) (number_at rs place) (numbers_in j lows)
+pub column_other : (a D : ℕ) (lows : List (List ℤ)) (rs : List ℤ) (j place : ℕ) → AllLong (length rs) lows → number_at rs j ≡ pos a → place ≢ j → place < length rs → numbers_in place (turned_rows lows rs j D) ≡ turned_column a (numbers_in place lows) (number_at rs place) (numbers_in j lows)
 column_other a D [] rs j place long at_j other place_in = refl
 column_other a D (ts ∷ lows) rs j place long at_j other place_in =
     cc (first, column_other a D lows rs j place long.1 at_j other place_in)

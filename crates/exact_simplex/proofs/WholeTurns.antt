@@ -81,7 +81,7 @@ pub record IsPivotOf (top : ℕ) (costs : CostBox) (rows : List Form) (D : ℕ) 
   pub positive : 0 < a
   pub least : IsLeast (length costs.low) lows (numbers_of (length costs.low) D costs.low lows (member_form (length costs.low) rows entering)) j
 
-lines_turned : (top : ℕ) (costs : CostBox) (rows : List Form) (D : ℕ) (lows : List (List ℤ)) (entering : Member) (es : List Fraction) (j a : ℕ) (members : List Member) (table : List (List Fraction)) → 0 < D → AllLong (suc (length costs.low)) lows → IsPivotOf top costs rows D lows entering es j a → AllZip (IsLine top D costs rows lows) members table → AreRows top (suc (length costs.low)) (map (turned_line es (suc j)) table) → AllZip (IsLine top (D * a) costs rows (turned_rows lows (numbers_of (length costs.low) D costs.low lows (member_form (length costs.low) rows entering)) (suc j) D)) members (map (turned_line es (suc j)) table)
+pub lines_turned : (top : ℕ) (costs : CostBox) (rows : List Form) (D : ℕ) (lows : List (List ℤ)) (entering : Member) (es : List Fraction) (j a : ℕ) (members : List Member) (table : List (List Fraction)) → 0 < D → AllLong (suc (length costs.low)) lows → IsPivotOf top costs rows D lows entering es j a → AllZip (IsLine top D costs rows lows) members table → AreRows top (suc (length costs.low)) (map (turned_line es (suc j)) table) → AllZip (IsLine top (D * a) costs rows (turned_rows lows (numbers_of (length costs.low) D costs.low lows (member_form (length costs.low) rows entering)) (suc j) D)) members (map (turned_line es (suc j)) table)
 lines_turned top costs rows D lows entering es j a [] [] D_positive long p lines news = tt
 lines_turned top costs rows D lows entering es j a [] (fs ∷ table) D_positive long p lines news = absurd lines
 lines_turned top costs rows D lows entering es j a (member ∷ members) [] D_positive long p lines news = absurd lines
@@ -112,7 +112,7 @@ lines_turned top costs rows D lows entering es j a (member ∷ members) (fs ∷ 
     at_j : number_at (numbers_of (length costs.low) D costs.low lows (member_form (length costs.low) rows entering)) (suc j) ≡ pos a
     at_j = numbers_at (length costs.low) D costs.low lows (member_form (length costs.low) rows entering) (suc j) (omega (arith, p.j_in)) ∙ p.at_j
 
-pub whole_turned : (top : ℕ) (costs : CostBox) (rows : List Form) (basis : List Member) (table : List (List Fraction)) (entering : Member) (es : List Fraction) (j a : ℕ) (w : IsWhole top costs rows basis table) → IsPivotOf top costs rows w.common w.lows entering es j a → AreRows top (suc (length costs.low)) (map (turned_line es (suc j)) table) → IsWhole top costs rows (slice_set basis j entering) (map (turned_line es (suc j)) table)
+unfoldable pub whole_turned : (top : ℕ) (costs : CostBox) (rows : List Form) (basis : List Member) (table : List (List Fraction)) (entering : Member) (es : List Fraction) (j a : ℕ) (w : IsWhole top costs rows basis table) → IsPivotOf top costs rows w.common w.lows entering es j a → AreRows top (suc (length costs.low)) (map (turned_line es (suc j)) table) → IsWhole top costs rows (slice_set basis j entering) (map (turned_line es (suc j)) table)
 whole_turned top costs rows basis table entering es j a w p news =
     let n = length costs.low in
     let D = w.common in

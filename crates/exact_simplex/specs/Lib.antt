@@ -4,3 +4,4 @@ pub mod Tableaus
 pub mod Turns
 pub mod Wholes
 pub mod Pivots
+pub mod Ranks

@@ -1,5 +1,5 @@
 -- What a pivot of a table needs and leaves.
-use Rattle.std.specs.Prelude.{◌≡◌, ◌≢◌, Bool, true, false, ℕ, zero, suc, ◌<◌, List, [], ◌∷◌, ℤ, pos, negsuc, ◌-ℤ◌, ◌*ℤ◌, ◌<ℤ◌, ◌≤ℤ◌, Option, None, Some, map, length, slice_index_or}
+use Rattle.std.specs.Prelude.{◌≡◌, ◌≢◌, Bool, true, false, ℕ, zero, suc, ◌<◌, List, [], ◌∷◌, ℤ, pos, negsuc, ◌-ℤ◌, ◌*ℤ◌, ◌<ℤ◌, ◌≤ℤ◌, Option, None, Some, map, length, slice_index_or, All}
 use Rattle.std.specs.declared.cmp.Ordering.{Ordering}
 use Rattle.whole_numbers.specs.Fractions.{Fraction, order, times}
 use Rattle.path_rows.specs.declared.tree.Member.{Member}
@@ -7,7 +7,10 @@ use Rattle.path_rows.specs.declared.tree.Member.TheVariants.{Low}
 use Rattle.path_rows.specs.Basis.{entry, member_form}
 use Rattle.path_rows.specs.Steps.{IsPivot}
 use Rattle.exact_simplex.specs.declared.table.Table.{Table}
-use Rattle.exact_simplex.specs.Wholes.{IsWholeTable, members_of, number_at, numbers_of}
+use Rattle.exact_simplex.specs.declared.stage.Solved.{Solved}
+use Rattle.exact_simplex.specs.declared.stage.Stage.TheVariants.{Ended}
+use Rattle.exact_simplex.specs.Ranks.{rank}
+use Rattle.exact_simplex.specs.Wholes.{IsShown, IsWholeTable, members_of, number_at, numbers_of}
 
 -- the first number that isn't 0, if there is one, is positive
 abbrev pub LeadsNoNegative : List ℤ → Type 0
@@ -72,3 +75,21 @@ abbrev pub IsBestBelow : Table → ℕ → ℕ → Option ℕ → Type 0
 IsBestBelow t line bound None = (k : ℕ) → k < bound → (entry (line_at t line) (suc k)).numerator ≤ℤ pos 0
 IsBestBelow t line bound (Some column) =
     IsPivot t.basis.items (line_at t line) (suc column) × ((k : ℕ) → k < bound → k ≢ column → pos 0 <ℤ (entry (line_at t line) (suc k)).numerator → IsNotAfter t line column k)
+
+-- no constant is negative
+abbrev pub AreHigh : Table → Type 0
+AreHigh t = All (λ line. pos 0 ≤ℤ (entry line 0).numerator) t.lines.items
+
+-- the constant of a line is negative
+abbrev pub IsBelow : Table → ℕ → Type 0
+IsBelow t line = (line < length t.lines.items) × ((entry (line_at t line) 0).numerator <ℤ pos 0)
+
+-- what a search for a negative constant finds
+abbrev pub IsFoundBelow : Table → Option ℕ → Type 0
+IsFoundBelow t None = AreHigh t
+IsFoundBelow t (Some line) = IsBelow t line
+
+-- what a step towards the answer leaves: the lines show the answer, or the rank rose
+abbrev pub IsAhead : Table → Table → Option Solved → Type 0
+IsAhead old new None = rank old < rank new
+IsAhead old new (Some solved) = IsShown new.basis.items new.lines.items (Ended solved)

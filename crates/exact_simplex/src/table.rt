@@ -3,6 +3,7 @@ ghost use Rattle.std.specs.Prelude.{◌≡◌, ℕ, suc, ◌<◌, length, IfErr,
 ghost use Rattle.path_rows.specs.Boxes.{IsBox};
 ghost use Rattle.path_rows.specs.Steps.{IsPivot, IsTooWide};
 ghost use Rattle.exact_simplex.specs.Pivots.{IsLeastIn, KeepsForms, line_at, member_at};
+ghost use Rattle.exact_simplex.specs.Ranks.{rank};
 ghost use Rattle.exact_simplex.specs.Tableaus.{wide_at};
 ghost use Rattle.exact_simplex.specs.Wholes.{HasRoom, IsWholeTable, members_of};
 
@@ -58,6 +59,7 @@ impl Table {
         requires pivot { IsPivot self.old.basis.items (line_at self.old line) (suc column) }
         requires least { IsLeastIn self.old line column }
         ensures whole { OnOk result (IsWholeTable self.new) }
+        ensures rises { OnOk result (rank self.old < rank self.new) }
         ensures keeps { KeepsForms self.old self.new }
         ensures room { HasRoom self.new }
         ensures wide { IfErr result (λ wide. IsTooWide self.new.top self.new.costs self.new.rows.items (wide_at wide self.new.basis.items)) }

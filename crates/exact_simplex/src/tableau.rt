@@ -1,17 +1,18 @@
 //! The tableau: a table, and how far the work on it is.
-ghost use Rattle.std.specs.Prelude.{◌≡◌, ℕ, ◌^◌, ◌<◌, [], length, IfOk};
+ghost use Rattle.std.specs.Prelude.{◌≡◌, ℕ, ◌^◌, ◌<◌, [], length, IfErr, IfOk, OnOk};
 ghost use Rattle.path_rows.specs.Basis.{IsBasis};
 ghost use Rattle.path_rows.specs.Boxes.{IsBox};
-ghost use Rattle.exact_simplex.specs.Tableaus.{starting};
+ghost use Rattle.exact_simplex.specs.declared.stage.Stage.TheVariants.{Ended, Stopped};
+ghost use Rattle.exact_simplex.specs.Tableaus.{IsGoing, IsSolved, IsStop, starting};
 
-use crate::Stage;
 use crate::start::starting_table;
 use crate::table::Table;
+use crate::{Solved, Stage};
 use cost_base::OutOfMemory;
 use path_rows::{CostBox, Member};
 use std::alloc::Global;
 use std::marker::Model;
-use wide_fraction::Top;
+use wide_fraction::{Top, Wide};
 
 /// A box with the forms of rows, at a basis. Contracts see the greatest size of a number, the box, the forms of the
 /// rows as they were added, the members of the basis, and how far the work on it is.
@@ -63,5 +64,42 @@ impl Tableau {
             Ok(members) => Ok(members),
             Err(_) => Err(OutOfMemory),
         }
+    }
+
+    /// Whether no step has stopped it.
+    ///
+    /// # Errors
+    ///
+    /// The step that did.
+    fn going(&self) -> Result<(), Wide>
+        ensures going { OnOk result (IsGoing self.now.stage) }
+        ensures stopped { IfErr result (λ wide. self.now.stage ≡ Stopped wide) }
+    {
+        match self.stage {
+            Stage::Open => Ok(()),
+            Stage::Ended(_) => Ok(()),
+            Stage::Stopped(wide) => Err(wide),
+        }
+    }
+
+    /// Whether some rational point of the box meets all rows. It takes no memory.
+    ///
+    /// # Errors
+    ///
+    /// `Wide` where a step makes a whole number that passes the top. It stops the tableau: `basis` is the one at which
+    /// the step was taken, and every later call tells the same step.
+    pub fn solve(&mut self) -> Result<Solved, Wide>
+        ensures going { OnOk result (IsGoing self.old.stage) }
+        ensures solved { IfOk result (λ solved. IsSolved self.old.costs self.old.rows solved) }
+        ensures left { IfOk result (λ solved. self.new ≡ record { top = self.old.top; costs = self.old.costs; rows = self.old.rows; basis = self.new.basis; stage = Ended solved }) }
+        ensures stop { IfErr result (λ wide. IsStop self.old self.old.rows self.new wide) }
+    {
+        self.going()?;
+        let settled = self.table.settle();
+        self.stage = match &settled {
+            Ok(solved) => Stage::Ended(*solved),
+            Err(wide) => Stage::Stopped(*wide),
+        };
+        settled
     }
 }

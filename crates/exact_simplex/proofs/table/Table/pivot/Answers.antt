@@ -1,5 +1,5 @@
 -- The quotients are made, each line is turned, and the line's form enters the basis.
-use Rattle.std.proofs.Common.{◌≡◌, ℕ, suc, ◌∙◌, ap, sym, subst, List, map, length, arith}
+use Rattle.std.proofs.Common.{◌<◌, ◌≡◌, ℕ, suc, Vec, ◌∙◌, ap, sym, subst, List, length, arith}
 use Rattle.std.specs.Prelude.{pos, slice_set}
 use Rattle.std.specs.Vec.{with_items}
 use Rattle.std.proofs.lemmas.List.{with_items_is, length-map}
@@ -8,14 +8,20 @@ use Rattle.whole_numbers.specs.Fractions.{Fraction, divided, whole}
 use Rattle.path_rows.specs.declared.tree.Member.{Member}
 use Rattle.path_rows.specs.Basis.{entry}
 use Rattle.exact_simplex.specs.TableRows.{AreNumbers, IsWideStep, divided_without}
-use Rattle.exact_simplex.specs.Turns.{AreRows, IsQuotientStepOf, TurnsWide, turned_by}
+use Rattle.exact_simplex.specs.Turns.{AreRows, IsQuotientStepOf, TurnsWide}
 use Rattle.exact_simplex.specs.Wholes.{IsWhole}
 use Rattle.exact_simplex.specs.Pivots.{line_at, member_at}
+use Rattle.exact_simplex.specs.Ranks.{digits_number, heights, past_heights, rank}
 use Rattle.exact_simplex.proofs.RowLaws.{number_at as number_there}
 use Rattle.exact_simplex.proofs.WholeTurns.{turned_line}
 use Rattle.exact_simplex.proofs.PivotSteps.{quotient_own}
-use Rattle.exact_simplex.proofs.Pivots.{inverse_not_zero, line_long, line_read, member_in, pivot_whole, quotients_wide, turning_wide, whole_line, whole_rows}
+use Rattle.exact_simplex.proofs.Pivots.{inverse_not_zero, line_long, line_read, member_in, news_turned, pivot_whole, quotients_wide, turning_wide, whole_line, whole_rows}
+use Rattle.exact_simplex.proofs.Ranks.{rank_rises}
 use Rattle.exact_simplex.proofs.table.Table.pivot.Goals as goal
+
+-- the lines are what was written into them
+lines_kept : {X Z : Type 0} (rows : Vec X Z) (news : List X) → length news ≡ length rows.items → (with_items rows news).items ≡ news
+lines_kept rows news counted = with_items_is rows news (omega (arith, counted, rows.ok.0))
 
 pub member_at-member-requires-clause-line : goal.member_at-member-requires-clause-line
 member_at-member-requires-clause-line c = member_in c.args.self.now c.requires.whole c.args.line c.requires.line
@@ -80,14 +86,22 @@ returns-clause-whole c =
     let t = c.args.self.now in
     let news = c.turn_rows.new.rows in
     let row_is = line_read t c.args.line c.index.result.now c.index.ensures c.requires.line in
-    let news_are : news ≡ map (turned_line (line_at t c.args.line) (suc c.args.column)) t.lines.items =
-    c.in_ok-turn_rows.ensures.turned
-    ∙ ap (map (λ fs. turned_by fs c.take_quotients.new.quotients (suc c.args.column) c.in_ok-inverse.inverse)) c.as_mut_slice.ensures.value
-    ∙ ap (λ (ts : List Fraction). map (λ fs. turned_by fs ts (suc c.args.column) c.in_ok-inverse.inverse) t.lines.items) (c.in_ok-inverse.ensures.quotients ∙ ap (λ (row : List Fraction). divided_without (suc c.args.column) (entry row (suc c.args.column)) row 0) row_is)
-    ∙ ap (λ (q : Fraction). map (λ fs. turned_by fs (divided_without (suc c.args.column) (entry (line_at t c.args.line) (suc c.args.column)) (line_at t c.args.line) 0) (suc c.args.column) q) t.lines.items) (c.in_ok-inverse.ensures.inverse ∙ ap (λ (row : List Fraction). divided (whole (pos 1)) (entry row (suc c.args.column))) row_is) in
-    let counted : length news ≡ t.lines.len = omega (arith, ap length news_are ∙ length-map t.lines.items (turned_line (line_at t c.args.line) (suc c.args.column)), t.lines.ok.0) in
-    let kept = with_items_is t.lines news counted in
+    let news_are = news_turned (line_at t c.args.line) c.index.result.now c.take_quotients.new.quotients (suc c.args.column) c.in_ok-inverse.inverse news c.as_mut_slice.result.now t.lines.items
+    c.in_ok-turn_rows.ensures.turned c.as_mut_slice.ensures.value c.in_ok-inverse.ensures.quotients c.in_ok-inverse.ensures.inverse row_is in
+    let kept = lines_kept t.lines news (ap length news_are ∙ length-map t.lines.items (turned_line (line_at t c.args.line) (suc c.args.column))) in
     let numbers = subst (λ (count : ℕ). AreRows t.top count news) (c.take_quotients.ensures.width ∙ c.requires.room.quotients) c.in_ok-turn_rows.ensures.numbers in
     subst (λ (m : Member). IsWhole t.top t.costs t.rows.items (slice_set t.basis.items c.args.column m) (with_items t.lines news).items) (sym c.member_at-member.ensures)
     (subst (λ (lines : List (List Fraction)). IsWhole t.top t.costs t.rows.items (slice_set t.basis.items c.args.column (member_at t c.args.line)) lines) (sym kept)
     (pivot_whole t c.requires.whole c.args.line c.args.column news c.requires.line c.requires.pivot c.requires.least news_are numbers))
+
+pub returns-clause-rises : goal.returns-clause-rises
+returns-clause-rises c =
+    let t = c.args.self.now in
+    let news = c.turn_rows.new.rows in
+    let row_is = line_read t c.args.line c.index.result.now c.index.ensures c.requires.line in
+    let news_are = news_turned (line_at t c.args.line) c.index.result.now c.take_quotients.new.quotients (suc c.args.column) c.in_ok-inverse.inverse news c.as_mut_slice.result.now t.lines.items
+    c.in_ok-turn_rows.ensures.turned c.as_mut_slice.ensures.value c.in_ok-inverse.ensures.quotients c.in_ok-inverse.ensures.inverse row_is in
+    let kept = lines_kept t.lines news (ap length news_are ∙ length-map t.lines.items (turned_line (line_at t c.args.line) (suc c.args.column))) in
+    let numbers = subst (λ (count : ℕ). AreRows t.top count news) (c.take_quotients.ensures.width ∙ c.requires.room.quotients) c.in_ok-turn_rows.ensures.numbers in
+    subst (λ (lines : List (List Fraction)). rank t < digits_number (past_heights t.top) (heights t.top (length t.costs.low) lines)) (sym kept)
+    (rank_rises t c.requires.whole c.args.line c.args.column news c.requires.line c.requires.pivot c.requires.least news_are numbers)
