@@ -1,15 +1,12 @@
 -- Where the forms x - low are mixtures of a basis by their numbers, every form is one by the sums of these.
 use Rattle.std.proofs.Common.{◌≡◌, ℕ, zero, suc, ◌+◌, refl, sym, ◌∙◌, ap, List, [], ◌∷◌, map, length, arith}
 use Rattle.std.specs.Prelude.{ℤ, pos, ◌+ℤ◌, ◌*ℤ◌}
-use Rattle.std.specs.List.{AllZip}
 use Rattle.cost_base.specs.Lists.{numbers_from}
 use Rattle.whole_numbers.proofs.Ring.{var, num, ◌⊕◌, ◌⊗◌, ring, ring_by, nothing, using}
 use Rattle.path_rows.specs.declared.form.Form.{Form}
 use Rattle.path_rows.specs.Forms.{value}
 use Rattle.path_rows.specs.Basis.{coordinate, mixture, one_form, IsMixture}
-use Rattle.exact_simplex.proofs.Corner.{number_at}
-use Rattle.exact_simplex.proofs.Tables.{from_lows, number_of}
-use Rattle.exact_simplex.proofs.Turns.{AllLong}
+use Rattle.exact_simplex.specs.Wholes.{number_at, from_lows, number_of, numbers_of, AllLong, AreMixtures}
 
 -- the mixture by sums is the sum of the mixtures
 mixture_blend : (c : ℤ) (g h : ℕ → ℤ) (a m : ℕ) (vs : List Form) (i : ℕ) → mixture (map (λ p. (c *ℤ g p) +ℤ h p) (numbers_from a m)) vs i ≡ ((c *ℤ mixture (map g (numbers_from a m)) vs i) +ℤ mixture (map h (numbers_from a m)) vs i)
@@ -33,7 +30,7 @@ shifted f a (suc m) =
     ap (λ z. z ∷ map f (numbers_from (a + 1 + 1) m)) (ap f (omega arith)) ∙ ap (λ zs. f (suc a) ∷ zs) (shifted f (a + 1) m)
 
 -- a list is what it has at its places
-listed_at : (ts : List ℤ) → map (number_at ts) (numbers_from 0 (length ts)) ≡ ts
+pub listed_at : (ts : List ℤ) → map (number_at ts) (numbers_from 0 (length ts)) ≡ ts
 listed_at [] = refl
 listed_at (t ∷ ts) = ap (λ zs. t ∷ zs) (shifted (number_at (t ∷ ts)) 0 (length ts) ∙ listed_at ts)
 
@@ -42,10 +39,6 @@ abbrev pub blend_at : List ℤ → List Form → ℕ → ℤ
 blend_at [] gs i = pos 0
 blend_at (c ∷ cs) [] i = pos 0
 blend_at (c ∷ cs) (g ∷ gs) i = (c *ℤ coordinate g i) +ℤ blend_at cs gs i
-
--- each form is the mixture by its numbers
-abbrev pub AreMixtures : ℕ → List Form → List Form → List (List ℤ) → Type 0
-AreMixtures D basis gs rows = AllZip (λ g ms. IsMixture g basis D ms) gs rows
 
 -- the sum of forms is the mixture by the sums of their numbers
 pub lows_mixture : (D n : ℕ) (cs : List ℤ) (gs : List Form) (rows : List (List ℤ)) (basis : List Form) (i : ℕ) → AllLong n rows → AreMixtures D basis gs rows → (pos D *ℤ blend_at cs gs i) ≡ mixture (map (from_lows cs rows) (numbers_from 0 n)) (one_form ∷ basis) i
@@ -64,10 +57,6 @@ lows_mixture D n (c ∷ cs) (g ∷ gs) (ts ∷ rows) basis i long are =
     (var 0 ⊗ (var 1 ⊗ var 2 ⊕ var 3)) (var 1 ⊗ var 4 ⊕ var 5)
     (using (var 1) (var 0 ⊗ var 2) (var 4) first (using (num (pos 1)) (var 0 ⊗ var 3) (var 5) rest nothing)) refl
     ∙ sym (mixture_blend c (number_at ts) (from_lows cs rows) 0 n (one_form ∷ basis) i)
-
--- all numbers of a form
-abbrev pub numbers_of : ℕ → ℕ → List ℕ → List (List ℤ) → Form → List ℤ
-numbers_of n D low rows f = map (number_of D low rows f) (numbers_from 0 (suc n))
 
 -- A form that is its value at the low corner plus the blend of the forms x - low is the mixture by its own numbers.
 pub form_mixture : (D n : ℕ) (low : List ℕ) (gs : List Form) (rows : List (List ℤ)) (basis : List Form) (f : Form) → AllLong (suc n) rows → AreMixtures D basis gs rows → ((i : ℕ) → coordinate f i ≡ ((value f low *ℤ coordinate one_form i) +ℤ blend_at f.coefficients gs i)) → IsMixture f basis D (numbers_of n D low rows f)

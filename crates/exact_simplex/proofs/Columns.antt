@@ -8,10 +8,10 @@ use Rattle.exact_simplex.specs.TableRows.{IsNumber, Rises, fraction_at, nothing}
 use Rattle.exact_simplex.specs.Entries.{AllNumbers, IsPut, head_column, head_fraction, after_column, replaced}
 use Rattle.exact_simplex.proofs.Numbers.{lowest_zero}
 
-same_test : (a b : ℕ) → a ≡ b → (a == b) ≡ true
+pub same_test : (a b : ℕ) → a ≡ b → (a == b) ≡ true
 same_test a b e = grind (arith, nat_tests)
 
-other_test : (a b : ℕ) → a ≢ b → (a == b) ≡ false
+pub other_test : (a b : ℕ) → a ≢ b → (a == b) ≡ false
 other_test a b e = grind (arith, nat_tests)
 
 pub fraction_here : (e : ℕ × Fraction) (es : List (ℕ × Fraction)) (k : ℕ) → e.0 ≡ k → fraction_at (e ∷ es) k ≡ e.1

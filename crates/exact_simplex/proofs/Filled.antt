@@ -26,14 +26,14 @@ mapped_at f a (suc n) zero d k_in = ap f (sym (add-zero a))
 mapped_at f a (suc n) (suc k) d k_in = mapped_at f (a + 1) n k d (omega arith) ∙ ap f (omega arith)
 
 -- lists that agree at each place are equal
-mapped_same : {X : Type 0} (f g : ℕ → X) (a n : ℕ) → ((k : ℕ) → a ≤ k → k < a + n → f k ≡ g k) → map f (numbers_from a n) ≡ map g (numbers_from a n)
+pub mapped_same : {X : Type 0} (f g : ℕ → X) (a n : ℕ) → ((k : ℕ) → a ≤ k → k < a + n → f k ≡ g k) → map f (numbers_from a n) ≡ map g (numbers_from a n)
 mapped_same f g a zero same = refl
 mapped_same f g a (suc n) same =
     ap (λ x. x ∷ map f (numbers_from (a + 1) n)) (same a (omega arith) (omega arith))
     ∙ ap (λ xs. g a ∷ xs) (mapped_same f g (a + 1) n (λ k from k_in. same k (omega arith) (omega arith)))
 
 -- a list that has another value at one place is the list after a write there
-mapped_written : {X : Type 0} (f g : ℕ → X) (a n k : ℕ) (x : X) → k < n → g (a + k) ≡ x → ((m : ℕ) → a ≤ m → m < a + n → m ≢ a + k → g m ≡ f m) → map g (numbers_from a n) ≡ slice_set (map f (numbers_from a n)) k x
+pub mapped_written : {X : Type 0} (f g : ℕ → X) (a n k : ℕ) (x : X) → k < n → g (a + k) ≡ x → ((m : ℕ) → a ≤ m → m < a + n → m ≢ a + k → g m ≡ f m) → map g (numbers_from a n) ≡ slice_set (map f (numbers_from a n)) k x
 mapped_written f g a zero k x k_in here others = absurd (omega arith)
 mapped_written f g a (suc n) zero x k_in here others =
     ap (λ y. y ∷ map g (numbers_from (a + 1) n)) (ap g (sym (add-zero a)) ∙ here)
@@ -87,7 +87,7 @@ row_divided left_out divisor c w es new made =
     (mapped_same (fraction_at new) (λ k. divided_at left_out divisor k (fraction_at es k) nothing) 0 w (λ k from k_in. made k (omega arith))
     ∙ divided_mapped left_out divisor (fraction_at es) 0 w)
 
-numbers_mapped : (top : ℕ) (f : ℕ → Fraction) (ks : List ℕ) → ((k : ℕ) → IsNumber top (f k)) → AreNumbers top (map f ks)
+pub numbers_mapped : (top : ℕ) (f : ℕ → Fraction) (ks : List ℕ) → ((k : ℕ) → IsNumber top (f k)) → AreNumbers top (map f ks)
 numbers_mapped top f [] each = tt
 numbers_mapped top f (k ∷ ks) each = (each k, numbers_mapped top f ks each)
 

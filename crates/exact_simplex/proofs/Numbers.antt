@@ -64,7 +64,7 @@ nothing_number top q q_is =
       within = record { numerator = omega arith; denominator = omega (arith, q_is.lowest.positive, q_is.within.denominator) };
     }
 
-inverse_positive : (n : ℤ) (d : ℕ) → 0 < (inverted n d).denominator
+pub inverse_positive : (n : ℤ) (d : ℕ) → 0 < (inverted n d).denominator
 inverse_positive (pos zero) d = omega arith
 inverse_positive (pos (suc n)) d = omega arith
 inverse_positive (negsuc n) d = omega arith

@@ -1,33 +1,19 @@
 -- Every form is its value at the low corner plus the sum of the forms x - low, each times its coefficient; so the
 -- entries of every form are known from those of the forms x - low.
-use Rattle.std.proofs.Common.{◌≡◌, ◌≢◌, ℕ, zero, suc, ◌+◌, ◌<◌, ◌≤◌, cond, true, false, refl, sym, ◌∙◌, ap, subst, List, [], ◌∷◌, length, arith, inl, inr, zero-add}
+use Rattle.std.proofs.Common.{◌≡◌, ◌≢◌, ℕ, zero, suc, ◌+◌, ◌<◌, ◌≤◌, cond, refl, sym, ◌∙◌, ap, subst, List, [], ◌∷◌, length, arith, inl, inr, zero-add}
 use Rattle.std.specs.Prelude.{ℤ, pos, ◌+ℤ◌, ◌*ℤ◌, neg_ℤ, ◌==◌, slice_index_or, All}
 use Rattle.std.proofs.lemmas.Bool.{cases_lt}
-use Rattle.std.proofs.lemmas.Bool.Decides.{nat_tests}
 use Rattle.std.proofs.lemmas.List.{get_or_past}
 use Rattle.whole_numbers.specs.Fractions.{Fraction, IsLowest}
 use Rattle.whole_numbers.proofs.Ring.{var, num, ◌⊕◌, ◌⊗◌, neg, ring}
 use Rattle.path_rows.specs.declared.form.Form.{Form}
-use Rattle.path_rows.specs.declared.tree.Member.TheVariants.{Low}
 use Rattle.path_rows.specs.Forms.{dot, value}
-use Rattle.path_rows.specs.Basis.{AreEntries, coordinate, member_form, one_form, unit}
+use Rattle.path_rows.specs.Basis.{AreEntries, coordinate, one_form, unit}
 use Rattle.exact_simplex.specs.TableRows.{AreNumbers}
+use Rattle.exact_simplex.specs.Wholes.{number_of, numbers_of, AllLong, AreMixtures, low_forms, Stand}
+use Rattle.exact_simplex.proofs.Columns.{same_test, other_test}
 use Rattle.exact_simplex.proofs.Filled.{length-mapped, mapped_at}
-use Rattle.exact_simplex.proofs.Standing.{Stand}
-use Rattle.exact_simplex.proofs.Tables.{number_of}
-use Rattle.exact_simplex.proofs.Turns.{AllLong}
-use Rattle.exact_simplex.proofs.Blends.{AreMixtures, blend_at, form_mixture, numbers_of}
-
--- the forms x - low of the variables from a on, in n variables
-abbrev pub low_forms : ℕ → ℕ → List ℕ → List Form
-low_forms n a [] = []
-low_forms n a (l ∷ ls) = member_form n [] (Low a l) ∷ low_forms n (a + 1) ls
-
-same_test : (u own : ℕ) → u ≡ own → (u == own) ≡ true
-same_test u own e = grind (arith, nat_tests)
-
-other_test : (u own : ℕ) → u ≢ own → (u == own) ≡ false
-other_test u own e = grind (arith, nat_tests)
+use Rattle.exact_simplex.proofs.Blends.{blend_at, form_mixture}
 
 unit_at : (n own u : ℕ) → u < n → slice_index_or (unit n own (pos 1)) u (pos 0) ≡ cond (u == own) (pos 1) (pos 0)
 unit_at n own u u_in =
@@ -38,10 +24,10 @@ unit_past n own u past =
     let counted = length-mapped (λ k. cond (k == own) (pos 1) (pos 0)) 0 n in
     get_or_past (unit n own (pos 1)) u (pos 0) (omega arith)
 
-unit_same : (n own : ℕ) → own < n → slice_index_or (unit n own (pos 1)) own (pos 0) ≡ pos 1
+pub unit_same : (n own : ℕ) → own < n → slice_index_or (unit n own (pos 1)) own (pos 0) ≡ pos 1
 unit_same n own var_in = unit_at n own own var_in ∙ ap (λ b. cond b (pos 1) (pos 0)) (same_test own own refl)
 
-unit_other : (n own u : ℕ) → u ≢ own → slice_index_or (unit n own (pos 1)) u (pos 0) ≡ pos 0
+pub unit_other : (n own u : ℕ) → u ≢ own → slice_index_or (unit n own (pos 1)) u (pos 0) ≡ pos 0
 unit_other n own u other =
     elim (cases_lt u n) [
       | inl within ↦ unit_at n own u within ∙ ap (λ b. cond b (pos 1) (pos 0)) (other_test u own other)
@@ -94,13 +80,13 @@ resolved low f same (suc u) =
     ring (slice_index_or f.coefficients u (pos 0) ∷ value f low ∷ []) (var 0) (var 1 ⊗ num (pos 0) ⊕ var 0) refl
     ∙ ap (λ z. (value f low *ℤ pos 0) +ℤ z) (sym (blend_there (length low) 0 u u f.coefficients low same (omega arith) (sym (zero-add u))))
 
-stand_length : (D : ℕ) (qs : List Fraction) (ms : List ℤ) → Stand D qs ms → length qs ≡ length ms
+pub stand_length : (D : ℕ) (qs : List Fraction) (ms : List ℤ) → Stand D qs ms → length qs ≡ length ms
 stand_length D [] [] stand = refl
 stand_length D [] (m ∷ ms) stand = absurd stand
 stand_length D (q ∷ qs) [] stand = absurd stand
 stand_length D (q ∷ qs) (m ∷ ms) stand = ap suc (stand_length D qs ms stand.1)
 
-all_lowest : (top : ℕ) (qs : List Fraction) → AreNumbers top qs → All IsLowest qs
+pub all_lowest : (top : ℕ) (qs : List Fraction) → AreNumbers top qs → All IsLowest qs
 all_lowest top [] numbers k d k_in = absurd (omega arith)
 all_lowest top (q ∷ qs) numbers zero d k_in = numbers.0.lowest
 all_lowest top (q ∷ qs) numbers (suc k) d k_in = all_lowest top qs numbers.1 k d (omega arith)

@@ -68,15 +68,14 @@ rows_at top count [] k d are k_in = absurd (omega arith)
 rows_at top count (fs ∷ rows) zero d are k_in = (are.0, are.1)
 rows_at top count (fs ∷ rows) (suc k) d are k_in = rows_at top count rows k d are.2 (omega arith)
 
+pub rows_set : (top count : ℕ) (rows : List (List Fraction)) (k : ℕ) (line : List Fraction) → AreRows top count rows → length line ≡ count → AreNumbers top line → AreRows top count (slice_set rows k line)
+rows_set top count [] k line fit counted numbers = tt
+rows_set top count (fs ∷ rows) zero line fit counted numbers = (counted, numbers, fit.2)
+rows_set top count (fs ∷ rows) (suc k) line fit counted numbers = (fit.0, fit.1, rows_set top count rows k line fit.2 counted numbers)
+
 -- where only the rows before an index were changed, the row at the index is as before
 pub later_same : (f : List Fraction → List Fraction) (rows : List (List Fraction)) (k : ℕ) (d : List Fraction) → slice_index_or (map f (take k rows) ++ drop k rows) k d ≡ slice_index_or rows k d
 later_same f [] zero d = refl
 later_same f [] (suc k) d = refl
 later_same f (fs ∷ rows) zero d = refl
 later_same f (fs ∷ rows) (suc k) d = later_same f rows k d
-
--- a row that there is doesn't depend on what stands for one that there isn't
-pub any_default : (rows : List (List Fraction)) (k : ℕ) (d e : List Fraction) → k < length rows → slice_index_or rows k d ≡ slice_index_or rows k e
-any_default [] k d e k_in = absurd (omega arith)
-any_default (fs ∷ rows) zero d e k_in = refl
-any_default (fs ∷ rows) (suc k) d e k_in = any_default rows k d e (omega arith)

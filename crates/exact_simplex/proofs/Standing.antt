@@ -1,19 +1,15 @@
 -- Rows of fractions stand for numbers over one denominator, and a pivot on the fractions is a pivot on the numbers.
 use Rattle.std.proofs.Common.{◌≡◌, ◌≢◌, ℕ, zero, suc, ◌+◌, ◌*◌, ◌<◌, cond, Bool, false, refl, sym, ◌∙◌, ap, subst, List, [], ◌∷◌, length, arith}
 use Rattle.std.specs.Prelude.{ℤ, pos, ◌-ℤ◌, ◌*ℤ◌, ◌==◌, slice_set, slice_index_or}
-use Rattle.std.specs.List.{AllZip}
 use Rattle.std.proofs.lemmas.Bool.Decides.{nat_tests}
 use Rattle.whole_numbers.specs.Fractions.{Fraction, StandsFor, whole, minus, times, divided}
 use Rattle.whole_numbers.proofs.Ring.{var, num, ◌⊖◌, ◌⊗◌, ring, ring_by, nothing, using}
 use Rattle.whole_numbers.proofs.FractionLaws.{times_stands, divided_stands, pivot_entry_stands}
 use Rattle.path_rows.specs.Basis.{entry}
 use Rattle.exact_simplex.specs.TableRows.{AreNumbers, IsNumber, crossed_by, divided_without, nothing as none}
+use Rattle.exact_simplex.specs.Wholes.{Stand}
 use Rattle.exact_simplex.proofs.Numbers.{divided_lowest}
 use Rattle.exact_simplex.proofs.Pivot.{crossed, turned}
-
--- each fraction stands for its number over the denominator
-abbrev pub Stand : ℕ → List Fraction → List ℤ → Type 0
-Stand D qs ms = AllZip (λ q m. StandsFor q m D) qs ms
 
 -- The two fractions by which a row is turned: the row's own entry at the pivot's column, which stands for n, and the
 -- pivot's, which stands for a.
@@ -83,7 +79,7 @@ turned_stands top j D a n fs rs ms ks own_is pivot_is turn fs_are rs_are same fs
     (places_stand top 0 j j D a (entry fs j) (entry rs j) n fs rs ms ks (omega arith) turn fs_are rs_are same fs_stand rs_stand))
 
 -- a fraction keeps its value over another denominator
-over_more : (q : Fraction) (m : ℤ) (D a : ℕ) → StandsFor q m D → StandsFor q (m *ℤ pos a) (D * a)
+pub over_more : (q : Fraction) (m : ℤ) (D a : ℕ) → StandsFor q m D → StandsFor q (m *ℤ pos a) (D * a)
 over_more q m D a is =
     ring_by (q.numerator ∷ pos q.denominator ∷ m ∷ pos D ∷ pos a ∷ [])
     (var 0 ⊗ (var 3 ⊗ var 4)) ((var 2 ⊗ var 4) ⊗ var 1)

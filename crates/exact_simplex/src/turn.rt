@@ -98,6 +98,7 @@ pub fn turn_rows(
     requires inverse { IsNumber top inverse }
     requires not_zero { inverse.numerator ≢ pos 0 }
     ensures turned { OnOk result (rows.new ≡ map (λ fs. turned_by fs quotients.now (suc column) inverse) rows.old) }
+    ensures numbers { OnOk result (AreRows top (length quotients.now) rows.new) }
     ensures scratch_width { length scratch.new ≡ length scratch.old }
     ensures wide { IfErr result (λ wide. TurnsWide top rows.old quotients.now (suc column) inverse wide.step wide.left wide.right) }
 {

@@ -1,12 +1,13 @@
 -- One more row is turned.
-use Rattle.std.proofs.Common.{◌≡◌, suc, ◌∙◌, [], ap, sym, subst, List, arith}
+use Rattle.std.proofs.Common.{◌≡◌, suc, ◌∙◌, [], ap, sym, subst, List, length, arith}
 use Rattle.std.specs.Prelude.{slice_index_or, slice_set}
 use Rattle.std.proofs.lemmas.List.Edits.{map_over_more}
+use Rattle.std.proofs.lemmas.List.{get_or_default}
 use Rattle.std.proofs.lemmas.Result.{err_from_is_err_and}
 use Rattle.whole_numbers.specs.Fractions.{Fraction}
 use Rattle.exact_simplex.specs.TableRows.{IsWideStep}
 use Rattle.exact_simplex.specs.Turns.{IsTurnStep, turned_by}
-use Rattle.exact_simplex.proofs.RowLaws.{rows_at, later_same, any_default}
+use Rattle.exact_simplex.proofs.RowLaws.{rows_at, rows_set, later_same}
 use Rattle.exact_simplex.proofs.turn.turn_rows.Goals as goal
 
 pub turn_row-requires : goal.turn_row-requires
@@ -32,11 +33,20 @@ turn_row-requires c =
 pub loop-row-preserved : goal.loop-row-preserved
 loop-row-preserved c =
     let i = c.loop-row.row-index in
+    let d = c.row-item.result in
+    let same : slice_index_or c.loop-row.rows i d ≡ slice_index_or c.args.rows.now i d =
+    ap (λ (l : List (List Fraction)). slice_index_or l i d) c.loop-row.invariant.turned
+    ∙ later_same (λ fs. turned_by fs c.args.quotients.now (suc c.args.column) c.args.inverse) c.args.rows.now i d in
+    let here = rows_at c.args.top (length c.args.quotients.now) c.args.rows.now i d c.requires.rows c.loop-row-test.true in
     record {
       turned =
           ap (λ (r : List Fraction). slice_set c.loop-row.rows i r) c.in_ok-turn_row.ensures.turned
           ∙ ap (λ (r : List Fraction). slice_set c.loop-row.rows i (turned_by r c.args.quotients.now (suc c.args.column) c.args.inverse)) (sym c.row-item.is)
           ∙ map_over_more (λ fs. turned_by fs c.args.quotients.now (suc c.args.column) c.args.inverse) c.args.rows.now c.loop-row.rows i c.row-item.result c.loop-row-test.true c.loop-row.invariant.turned c.row-item.is;
+      numbers =
+          rows_set c.args.top (length c.args.quotients.now) c.loop-row.rows i c.turn_row.new.row c.loop-row.invariant.numbers
+          (c.turn_row.ensures.width ∙ ap length same ∙ here.0)
+          c.in_ok-turn_row.ensures.numbers;
       scratch = c.turn_row.ensures.scratch_width ∙ c.loop-row.invariant.scratch;
     }
 
@@ -49,7 +59,7 @@ returns-in_err-turn_row-clause-wide c =
     let same : slice_index_or c.loop-row.rows i d ≡ slice_index_or c.args.rows.now i [] =
     ap (λ (l : List (List Fraction)). slice_index_or l i d) c.loop-row.invariant.turned
     ∙ later_same (λ fs. turned_by fs c.args.quotients.now (suc c.args.column) c.args.inverse) c.args.rows.now i d
-    ∙ any_default c.args.rows.now i d [] c.loop-row-test.true in
+    ∙ get_or_default c.args.rows.now i d [] c.loop-row-test.true in
     rw (p.1, p.2)
     (record {
       row = i;
