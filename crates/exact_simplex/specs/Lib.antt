@@ -5,3 +5,4 @@ pub mod Turns
 pub mod Wholes
 pub mod Pivots
 pub mod Ranks
+pub mod Sums

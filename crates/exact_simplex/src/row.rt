@@ -65,6 +65,17 @@ impl TableRow {
         self.constant
     }
 
+    /// The constant at place 0, and after it the entry of each column.
+    pub fn at(&self, place: u32) -> Frac
+        requires { place < length self.now }
+        ensures { result ≡ entry self.now place }
+    {
+        match place.checked_sub(1) {
+            None => self.constant(),
+            Some(column) => self.entry(column),
+        }
+    }
+
     /// The entry of a column.
     pub fn entry(&self, column: u32) -> Frac
         requires { suc column < length self.now }

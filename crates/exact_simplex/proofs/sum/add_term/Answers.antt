@@ -1,0 +1,26 @@
+-- The coefficient is a number of each table.
+use Rattle.std.proofs.Common.{◌<◌, ◌^◌, ◌∙◌, ap, sym, subst, nat_abs, w64, arith}
+use Rattle.std.proofs.lemmas.Int.{to_z-of_z}
+use Rattle.std.proofs.lemmas.Result.{err_from_is_err_and}
+use Rattle.cost_base.specs.declared.StepName.TheVariants.{Add}
+use Rattle.whole_numbers.specs.Fractions.{Fraction, whole}
+use Rattle.wide_fraction.specs.Widths.{IsWithin}
+use Rattle.exact_simplex.specs.Entries.{IsPassing}
+use Rattle.exact_simplex.proofs.Passing.{named_passes}
+use Rattle.exact_simplex.proofs.StartLines.{whole_number}
+use Rattle.exact_simplex.proofs.sum.add_term.Goals as goal
+
+pub mul-requires-clause-left_within : goal.mul-requires-clause-left_within
+mul-requires-clause-left_within c =
+    let small : nat_abs c.args.coefficient < 2 ^ 27 = omega (arith, c.requires.small) in
+    subst (IsWithin c.args.top) (sym (c.whole.ensures ∙ ap whole (to_z-of_z w64 c.args.coefficient c.ranges.coefficient)))
+    (whole_number c.args.top c.args.coefficient c.value.ensures.width small).within
+
+pub returns-in_err-term-clause-passes : goal.returns-in_err-term-clause-passes
+returns-in_err-term-clause-passes c =
+    let p = err_from_is_err_and c.from_residual.result c.from_residual.ensures.1 in
+    rw (p.1, p.2) (subst (IsPassing c.args.top) (sym c.in_err-term.ensures.named) c.in_err-term.ensures.passes)
+
+pub returns-clause-passes : goal.returns-clause-passes
+returns-clause-passes c =
+    named_passes {X = Fraction} c.add.result c.args.top Add c.args.sum c.in_ok-term.term c.add.ensures.named c.add.ensures.passes
