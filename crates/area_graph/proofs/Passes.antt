@@ -56,43 +56,35 @@ walk_more g p gone n t d known lacks walk =
       within = omega (arith, longer, walk.within);
     }
 
+-- a number that is lowered to what a walk costs
+pub reached_by_walk : (g : Area) (p : Point) (gone : List ℕ) (t v x : ℕ) (d : List ℕ) → v < length d → x < get_or d v 0 → (x < far p → WalkWithin g p gone v t x) → AreReached g p gone t d → AreReached g p gone t (set d v x)
+reached_by_walk g p gone t v x d within less walk are = record {
+  target = elim (ℕ_discrete t v) [
+    | yes same ↦ let nothing = ap (λ (i : ℕ). get_or d i 0) same in let target = are.target in absurd (omega arith)
+    | no other ↦ get_or-set_other d v t x 0 other ∙ are.target
+  ];
+  reached = λ u inside near. elim (ℕ_discrete u v) [
+    | yes same ↦
+        let value : get_or (set d v x) u 0 ≡ x = ap (λ (i : ℕ). get_or (set d v x) i 0) same ∙ get_or-set_same d v x 0 within in
+        subst (λ (y : ℕ). WalkWithin g p gone u t y) (sym value) (subst (λ (i : ℕ). WalkWithin g p gone i t x) (sym same) (walk (subst (λ (y : ℕ). y < far p) value near)))
+    | no other ↦
+        let value : get_or (set d v x) u 0 ≡ get_or d u 0 = get_or-set_other d v u x 0 other in
+        subst (λ (y : ℕ). WalkWithin g p gone u t y) (sym value) (are.reached u (subst (λ (n : ℕ). u < n) (length-set d v x) inside) (subst (λ (y : ℕ). y < far p) value near))
+  ];
+}
+
 -- the numbers after one was lowered are still what walks cost at most
 reached_lower : (g : Area) (p : Point) (gone : List ℕ) (n t : ℕ) (d : List ℕ) → FitsEdge g (edge_at g n) → length d ≡ length g.vertices → All (λ x. x ≤ far p) d → n < length g.edges → Lacks gone n → through p (edge_at g n) d < get_or d (edge_at g n).from 0 → AreReached g p gone t d → AreReached g p gone t (set d (edge_at g n).from (through p (edge_at g n) d))
-reached_lower g p gone n t d edge count bounded known lacks less are = record { target = target; reached = reached }
+reached_lower g p gone n t d edge count bounded known lacks less are = reached_by_walk g p gone t (edge_at g n).from (through p (edge_at g n) d) d from_within less walk are
   where
-    from : ℕ
-    from = (edge_at g n).from
-
-    least : ℕ
-    least = through p (edge_at g n) d
-
     from_within : (edge_at g n).from < length d
     from_within = omega (arith, edge.from, count)
 
     to_within : (edge_at g n).to < length d
     to_within = omega (arith, edge.to, count)
 
-    target : get_or (set d (edge_at g n).from (through p (edge_at g n) d)) t 0 ≡ 0
-    target = elim (ℕ_discrete t (edge_at g n).from) [
-      | yes same ↦ let zero_there = ap (λ (i : ℕ). get_or d i 0) same in absurd (omega (arith, are.target, less, zero_there))
-      | no other ↦ get_or-set_other d (edge_at g n).from t (through p (edge_at g n) d) 0 other ∙ are.target
-    ]
-
-    here : through p (edge_at g n) d < far p → WalkWithin g p gone (edge_at g n).from t (through p (edge_at g n) d)
-    here near = walk_more g p gone n t d known lacks (are.reached (edge_at g n).to to_within (omega arith))
-
-    reached : (v : ℕ) → v < length (set d (edge_at g n).from (through p (edge_at g n) d)) → get_or (set d (edge_at g n).from (through p (edge_at g n) d)) v 0 < far p → WalkWithin g p gone v t (get_or (set d (edge_at g n).from (through p (edge_at g n) d)) v 0)
-    reached v within near = elim (ℕ_discrete v (edge_at g n).from) [
-      | yes same ↦
-          let value : get_or (set d (edge_at g n).from (through p (edge_at g n) d)) v 0 ≡ through p (edge_at g n) d =
-          ap (λ (i : ℕ). get_or (set d (edge_at g n).from (through p (edge_at g n) d)) i 0) same ∙ get_or-set_same d (edge_at g n).from (through p (edge_at g n) d) 0 from_within in
-          let walk = here (subst (λ (x : ℕ). x < far p) value near) in
-          subst (λ (x : ℕ). WalkWithin g p gone v t x) (sym value) (subst (λ (u : ℕ). WalkWithin g p gone u t (through p (edge_at g n) d)) (sym same) walk)
-      | no other ↦
-          let value : get_or (set d (edge_at g n).from (through p (edge_at g n) d)) v 0 ≡ get_or d v 0 = get_or-set_other d (edge_at g n).from v (through p (edge_at g n) d) 0 other in
-          let inside : v < length d = let size = length-set d (edge_at g n).from (through p (edge_at g n) d) in omega (arith, size, within) in
-          subst (λ (x : ℕ). WalkWithin g p gone v t x) (sym value) (are.reached v inside (subst (λ (x : ℕ). x < far p) value near))
-    ]
+    walk : through p (edge_at g n) d < far p → WalkWithin g p gone (edge_at g n).from t (through p (edge_at g n) d)
+    walk near = walk_more g p gone n t d known lacks (are.reached (edge_at g n).to to_within (omega arith))
 
 -- an edge that led to a smaller number
 pub passed_lower : (g : Area) (p : Point) (gone : List ℕ) (n : ℕ) (old d new : List ℕ) (lowered : Bool) → FitsGraph g → length old ≡ length g.vertices → Passed g p gone n old d lowered → n < length g.edges → Lacks gone n → ShorterBy p (edge_at g n) d new → Passed g p gone (n + 1) old new true

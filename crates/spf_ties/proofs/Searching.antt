@@ -12,6 +12,7 @@ use Rattle.area_graph.specs.Area.{Area, edge_at, edges_in, no_edge, FitsGraph, F
 use Rattle.area_graph.specs.Costs.{price_at, FitsPoint}
 use Rattle.area_graph.specs.Distances.{far, WalkWithin, AreReached, through}
 use Rattle.area_graph.proofs.Numbers.{all_kept, kept_all}
+use Rattle.area_graph.proofs.Passes.{reached_by_walk}
 use Rattle.spf_ties.specs.declared.heap.Entry.{Entry}
 use Rattle.spf_ties.specs.Searches.{IsFront, is_settled, open_edges, MayWait, LeadsToLast, Underway}
 use Rattle.spf_ties.proofs.LeastCosts.{reached_none}
@@ -149,23 +150,6 @@ kept g p gone t least e todo d settled waiting under short = record {
   closed = λ i known left done lacks. elim (ℕ_discrete i e) [
     | yes same ↦ subst (λ (k : ℕ). Lacks gone k → get_or d (edge_at g k).from 0 ≤ through p (edge_at g k) d) (sym same) short left
     | no other ↦ under.closed i known left done (other, lacks)
-  ];
-}
-
--- a number that is lowered to what a walk costs
-reached_by_walk : (g : Area) (p : Point) (gone : List ℕ) (t v x : ℕ) (d : List ℕ) → v < length d → x < get_or d v 0 → (x < far p → WalkWithin g p gone v t x) → AreReached g p gone t d → AreReached g p gone t (set d v x)
-reached_by_walk g p gone t v x d within less walk are = record {
-  target = elim (ℕ_discrete t v) [
-    | yes same ↦ let nothing = ap (λ (i : ℕ). get_or d i 0) same in let target = are.target in absurd (omega arith)
-    | no other ↦ get_or-set_other d v t x 0 other ∙ are.target
-  ];
-  reached = λ u inside near. elim (ℕ_discrete u v) [
-    | yes same ↦
-        let value : get_or (set d v x) u 0 ≡ x = ap (λ (i : ℕ). get_or (set d v x) i 0) same ∙ get_or-set_same d v x 0 within in
-        subst (λ (y : ℕ). WalkWithin g p gone u t y) (sym value) (subst (λ (i : ℕ). WalkWithin g p gone i t x) (sym same) (walk (subst (λ (y : ℕ). y < far p) value near)))
-    | no other ↦
-        let value : get_or (set d v x) u 0 ≡ get_or d u 0 = get_or-set_other d v u x 0 other in
-        subst (λ (y : ℕ). WalkWithin g p gone u t y) (sym value) (are.reached u (subst (λ (n : ℕ). u < n) (length-set d v x) inside) (subst (λ (y : ℕ). y < far p) value near))
   ];
 }
 
