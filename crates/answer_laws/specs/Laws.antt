@@ -1,0 +1,38 @@
+-- Laws of answers' texts.
+use Rattle.std.specs.Prelude.{◌≡◌, ℕ, List, map}
+use Rattle.area_graph.specs.declared.Path.{Path}
+use Rattle.path_rows.specs.declared.form.Row.{Row}
+use Rattle.path_rows.specs.Answers.{AnswerParts}
+use Rattle.path_rows.specs.Bounds.{HasBounds}
+use Rattle.path_rows.specs.Text.{IsAnswer, answer_lines, text}
+use Rattle.evidence_text.specs.Grammar.{Place, AtHead, AfterEnd, Next}
+use Rattle.evidence_text.specs.Refusals.{IsRefused, LeadOn}
+
+-- a value of the type of answers
+pub record IsAnswerValue (a : AnswerParts) : Type 0 where
+  pub fits : IsAnswer a
+  pub bounds : HasBounds a
+
+-- a line that is in the grammar at a place leads to one place
+abbrev pub LinesLeadOnce : Type 0
+LinesLeadOnce = (place : Place) (line : List ℕ) (next other : Place) → Next place line next → Next place line other → next ≡ other
+
+-- the lines of an answer are lawful, one after another, and lead from the head behind the end
+abbrev pub AnswersAreLawful : Type 0
+AnswersAreLawful = (a : AnswerParts) → IsAnswerValue a → LeadOn AtHead (answer_lines a) AfterEnd
+
+-- no answer's text is refused
+abbrev pub AnswersAreRead : Type 0
+AnswersAreRead = (a : AnswerParts) (number line : ℕ) → IsAnswerValue a → IsRefused AtHead 0 (text a) number line → ⊥
+
+-- the row with a rival that starts at 0
+abbrev pub without_start : Row → Row
+without_start row = record { request = row.request; rival = record { start = 0; edges = row.rival.edges } }
+
+-- the answer with such rows
+abbrev pub without_starts : AnswerParts → AnswerParts
+without_starts a = record { verdict = a.verdict; costs = a.costs; floor = a.floor; rows = map without_start a.rows; proof = a.proof; unfinished = a.unfinished }
+
+-- answers with one text are one, but for the starts of their rivals
+abbrev pub OneAnswer : Type 0
+OneAnswer = (a b : AnswerParts) → IsAnswerValue a → IsAnswerValue b → text a ≡ text b → without_starts a ≡ without_starts b
