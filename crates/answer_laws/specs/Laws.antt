@@ -2,7 +2,8 @@
 use Rattle.std.specs.Prelude.{◌≡◌, ℕ, List, map}
 use Rattle.area_graph.specs.declared.Path.{Path}
 use Rattle.path_rows.specs.declared.form.Row.{Row}
-use Rattle.path_rows.specs.Answers.{AnswerParts}
+use Rattle.path_rows.specs.Problems.{DesignProblem}
+use Rattle.path_rows.specs.Answers.{AnswerParts, IsValid}
 use Rattle.path_rows.specs.Bounds.{HasBounds}
 use Rattle.path_rows.specs.Text.{IsAnswer, answer_lines, text}
 use Rattle.evidence_text.specs.Grammar.{Place, AtHead, AfterEnd, Next}
@@ -36,3 +37,7 @@ without_starts a = record { verdict = a.verdict; costs = a.costs; floor = a.floo
 -- answers with one text are one, but for the starts of their rivals
 abbrev pub OneAnswer : Type 0
 OneAnswer = (a b : AnswerParts) → IsAnswerValue a → IsAnswerValue b → text a ≡ text b → without_starts a ≡ without_starts b
+
+-- answers that are one, but for the starts of their rivals, are valid together
+abbrev pub ValidUpToStarts : Type 0
+ValidUpToStarts = (p : DesignProblem) (a b : AnswerParts) → without_starts a ≡ without_starts b → IsValid p a → IsValid p b
