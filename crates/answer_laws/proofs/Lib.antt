@@ -1,0 +1,3 @@
+pub mod OnePlace
+pub mod OneLine
+pub mod NoRefusal
