@@ -2,11 +2,12 @@
 use Rattle.std.proofs.Common.{◌≡◌, ℕ, List, [], ◌∷◌, ◌++◌, length, eqb, false, sym, ap, subst, ◌∙◌, arith, append_assoc, length-append, inl, inr}
 use Rattle.std.proofs.lemmas.Bool.{true≢false}
 use Rattle.std.proofs.lemmas.List.Elements.{All-head, All-tail}
-use Rattle.path_rows.specs.Text.{answer_lines}
+use Rattle.path_rows.specs.Answers.{AnswerParts}
+use Rattle.path_rows.specs.Text.{answer_lines, text}
 use Rattle.text_lines.specs.Lines.{IsOneLine}
 use Rattle.evidence_text.specs.Grammar.{Place, AtHead, AfterEnd, Next}
 use Rattle.evidence_text.specs.Lines.{text_of}
-use Rattle.evidence_text.specs.Refusals.{Leads, LeadOn, IsBadLine, IsEarlyEnd, IsFault, bad_line, early_end, after_end}
+use Rattle.evidence_text.specs.Refusals.{Leads, LeadOn, IsBadLine, IsEarlyEnd, IsFault, IsRefused, bad_line, early_end, after_end}
 use Rattle.evidence_text.proofs.LineFronts.{first_line-one}
 use Rattle.answer_laws.specs.Laws.{AnswersAreLawful, AnswersAreRead}
 use Rattle.answer_laws.proofs.OneLine.{next_is_one_line}
@@ -69,9 +70,13 @@ no_fault place rest number (line ∷ lines) lead is (bad_line inside bad) = no_b
 no_fault place rest number (line ∷ lines) lead is (early_end inside early) = no_early place line (text_of lines) rest (is ∙ text-first line lines) early
 no_fault place rest number (line ∷ lines) lead is (after_end at some) = subst (λ p. Next p line lead.0) at lead.1.is
 
+-- where its lines are lawful, an answer's text is not refused
+pub not_refused : (a : AnswerParts) (number line : ℕ) → LeadOn AtHead (answer_lines a) AfterEnd → IsRefused AtHead 0 (text a) number line → ⊥
+not_refused a number line lead refused =
+    let left : IsLeft refused.place AfterEnd refused.rest =
+    left-lawful AtHead refused.place AfterEnd refused.lines (answer_lines a) refused.rest refused.lead lead (sym refused.parts) in
+    no_fault refused.place refused.rest number left.0 left.1 left.2 refused.fault
+
 -- where the lines of answers are lawful, no answer's text is refused
 pub read_when_lawful : AnswersAreLawful → AnswersAreRead
-read_when_lawful lawful a number line value refused =
-    let left : IsLeft refused.place AfterEnd refused.rest =
-    left-lawful AtHead refused.place AfterEnd refused.lines (answer_lines a) refused.rest refused.lead (lawful a value) (sym refused.parts) in
-    no_fault refused.place refused.rest number left.0 left.1 left.2 refused.fault
+read_when_lawful lawful a number line value refused = not_refused a number line (lawful a value) refused
