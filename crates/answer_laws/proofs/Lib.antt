@@ -1,1 +1,4 @@
+pub mod OnePlace
+pub mod OneLine
+pub mod NoRefusal
 pub mod ValidAnswers
