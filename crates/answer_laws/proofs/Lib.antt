@@ -1,0 +1,5 @@
+pub mod Lawful
+pub mod OneLines
+pub mod SameWords
+pub mod SameLines
+pub mod OneAnswer
