@@ -9,8 +9,9 @@ use Rattle.evidence_text.specs.Grammar.{Place, AtHead, AfterEnd, Next}
 use Rattle.evidence_text.specs.Lines.{text_of}
 use Rattle.evidence_text.specs.Refusals.{Leads, LeadOn, IsBadLine, IsEarlyEnd, IsFault, IsRefused, bad_line, early_end, after_end}
 use Rattle.evidence_text.proofs.LineFronts.{first_line-one}
-use Rattle.answer_laws.specs.Laws.{AnswersAreLawful, AnswersAreRead}
-use Rattle.answer_laws.proofs.OneLine.{next_is_one_line}
+use Rattle.answer_laws.specs.Laws.{AnswersAreRead}
+use Rattle.answer_laws.proofs.GrammarLines.{next_is_one_line}
+use Rattle.answer_laws.proofs.Lawful.{answer-leads}
 use Rattle.answer_laws.proofs.OnePlace.{one_place}
 
 -- the text of some lines begins with the first line and its LF
@@ -71,12 +72,12 @@ no_fault place rest number (line ∷ lines) lead is (early_end inside early) = n
 no_fault place rest number (line ∷ lines) lead is (after_end at some) = subst (λ p. Next p line lead.0) at lead.1.is
 
 -- where its lines are lawful, an answer's text is not refused
-pub not_refused : (a : AnswerParts) (number line : ℕ) → LeadOn AtHead (answer_lines a) AfterEnd → IsRefused AtHead 0 (text a) number line → ⊥
+not_refused : (a : AnswerParts) (number line : ℕ) → LeadOn AtHead (answer_lines a) AfterEnd → IsRefused AtHead 0 (text a) number line → ⊥
 not_refused a number line lead refused =
     let left : IsLeft refused.place AfterEnd refused.rest =
     left-lawful AtHead refused.place AfterEnd refused.lines (answer_lines a) refused.rest refused.lead lead (sym refused.parts) in
     no_fault refused.place refused.rest number left.0 left.1 left.2 refused.fault
 
--- where the lines of answers are lawful, no answer's text is refused
-pub read_when_lawful : AnswersAreLawful → AnswersAreRead
-read_when_lawful lawful a number line value refused = not_refused a number line (lawful a value) refused
+-- no answer's text is refused
+pub texts_read : AnswersAreRead
+texts_read a number line value refused = not_refused a number line (answer-leads a value.fits value.bounds value.count) refused

@@ -1,5 +1,5 @@
 -- Whether an answer is valid doesn't depend on where its rows' rivals start.
-use Rattle.std.proofs.Common.{◌≡◌, ℕ, refl, sym, ◌∙◌, ap, subst, List, [], ◌∷◌, All, map, Option, None, Some}
+use Rattle.std.proofs.Common.{◌≡◌, ℕ, refl, sym, ap, subst, List, [], ◌∷◌, All, map, Option, None, Some}
 use Rattle.std.proofs.lemmas.List.Elements.{All-head, All-tail, All-nil, All-cons}
 use Rattle.path_rows.specs.declared.form.Form.{Form}
 use Rattle.path_rows.specs.declared.form.Row.{Row}
@@ -14,7 +14,11 @@ use Rattle.path_rows.specs.Boxes.{capped}
 use Rattle.path_rows.specs.Trees.{IsSoundTree}
 use Rattle.path_rows.specs.Rows.{IsRow, box_of, form_of_row, forms_of_rows}
 use Rattle.path_rows.specs.Answers.{AnswerParts, ClaimHolds, IsValid, Proves, ShowsLeast}
-use Rattle.answer_laws.specs.Laws.{without_start, without_starts}
+use Rattle.evidence_text.specs.Grammar.{AtHead}
+use Rattle.evidence_text.specs.Refusals.{IsRefused}
+use Rattle.answer_laws.specs.Laws.{without_start, without_starts, InvalidAnswersStayInvalid, RefusedTextsAreInvalid}
+use Rattle.answer_laws.proofs.NoRefusal.{texts_read}
+use Rattle.answer_laws.proofs.OneAnswer.{texts_tell}
 
 -- rows without starts have the same forms
 forms_without : (p : DesignProblem) (rows : List Row) → forms_of_rows p (map without_start rows) ≡ forms_of_rows p rows
@@ -67,5 +71,11 @@ valid_with p a valid = record {
 }
 
 -- answers that are one but for these starts are valid together
-pub valid_up_to_starts : (p : DesignProblem) (a b : AnswerParts) → without_starts a ≡ without_starts b → IsValid p a → IsValid p b
+valid_up_to_starts : (p : DesignProblem) (a b : AnswerParts) → without_starts a ≡ without_starts b → IsValid p a → IsValid p b
 valid_up_to_starts p a b same valid = valid_with p b (subst (IsValid p) same (valid_without p a valid))
+
+pub refused_invalid : RefusedTextsAreInvalid
+refused_invalid p bytes number line refused a value same valid = texts_read a number line value (subst (λ (b : List ℕ). IsRefused AtHead 0 b number line) same refused)
+
+pub invalid_stays : InvalidAnswersStayInvalid
+invalid_stays p a fits invalid b value same valid = invalid (valid_up_to_starts p b a (texts_tell b a value.fits fits (sym same)) valid)

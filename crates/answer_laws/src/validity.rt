@@ -1,7 +1,12 @@
-//! That a text tells whether its answer is valid.
-ghost use Rattle.answer_laws.specs.Laws.{ValidUpToStarts};
+//! That a text which is refused, or whose answer isn't valid, is no valid answer's.
+ghost use Rattle.answer_laws.specs.Laws.{InvalidAnswersStayInvalid, RefusedTextsAreInvalid};
 
-/// Answers that are one, but for the starts of their rivals, are valid together.
-pub fn valid_up_to_starts()
-    ensures { ValidUpToStarts }
+/// A text that is refused is no valid answer's.
+pub fn refused_texts_are_invalid()
+    ensures { RefusedTextsAreInvalid }
+{}
+
+/// The text of an answer that isn't valid is that of no valid answer.
+pub fn invalid_answers_stay_invalid()
+    ensures { InvalidAnswersStayInvalid }
 {}
