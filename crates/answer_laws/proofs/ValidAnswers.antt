@@ -27,11 +27,11 @@ forms_without p (row ∷ rows) = ap (λ (forms : List Form). form_of_row p row �
 
 -- and are rows where those with starts are, and the other way round
 rows_without : (p : DesignProblem) (rows : List Row) → All (IsRow p) rows → All (IsRow p) (map without_start rows)
-rows_without p [] all = All-nil
+rows_without p [] all = All-nil (IsRow p)
 rows_without p (row ∷ rows) all = All-cons (IsRow p) (without_start row) (map without_start rows) (All-head (IsRow p) row rows all) (rows_without p rows (All-tail (IsRow p) row rows all))
 
 rows_with : (p : DesignProblem) (rows : List Row) → All (IsRow p) (map without_start rows) → All (IsRow p) rows
-rows_with p [] all = All-nil
+rows_with p [] all = All-nil (IsRow p)
 rows_with p (row ∷ rows) all = All-cons (IsRow p) row rows (All-head (IsRow p) (without_start row) (map without_start rows) all) (rows_with p rows (All-tail (IsRow p) (without_start row) (map without_start rows) all))
 
 -- what a tree proves depends on the forms of the rows alone
@@ -44,7 +44,7 @@ proves_by_forms p rows others cap proof same proves = record {
 }
 
 least_by_forms : (p : DesignProblem) (rows others : List Row) (k : ℕ) (floor : Floor) (proof : Option CapTree) → forms_of_rows p rows ≡ forms_of_rows p others → ShowsLeast p rows k floor proof → ShowsLeast p others k floor proof
-least_by_forms p rows others k Absent (Some proof) same shows = (shows.0, shows.1.0, proves_by_forms p rows others shows.0 proof same shows.1.1)
+least_by_forms p rows others k Absent (Some proof) same shows = (shows.0, shows.1, proves_by_forms p rows others shows.0 proof same shows.2)
 least_by_forms p rows others k Absent None same shows = shows
 least_by_forms p rows others k Empty None same shows = shows
 least_by_forms p rows others k (Var v) None same shows = shows
