@@ -1,0 +1,10 @@
+pub mod WholeWords
+pub mod AnswerLines
+pub mod SameWords
+pub mod SameLines
+pub mod OneAnswer
+pub mod OnePlace
+pub mod GrammarLines
+pub mod Lawful
+pub mod NoRefusal
+pub mod ValidAnswers

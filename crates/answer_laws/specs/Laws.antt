@@ -1,17 +1,18 @@
 -- Laws of answers' texts.
-use Rattle.std.specs.Prelude.{◌≡◌, ℕ, List, map}
-use Rattle.area_graph.specs.declared.Path.{Path}
+use Rattle.std.specs.Prelude.{◌≡◌, ℕ, List, map, length}
 use Rattle.path_rows.specs.declared.form.Row.{Row}
-use Rattle.path_rows.specs.Answers.{AnswerParts}
-use Rattle.path_rows.specs.Bounds.{HasBounds}
+use Rattle.path_rows.specs.Problems.{DesignProblem}
+use Rattle.path_rows.specs.Answers.{AnswerParts, IsValid}
+use Rattle.path_rows.specs.Bounds.{HasBounds, IsRowNumber}
 use Rattle.path_rows.specs.Text.{IsAnswer, answer_lines, text}
 use Rattle.evidence_text.specs.Grammar.{Place, AtHead, AfterEnd, Next}
 use Rattle.evidence_text.specs.Refusals.{IsRefused, LeadOn}
 
--- a value of the type of answers
+-- a value of the type of answers; its rows stand in a vector, so their number has 64 bits
 pub record IsAnswerValue (a : AnswerParts) : Type 0 where
   pub fits : IsAnswer a
   pub bounds : HasBounds a
+  pub count : IsRowNumber (length a.rows)
 
 -- a line that is in the grammar at a place leads to one place
 abbrev pub LinesLeadOnce : Type 0
@@ -35,4 +36,16 @@ without_starts a = record { verdict = a.verdict; costs = a.costs; floor = a.floo
 
 -- answers with one text are one, but for the starts of their rivals
 abbrev pub OneAnswer : Type 0
-OneAnswer = (a b : AnswerParts) → IsAnswerValue a → IsAnswerValue b → text a ≡ text b → without_starts a ≡ without_starts b
+OneAnswer = (a b : AnswerParts) → IsAnswer a → IsAnswer b → text a ≡ text b → without_starts a ≡ without_starts b
+
+-- the bytes are no valid answer's text
+abbrev pub IsNoValidText : DesignProblem → List ℕ → Type 0
+IsNoValidText p bytes = (a : AnswerParts) → IsAnswerValue a → bytes ≡ text a → IsValid p a → ⊥
+
+-- a text that is refused is no valid answer's
+abbrev pub RefusedTextsAreInvalid : Type 0
+RefusedTextsAreInvalid = (p : DesignProblem) (bytes : List ℕ) (number line : ℕ) → IsRefused AtHead 0 bytes number line → IsNoValidText p bytes
+
+-- nor is the text of an answer that isn't valid
+abbrev pub InvalidAnswersStayInvalid : Type 0
+InvalidAnswersStayInvalid = (p : DesignProblem) (a : AnswerParts) → IsAnswer a → (IsValid p a → ⊥) → IsNoValidText p (text a)

@@ -3,3 +3,4 @@
 
 pub mod one_answer;
 pub mod reading;
+pub mod validity;

@@ -23,3 +23,4 @@ mod Examples
 pub mod Revisions
 pub mod OwnLines
 pub mod FewLines
+pub mod Judged

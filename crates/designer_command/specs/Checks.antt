@@ -7,6 +7,7 @@ use Rattle.path_rows.specs.ProblemLaws.{IsTrueVerdict}
 use Rattle.path_rows.specs.Text.{text, IsAnswer}
 use Rattle.evidence_text.specs.Grammar.{AtHead}
 use Rattle.evidence_text.specs.Refusals.{IsRefused}
+use Rattle.answer_laws.specs.Laws.{IsNoValidText}
 use Rattle.evidence_checker.specs.declared.stop.Accepted.{Accepted as Acceptance}
 use Rattle.evidence_checker.specs.Laws.{IsAcceptedAs}
 use Rattle.evidence_checker.specs.Tests.{tests}
@@ -60,9 +61,10 @@ pub record IsInvalid (claim : Claim) (rejection : Rejection) : Type 0 where
 abbrev pub IsOffGrammar : List ℕ → Rejection → Type 0
 IsOffGrammar bytes rejection = IsRefused AtHead 0 bytes rejection.number rejection.place
 
--- the bytes are off the grammar of answers, or their answer isn't valid
-abbrev pub IsRejected : Claim → Rejection → Type 0
-IsRejected claim rejection = IsOffGrammar claim.bytes rejection ⊎ IsInvalid claim rejection
+-- the bytes are no valid answer's text: they are off the grammar of answers, or their answer isn't valid
+pub record IsRejected (claim : Claim) (rejection : Rejection) : Type 0 where
+  pub cause : IsOffGrammar claim.bytes rejection ⊎ IsInvalid claim rejection
+  pub never : IsNoValidText claim.problem claim.bytes
 
 -- what a check of these comes to
 abbrev pub IsJudged : Claim → Judgement → Type 0
