@@ -1,13 +1,17 @@
 //! The tableau: a table, and how far the work on it is.
-ghost use Rattle.std.specs.Prelude.{◌≡◌, ℕ, ◌^◌, ◌<◌, [], length, IfErr, IfOk, OnOk};
+ghost use Rattle.std.specs.Prelude.{◌≡◌, ℕ, ◌^◌, ◌<◌, [], length, IfErr, IfOk, OnErr, OnOk};
 ghost use Rattle.path_rows.specs.Basis.{IsBasis};
 ghost use Rattle.path_rows.specs.Boxes.{IsBox};
+ghost use Rattle.path_rows.specs.Steps.{IsTooWide};
+ghost use Rattle.exact_simplex.specs.declared.stage.Solved.TheVariants.{Feasible};
 ghost use Rattle.exact_simplex.specs.declared.stage.Stage.TheVariants.{Ended, Stopped};
-ghost use Rattle.exact_simplex.specs.Tableaus.{IsGoing, IsSolved, IsStop, starting};
+ghost use Rattle.exact_simplex.specs.Corners.{IsLeastPoint};
+ghost use Rattle.exact_simplex.specs.Tableaus.{IsGoing, IsSolved, IsStop, starting, wide_at};
 
 use crate::start::starting_table;
 use crate::table::Table;
 use crate::{Solved, Stage};
+use area_graph::Point;
 use cost_base::OutOfMemory;
 use path_rows::{CostBox, Member};
 use std::alloc::Global;
@@ -101,5 +105,21 @@ impl Tableau {
             Err(wide) => Stage::Stopped(*wide),
         };
         settled
+    }
+
+    /// The lexicographically least point of the box that meets all rows, into `into`. It takes no memory.
+    ///
+    /// # Errors
+    ///
+    /// `Wide` where a step makes a whole number that passes the top; then `into` is as before.
+    pub fn point(&self, into: &mut Point) -> Result<(), Wide>
+        requires solved { self.now.stage ≡ Ended Feasible }
+        requires places { length into.old.values ≡ length self.now.costs.low }
+        ensures least { OnOk result (IsLeastPoint self.now.costs self.now.rows into.new) }
+        ensures small { OnOk result (into.new.scale < 2 ^ 100) }
+        ensures kept { OnErr result (into.new ≡ into.old) }
+        ensures wide { IfErr result (λ wide. IsTooWide self.now.top self.now.costs self.now.rows (wide_at wide self.now.basis)) }
+    {
+        self.table.put_corner(into)
     }
 }
