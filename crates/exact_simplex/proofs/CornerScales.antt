@@ -1,6 +1,6 @@
 -- The scale of a table's corner, the values over it, and the steps by which it is made.
 use Rattle.std.proofs.Common.{◌≡◌, ℕ, zero, suc, ◌≢◌, ◌+◌, ◌-◌, ◌*◌, ◌/◌, ◌^◌, ◌<◌, ◌≤◌, mul-le-mul, pow_mono, inl, inr, refl, sym, ◌∙◌, ap, subst, List, [], ◌∷◌, map, length, arith}
-use Rattle.std.specs.Prelude.{ℤ, pos, negsuc, ◌*ℤ◌, ◌≤ℤ◌, nat_abs, Some, fold, take, slice_get, slice_index, slice_index_or, slice_set}
+use Rattle.std.specs.Prelude.{ℤ, pos, negsuc, ◌*ℤ◌, ◌≤ℤ◌, nat_abs, Result, Ok, Err, IfErr, Some, fold, take, slice_get, slice_index, slice_index_or, slice_set}
 use Prim.Native.Nat.{◌∣◌}
 use native.Mathlib.Nat.{div-mul_cancel}
 use Rattle.std.proofs.lemmas.Bool.{cases_eq, cases_lt}
@@ -75,7 +75,7 @@ taken_positive t w k k_in =
     (let inside : j < length t.costs.low = omega (arith, taken, j_in, k_in) in
     subst (λ (d : ℕ). 0 < d) (sym (get_or-take k ds j 0 (omega (arith, taken, j_in)) ∙ denominator_at t w j inside)) (constant_positive t w j inside)))
 
-scale_positive : (t : Table) (w : IsWholeTable t) → 0 < lcm_of (denominators_of t)
+pub scale_positive : (t : Table) (w : IsWholeTable t) → 0 < lcm_of (denominators_of t)
 scale_positive t w =
     subst (λ (ds : List ℕ). 0 < lcm_of ds) (take_all (length t.costs.low) (denominators_of t) (omega (arith, denominators_long t w)))
     (taken_positive t w (length t.costs.low) (omega arith))
@@ -226,3 +226,8 @@ values_more t scale k value old new k_in before value_is new_is j j_in =
   where
     earlier : j ≢ k → j < k
     earlier other = elim (cases_lt j k) [ | inl less ↦ less | inr more ↦ absurd (other (omega (arith, more, j_in))) ]
+
+-- what a test of the scale answers
+pub tested_wide : (t : Table) (w : IsWholeTable t) (multiple : ℤ) (tested : Result ℕ Wide) → multiple ≡ pos (lcm_of (denominators_of t)) → IfErr tested (λ wide. wide ≡ record { step = Scale; left = whole multiple; right = two_to_27 }) → IfErr tested (λ wide. IsPassing t.top wide) → IfErr tested (λ wide. IsTooWide t.top t.costs t.rows.items (wide_at wide t.basis.items))
+tested_wide t w multiple (Ok scale) multiple_is named passes = tt
+tested_wide t w multiple (Err wide) multiple_is named passes = scale_wide t w multiple wide multiple_is named passes
