@@ -7,7 +7,7 @@ use Rattle.whole_numbers.proofs.Ring.{var, num, ◌⊕◌, ◌⊗◌, ring, ring
 use Rattle.area_graph.specs.declared.Point.{Point}
 use Rattle.path_rows.specs.declared.form.Form.{Form}
 use Rattle.path_rows.specs.declared.form.CostBox.{CostBox}
-use Rattle.path_rows.specs.Forms.{dot, no_form, value_at}
+use Rattle.path_rows.specs.Forms.{dot, value_at}
 use Rattle.path_rows.specs.Earnest.{LexLess}
 use Rattle.exact_simplex.specs.Corners.{IsLeastPoint}
 use Rattle.exact_simplex.specs.Tableaus.{MeetsRows}

@@ -1,5 +1,5 @@
 -- The scale of a table's corner, the values over it, and the steps by which it is made.
-use Rattle.std.proofs.Common.{◌≡◌, ℕ, zero, suc, ◌≢◌, ◌+◌, ◌-◌, ◌*◌, ◌/◌, ◌^◌, ◌<◌, ◌≤◌, mul-le-mul, pow_mono, inl, inr, refl, sym, ◌∙◌, ap, subst, List, [], ◌∷◌, map, length, arith}
+use Rattle.std.proofs.Common.{◌≡◌, ℕ, zero, suc, ◌≢◌, ◌+◌, ◌*◌, ◌/◌, ◌^◌, ◌<◌, ◌≤◌, mul-le-mul, pow_mono, inl, inr, refl, sym, ◌∙◌, ap, subst, List, [], ◌∷◌, length, arith}
 use Rattle.std.specs.Prelude.{ℤ, pos, negsuc, ◌*ℤ◌, ◌≤ℤ◌, nat_abs, Result, Ok, Err, IfErr, Some, fold, take, slice_get, slice_index, slice_index_or, slice_set}
 use Prim.Native.Nat.{◌∣◌}
 use native.Mathlib.Nat.{div-mul_cancel}
@@ -225,7 +225,7 @@ values_more t scale k value old new k_in before value_is new_is j j_in =
     ]
   where
     earlier : j ≢ k → j < k
-    earlier other = elim (cases_lt j k) [ | inl less ↦ less | inr more ↦ absurd (other (omega (arith, more, j_in))) ]
+    earlier other = elim (cases_lt j k) [ inl less ↦ less | inr more ↦ absurd (other (omega (arith, more, j_in))) ]
 
 -- what a test of the scale answers
 pub tested_wide : (t : Table) (w : IsWholeTable t) (multiple : ℤ) (tested : Result ℕ Wide) → multiple ≡ pos (lcm_of (denominators_of t)) → IfErr tested (λ wide. wide ≡ record { step = Scale; left = whole multiple; right = two_to_27 }) → IfErr tested (λ wide. IsPassing t.top wide) → IfErr tested (λ wide. IsTooWide t.top t.costs t.rows.items (wide_at wide t.basis.items))

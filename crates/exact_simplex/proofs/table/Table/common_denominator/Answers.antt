@@ -1,11 +1,11 @@
 -- Each step puts one more denominator to the multiple.
 use Rattle.std.proofs.Common.{◌≡◌, ℕ, ◌<◌, ◌≤◌, ◌^◌, SFits, of_z, to_z, refl, ◌∙◌, ap, sym, subst, length, arith}
 use Rattle.std.specs.Int.{w128}
-use Rattle.std.specs.Prelude.{ℤ, pos, nat_abs, take, ◌<ℤ◌}
+use Rattle.std.specs.Prelude.{ℤ, pos, nat_abs, ◌<ℤ◌}
 use Rattle.std.proofs.lemmas.Int.{fits_signed_from_abs, ints, to_z-of_z}
 use Rattle.std.proofs.lemmas.List.{take_all}
 use Rattle.std.proofs.lemmas.Result.{err_from_is_err_and}
-use Rattle.whole_numbers.specs.Fractions.{Fraction, lcm}
+use Rattle.whole_numbers.specs.Fractions.{Fraction}
 use Rattle.path_rows.specs.Steps.{lcm_of}
 use Rattle.exact_simplex.specs.Corners.{denominators_of}
 use Rattle.exact_simplex.specs.Entries.{IsPassing}
