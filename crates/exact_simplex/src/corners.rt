@@ -91,6 +91,7 @@ impl Table {
         let high = self.costs.high.as_slice();
         for var in 0..low.len() {
             let lowest = low[var];
+            // No value is above the high bound times the scale, so it fits; the bound is read for its range alone.
             let _highest = high[var];
             let value = raised(lowest, self.lines[var].constant(), scale);
             into.set(var, value);
