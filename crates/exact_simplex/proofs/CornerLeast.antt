@@ -14,7 +14,7 @@ use Rattle.exact_simplex.specs.Corners.{IsLeastPoint}
 use Rattle.exact_simplex.specs.Wholes.{AreMixtures, IsWholeTable, low_forms, number_at}
 use Rattle.exact_simplex.specs.Pivots.{AreHigh}
 use Rattle.exact_simplex.proofs.Points.{equation_at, mixed_at}
-use Rattle.exact_simplex.proofs.Corner.{MetAt, rest_of, row_sum}
+use Rattle.exact_simplex.proofs.Corner.{MetAt, one_value, rest_of, row_sum}
 use Rattle.exact_simplex.proofs.Tables.{Resolves, corner_least}
 use Rattle.exact_simplex.proofs.Solutions.{at_corner, basis_met, corner_fits, corner_point, low_value_at}
 
@@ -37,9 +37,6 @@ met_sum (t ∷ ts) [] p met = refl
 met_sum (t ∷ ts) (f ∷ fs) p met =
     ap (λ z. (t *ℤ value_at f p) +ℤ z) (met_sum ts fs p met.1)
     ∙ ap (λ z. z +ℤ row_sum ts (values_of fs p)) (turned t (value_at f p) met.0)
-
-one_value : (p : Point) → value_at one_form p ≡ pos p.scale
-one_value p = ring (pos p.scale ∷ []) (num (pos 1) ⊗ var 0 ⊕ num (pos 0)) (var 0) refl
 
 mixed_sum : (ts : List ℤ) (basis : List Form) (p : Point) → MetAt basis p → mixed_at ts (one_form ∷ basis) p ≡ ((number_at ts 0 *ℤ pos p.scale) +ℤ row_sum (rest_of ts) (values_of basis p))
 mixed_sum [] basis p met = ring (pos p.scale ∷ []) (num (pos 0)) (num (pos 0) ⊗ var 0 ⊕ num (pos 0)) refl
