@@ -1,7 +1,8 @@
 -- The multipliers of a line, column by column: their rows, their sizes, and what they are made to.
-use Rattle.std.proofs.Common.{◌≡◌, ◌≢◌, ℕ, zero, suc, ◌+◌, ◌*◌, ◌/◌, ◌<◌, ◌≤◌, cond, refl, sym, ◌∙◌, ap, subst, List, [], ◌∷◌, ◌++◌, map, length, take, drop, arith, inl, inr}
+use Rattle.std.proofs.Common.{◌≡◌, ℕ, zero, suc, ◌+◌, ◌*◌, ◌/◌, ◌<◌, refl, sym, ◌∙◌, ap, subst, List, [], ◌∷◌, ◌++◌, map, length, take, drop, arith}
 use Rattle.std.specs.Prelude.{ℤ, pos, negsuc, ◌*ℤ◌, neg_ℤ, nat_abs, ◌<ℤ◌, ◌≤ℤ◌, fold, slice_index_or, All}
 use Rattle.std.proofs.lemmas.Int.{ints}
+use Rattle.std.proofs.lemmas.List.{append-nil, append_assoc, map-append}
 use Prim.Native.Nat.{◌∣◌}
 use native.Mathlib.Nat.{dvd_trans, mul_comm, div-mul_cancel, div-one, dvd_refl, one-dvd}
 use Rattle.whole_numbers.specs.Fractions.{Fraction, IsLowest, StandsFor, gcd, lcm, negated, times, whole}
@@ -17,7 +18,7 @@ use Rattle.path_rows.specs.declared.form.CostBox.{CostBox}
 use Rattle.path_rows.specs.declared.tree.Member.{Member}
 use Rattle.path_rows.specs.declared.tree.Member.TheVariants.{Low, High, Row}
 use Rattle.path_rows.specs.Basis.{IsFormOf, entry}
-use Rattle.path_rows.specs.Steps.{column_part, column_parts, denominators, lcm_of, made_whole, multipliers, own_part, unless_zero}
+use Rattle.path_rows.specs.Steps.{column_part, column_parts, denominators, made_whole, multipliers, own_part, unless_zero}
 use Rattle.exact_simplex.specs.Entries.{AllNumbers}
 use Rattle.exact_simplex.specs.TableRows.{AreNumbers, IsNumber}
 use Rattle.exact_simplex.specs.Wholes.{Stand}
@@ -25,14 +26,6 @@ use Rattle.exact_simplex.specs.Multipliers.{columns_numbered, common_of, fractio
 use Rattle.exact_simplex.proofs.Numbers.{times_lowest}
 use Rattle.exact_simplex.proofs.Solutions.{low_number}
 use Rattle.exact_simplex.proofs.MultiplierSums.{AreMade, Each, IsEntry}
-
-fractions_append : (xs ys : List (ℕ × Fraction)) → fractions (xs ++ ys) ≡ fractions xs ++ fractions ys
-fractions_append [] ys = refl
-fractions_append (x ∷ xs) ys = ap (λ qs. x.1 ∷ qs) (fractions_append xs ys)
-
-append_empty : {X : Type 0} (xs : List X) → xs ≡ xs ++ []
-append_empty [] = refl
-append_empty (x ∷ xs) = ap (λ ys. x ∷ ys) (append_empty xs)
 
 -- without the rows' numbers they are the multipliers
 own_fractions : (r : Member) → fractions (numbered r (whole (pos 1) ∷ [])) ≡ own_part r
@@ -53,13 +46,13 @@ columns_fractions : (members : List Member) (qs : List Fraction) → fractions (
 columns_fractions [] qs = refl
 columns_fractions (member ∷ members) [] = refl
 columns_fractions (member ∷ members) (q ∷ qs) =
-    fractions_append (numbered member (unless_zero q.numerator q)) (columns_numbered members qs)
+    map-append (λ (part : ℕ × Fraction). part.1) (numbered member (unless_zero q.numerator q)) (columns_numbered members qs)
     ∙ ap (λ ps. ps ++ fractions (columns_numbered members qs)) (column_fractions member q)
     ∙ ap (λ ps. column_part member q ++ ps) (columns_fractions members qs)
 
 pub fractions_are : (basis : List Member) (r : Member) (es : List Fraction) → fractions (fractions_of basis r es) ≡ multipliers basis r es
 fractions_are basis r es =
-    fractions_append (numbered r (whole (pos 1) ∷ [])) (columns_numbered basis (drop 1 es))
+    map-append (λ (part : ℕ × Fraction). part.1) (numbered r (whole (pos 1) ∷ [])) (columns_numbered basis (drop 1 es))
     ∙ ap (λ ps. ps ++ fractions (columns_numbered basis (drop 1 es))) (own_fractions r)
     ∙ ap (λ ps. own_part r ++ ps) (columns_fractions basis (drop 1 es))
 
@@ -67,15 +60,11 @@ fractions_are basis r es =
 pub columns_next : (members : List Member) (qs : List Fraction) (k : ℕ) (d : Member) → k < length members → k < length qs → columns_numbered (take (suc k) members) qs ≡ columns_numbered (take k members) qs ++ numbered (slice_index_or members k d) (unless_zero (entry qs k).numerator (entry qs k))
 columns_next [] qs k d k_in k_there = absurd (omega arith)
 columns_next (member ∷ members) [] k d k_in k_there = absurd (omega arith)
-columns_next (member ∷ members) (q ∷ qs) zero d k_in k_there = sym (append_empty (numbered member (unless_zero q.numerator q)))
+columns_next (member ∷ members) (q ∷ qs) zero d k_in k_there = append-nil (numbered member (unless_zero q.numerator q))
 columns_next (member ∷ members) (q ∷ qs) (suc k) d k_in k_there =
     let first = numbered member (unless_zero q.numerator q) in
     ap (λ ps. first ++ ps) (columns_next members qs k d (omega arith) (omega arith))
     ∙ sym (append_assoc first (columns_numbered (take k members) qs) (numbered (slice_index_or members k d) (unless_zero (entry qs k).numerator (entry qs k))))
-  where
-    append_assoc : (xs ys zs : List (ℕ × Fraction)) → (xs ++ ys) ++ zs ≡ xs ++ (ys ++ zs)
-    append_assoc [] ys zs = refl
-    append_assoc (x ∷ xs) ys zs = ap (λ us. x ∷ us) (append_assoc xs ys zs)
 
 pub dropped_entry : (es : List Fraction) (k : ℕ) → entry (drop 1 es) k ≡ entry es (suc k)
 dropped_entry [] k = refl
@@ -96,9 +85,6 @@ fractions_next basis r es k n member q olds news k_in k_there long olds_are memb
     ∙ ap (λ (ps : List (ℕ × Fraction)). own ++ ps) (sym (columns_next basis (drop 1 es) k member k_in (dropped_long es k n k_there long)))
     ∙ ap (λ (m : ℕ). own ++ columns_numbered (take m basis) (drop 1 es)) (one_more k)
   where
-    append_assoc : (xs ys zs : List (ℕ × Fraction)) → (xs ++ ys) ++ zs ≡ xs ++ (ys ++ zs)
-    append_assoc [] ys zs = refl
-    append_assoc (x ∷ xs) ys zs = ap (λ us. x ∷ us) (append_assoc xs ys zs)
     dropped_long : (qs : List Fraction) (j m : ℕ) → j < m → length qs ≡ suc m → j < length (drop 1 qs)
     dropped_long [] j m j_in counted = absurd (omega arith)
     dropped_long (p ∷ qs) j m j_in counted = omega arith

@@ -7,8 +7,8 @@ use Rattle.std.proofs.lemmas.Int.{ints}
 use Rattle.std.proofs.lemmas.Bool.{cases_eq}
 use Rattle.std.proofs.lemmas.List.Sorted.{sum_by-IsPermutation}
 use Rattle.std.proofs.lemmas.List.Sums.{sum_by-cons}
+use borrow.Author.Differences.{up, down}
 use Rattle.whole_numbers.specs.Fractions.{Fraction}
-use Rattle.whole_numbers.proofs.Ring.{var, ◌⊕◌, ◌⊖◌, ◌⊗◌, ring}
 use Rattle.path_rows.specs.declared.form.Form.{Form}
 use Rattle.path_rows.specs.declared.tree.Member.{Member}
 use Rattle.path_rows.specs.declared.tree.Member.TheVariants.{Low, High, Row}
@@ -143,24 +143,15 @@ rises_strictly xs ys different moved up i j d before j_in =
           | inr other ↦ omega arith
         ]
 
--- what a whole number has above 0, and below it
-abbrev above_zero : ℤ → ℕ
-above_zero (pos n) = n
-above_zero (negsuc n) = 0
-
-abbrev below_zero : ℤ → ℕ
-below_zero (pos n) = 0
-below_zero (negsuc n) = suc n
-
-times_split : (m : ℕ) (z : ℤ) → (pos m *ℤ z) ≡ (pos (m * above_zero z) -ℤ pos (m * below_zero z))
+times_split : (m : ℕ) (z : ℤ) → (pos m *ℤ z) ≡ (pos (m * up z) -ℤ pos (m * down z))
 times_split m (pos n) = omega (arith, ints)
 times_split m (negsuc n) = omega (arith, ints)
 
 abbrev raising : List Form → List ℕ → (ℕ × ℕ) → ℕ
-raising forms w part = part.1 * above_zero (value (form_at forms part.0) w)
+raising forms w part = part.1 * up (value (form_at forms part.0) w)
 
 abbrev lowering : List Form → List ℕ → (ℕ × ℕ) → ℕ
-lowering forms w part = part.1 * below_zero (value (form_at forms part.0) w)
+lowering forms w part = part.1 * down (value (form_at forms part.0) w)
 
 value_split : (forms : List Form) (w : List ℕ) (parts : List (ℕ × ℕ)) → value (weighted forms parts) w ≡ (pos (sum_by (raising forms w) parts) -ℤ pos (sum_by (lowering forms w) parts))
 value_split forms w [] = refl

@@ -1,9 +1,9 @@
 -- The steps by which multipliers are made whole and summed up, one after another.
 use Rattle.std.proofs.Common.{◌≡◌, ℕ, zero, suc, ◌+◌, ◌*◌, ◌^◌, ◌<◌, ◌≤◌, SFits, of_z, to_z, refl, sym, ◌∙◌, ap, subst, List, [], ◌∷◌, ◌++◌, map, length, arith}
 use Rattle.std.specs.Int.{w128}
-use Rattle.std.specs.Prelude.{ℤ, pos, negsuc, ◌+ℤ◌, ◌*ℤ◌, ◌<ℤ◌, nat_abs, Some, fold, take, slice_get, slice_index_or, sum_by, All}
+use Rattle.std.specs.Prelude.{ℤ, pos, negsuc, ◌+ℤ◌, ◌*ℤ◌, ◌<ℤ◌, nat_abs, fold, take, slice_index_or, sum_by, All}
 use Rattle.std.proofs.lemmas.Int.{fits_signed_from_abs, ints, to_z-of_z, to_z_pos}
-use Rattle.std.proofs.lemmas.List.{map-append, take_more}
+use Rattle.std.proofs.lemmas.List.{get_or_default, get_or-map, length-map, map-append, take_more}
 use Rattle.std.proofs.lemmas.List.Sums.{fold_more, sum_by-cons}
 use Rattle.std.proofs.lemmas.Option.{slice_get-get_or}
 use Rattle.cost_base.specs.declared.StepName.TheVariants.{Add, Lcm, Mul, Scale}
@@ -20,7 +20,7 @@ use Rattle.exact_simplex.specs.Multipliers.IsMultiplierStep.{multiple, product}
 use Rattle.exact_simplex.specs.Multipliers.IsTallyStep.{sum, scale}
 use Rattle.exact_simplex.specs.TableRows.{IsNumber}
 use Rattle.exact_simplex.proofs.MultiplierColumns.{whole_from}
-use Rattle.exact_simplex.proofs.StartLines.{top_some, top_small}
+use Rattle.exact_simplex.proofs.StartLines.{top_small}
 
 -- a number of at most 127 bits is read as it is
 pub read_back : (z : ℤ) → nat_abs z < 2 ^ 127 → to_z w128 (of_z w128 z) ≡ z
@@ -36,23 +36,16 @@ part_number top [] k d numbers k_in = absurd (omega arith)
 part_number top (part ∷ parts) zero d numbers k_in = numbers.0
 part_number top (part ∷ parts) (suc k) d numbers k_in = part_number top parts k d numbers.1 (omega arith)
 
-fraction_there : (parts : List (ℕ × Fraction)) (k : ℕ) (d : ℕ × Fraction) (e : Fraction) → k < length parts → slice_index_or (fractions parts) k e ≡ (slice_index_or parts k d).1
-fraction_there [] k d e k_in = absurd (omega arith)
-fraction_there (part ∷ parts) zero d e k_in = refl
-fraction_there (part ∷ parts) (suc k) d e k_in = fraction_there parts k d e (omega arith)
-
 fractions_long : (parts : List (ℕ × Fraction)) → length (fractions parts) ≡ length parts
-fractions_long [] = refl
-fractions_long (part ∷ parts) = ap suc (fractions_long parts)
-
-denominator_there : (parts : List (ℕ × Fraction)) (k : ℕ) (d : ℕ × Fraction) (e : ℕ) → k < length parts → slice_index_or (denominators (fractions parts)) k e ≡ (slice_index_or parts k d).1.denominator
-denominator_there [] k d e k_in = absurd (omega arith)
-denominator_there (part ∷ parts) zero d e k_in = refl
-denominator_there (part ∷ parts) (suc k) d e k_in = denominator_there parts k d e (omega arith)
+fractions_long parts = length-map parts (λ (part : ℕ × Fraction). part.1)
 
 pub denominators_long : (parts : List (ℕ × Fraction)) → length (denominators (fractions parts)) ≡ length parts
-denominators_long [] = refl
-denominators_long (part ∷ parts) = ap suc (denominators_long parts)
+denominators_long parts = length-map (fractions parts) (λ (q : Fraction). q.denominator) ∙ fractions_long parts
+
+denominator_there : (parts : List (ℕ × Fraction)) (k : ℕ) (d : ℕ × Fraction) (e : ℕ) → k < length parts → slice_index_or (denominators (fractions parts)) k e ≡ (slice_index_or parts k d).1.denominator
+denominator_there parts k d e k_in =
+    get_or-map (λ (q : Fraction). q.denominator) (fractions parts) k d.1 e (omega (arith, fractions_long parts, k_in))
+    ∙ ap (λ (q : Fraction). q.denominator) (get_or-map (λ (part : ℕ × Fraction). part.1) parts k d d.1 k_in)
 
 -- a natural number that isn't 0
 pub natural_high : (n : ℕ) → 0 < n → pos 0 <ℤ pos n
@@ -102,29 +95,30 @@ made_next parts k d m made news q k_in m_is made_is q_is news_is =
     ∙ sym (map-append (whole_part L) (take k parts) (part ∷ []))
     ∙ ap (map (whole_part L)) (sym (take_more parts k d k_in))
 
+-- what a push puts, by what was read of the parts
+pub part_put : (parts : List (ℕ × Fraction)) (k : ℕ) (d e : ℕ × Fraction) (olds news : List (ℕ × ℕ)) (size n : ℕ) → k < length parts → size ≡ n → news ≡ olds ++ ((slice_index_or parts k e).0, size) ∷ [] → news ≡ olds ++ ((slice_index_or parts k d).0, n) ∷ []
+part_put parts k d e olds news size n k_in size_is news_is =
+    news_is
+    ∙ ap (λ (part : ℕ × Fraction). olds ++ (part.0, size) ∷ []) (get_or_default parts k e d k_in)
+    ∙ ap (λ (m : ℕ). olds ++ ((slice_index_or parts k d).0, m) ∷ []) size_is
+
 pub made_wide : (parts : List (ℕ × Fraction)) (k : ℕ) (d : ℕ × Fraction) (m : ℤ) (wide : Wide) → k < length parts → m ≡ pos (common_of parts) → wide ≡ record { step = Mul; left = (slice_index_or parts k d).1; right = whole m } → IsMultiplierStep (fractions parts) wide
 made_wide parts k d m wide k_in m_is wide_is =
     let e = (slice_index_or parts k d).1 in
     product k (slice_index_or (fractions parts) k e) (slice_get-get_or (fractions parts) k e (omega (arith, fractions_long parts, k_in)))
     (wide_is
     ∙ ap {B = Wide} (λ (x : ℤ). record { step = Mul; left = e; right = whole x }) m_is
-    ∙ ap {B = Wide} (λ (q : Fraction). record { step = Mul; left = q; right = whole (pos (common_of parts)) }) (sym (fraction_there parts k d e k_in)))
+    ∙ ap {B = Wide} (λ (q : Fraction). record { step = Mul; left = q; right = whole (pos (common_of parts)) }) (sym (get_or-map (λ (part : ℕ × Fraction). part.1) parts k d e k_in)))
 
 -- one more multiplier in the sum
-whole_there : (parts : List (ℕ × ℕ)) (k : ℕ) (d : ℕ × ℕ) (e : Fraction) → k < length parts → slice_index_or (wholes parts) k e ≡ whole (pos (slice_index_or parts k d).1)
-whole_there [] k d e k_in = absurd (omega arith)
-whole_there (part ∷ parts) zero d e k_in = refl
-whole_there (part ∷ parts) (suc k) d e k_in = whole_there parts k d e (omega arith)
-
 pub wholes_long : (parts : List (ℕ × ℕ)) → length (wholes parts) ≡ length parts
-wholes_long [] = refl
-wholes_long (part ∷ parts) = ap suc (wholes_long parts)
+wholes_long parts = length-map {B = Fraction} parts (λ part. whole (pos part.1))
 
 pub sum_next : (parts : List (ℕ × ℕ)) (k : ℕ) (d : ℕ × ℕ) (so_far next value : Fraction) → k < length parts → so_far ≡ sum_of (take k (wholes parts)) → value ≡ whole (pos (slice_index_or parts k d).1) → next ≡ plus so_far value → next ≡ sum_of (take (k + 1) (wholes parts))
 sum_next parts k d so_far next value k_in so_far_is value_is next_is =
     next_is
     ∙ ap (λ (q : Fraction). plus q value) so_far_is
-    ∙ ap (λ (q : Fraction). plus (sum_of (take k (wholes parts))) q) (value_is ∙ sym (whole_there parts k d value k_in))
+    ∙ ap (λ (q : Fraction). plus (sum_of (take k (wholes parts))) q) (value_is ∙ sym (get_or-map (λ (part : ℕ × ℕ). whole (pos part.1)) parts k d value k_in))
     ∙ sym (fold_more plus (whole (pos 0)) (wholes parts) k value (omega (arith, wholes_long parts, k_in)))
 
 pub sum_wide : (parts : List (ℕ × ℕ)) (k : ℕ) (d : ℕ × ℕ) (so_far value : Fraction) (wide : Wide) → k < length parts → so_far ≡ sum_of (take k (wholes parts)) → value ≡ whole (pos (slice_index_or parts k d).1) → wide ≡ record { step = Add; left = so_far; right = value } → IsTallyStep (wholes parts) wide
@@ -132,7 +126,7 @@ sum_wide parts k d so_far value wide k_in so_far_is value_is wide_is =
     sum k (slice_index_or (wholes parts) k value) (slice_get-get_or (wholes parts) k value (omega (arith, wholes_long parts, k_in)))
     (wide_is
     ∙ ap {B = Wide} (λ (q : Fraction). record { step = Add; left = q; right = value }) so_far_is
-    ∙ ap {B = Wide} (λ (q : Fraction). record { step = Add; left = sum_of (take k (wholes parts)); right = q }) (value_is ∙ sym (whole_there parts k d value k_in)))
+    ∙ ap {B = Wide} (λ (q : Fraction). record { step = Add; left = sum_of (take k (wholes parts)); right = q }) (value_is ∙ sym (get_or-map (λ (part : ℕ × ℕ). whole (pos part.1)) parts k d value k_in)))
 
 -- the sum is whole
 plus_whole : (a b : ℕ) → plus (whole (pos a)) (whole (pos b)) ≡ whole (pos (a + b))

@@ -2,6 +2,7 @@
 use Rattle.std.proofs.Common.{◌≡◌, ℕ, zero, suc, ◌<◌, refl, sym, ◌∙◌, ap, subst, List, [], ◌∷◌, ◌++◌, map, arith}
 use Rattle.std.specs.Prelude.{ℤ, pos, negsuc, ◌+ℤ◌, ◌*ℤ◌, neg_ℤ, ◌<ℤ◌, ◌≤ℤ◌}
 use Rattle.std.proofs.lemmas.Int.{ints}
+use Rattle.std.proofs.lemmas.List.{map-append}
 use Rattle.whole_numbers.specs.Fractions.{Fraction, negated, whole}
 use Rattle.whole_numbers.proofs.Ring.{var, num, ◌⊕◌, ◌⊗◌, neg, ring, ring_by, nothing, using}
 use Rattle.path_rows.specs.declared.form.Form.{Form}
@@ -11,6 +12,7 @@ use Rattle.path_rows.specs.Forms.{form_at, value, weighted}
 use Rattle.path_rows.specs.Basis.{member_form}
 use Rattle.path_rows.specs.Steps.{unless_zero}
 use Rattle.path_rows.proofs.Weighted.{value-weighted}
+use Rattle.exact_simplex.proofs.Corner.{negative_factor, negative_product, opposite_product}
 use Rattle.exact_simplex.specs.Multipliers.{columns_numbered, numbered, whole_part}
 
 -- the values of members' forms at costs, each times its number
@@ -46,24 +48,18 @@ AreMade D multiple (member ∷ members) [] ms = ⊥
 AreMade D multiple (member ∷ members) (q ∷ qs) [] = ⊥
 AreMade D multiple (member ∷ members) (q ∷ qs) (m ∷ ms) = IsEntry D multiple member q m × AreMade D multiple members qs ms
 
-low_product : (L : ℕ) (m v : ℤ) → m ≤ℤ pos 0 → pos 0 ≤ℤ v → (pos L *ℤ (m *ℤ v)) ≤ℤ pos 0
-low_product L (pos zero) v m_low v_high =
-    subst (λ (z : ℤ). z ≤ℤ pos 0) (ring (pos L ∷ v ∷ []) (num (pos 0)) (var 0 ⊗ (num (pos 0) ⊗ var 1)) refl) (omega (arith, ints))
-low_product L (pos (suc n)) v m_low v_high = absurd (omega (arith, ints))
-low_product L (negsuc n) (negsuc k) m_low v_high = absurd (omega (arith, ints))
-low_product L (negsuc n) (pos k) m_low v_high = low_times L (negsuc n *ℤ pos k) (omega (arith, ints))
-  where
-    low_times : (a : ℕ) (z : ℤ) → z ≤ℤ pos 0 → (pos a *ℤ z) ≤ℤ pos 0
-    low_times a (pos zero) low = subst (λ (z : ℤ). z ≤ℤ pos 0) (ring (pos a ∷ []) (num (pos 0)) (var 0 ⊗ num (pos 0)) refl) (omega (arith, ints))
-    low_times a (pos (suc i)) low = absurd (omega (arith, ints))
-    low_times a (negsuc i) low = omega (arith, ints)
+-- a product with a natural number
+low_times : (a : ℕ) (z : ℤ) → z ≤ℤ pos 0 → (pos a *ℤ z) ≤ℤ pos 0
+low_times a (pos zero) low = subst (λ (z : ℤ). z ≤ℤ pos 0) (ring (pos a ∷ []) (num (pos 0)) (var 0 ⊗ num (pos 0)) refl) (omega (arith, ints))
+low_times a (pos (suc i)) low = absurd (omega (arith, ints))
+low_times a (negsuc i) low = omega (arith, ints)
 
 -- a column more, by what it gives to the sum of the rows and to that of all members
 bound_more : (D L : ℕ) (s m v r : ℤ) → m ≤ℤ pos 0 → pos 0 ≤ℤ v → ((pos D *ℤ s) +ℤ (pos L *ℤ r)) ≤ℤ pos 0 → ((pos D *ℤ s) +ℤ (pos L *ℤ ((m *ℤ v) +ℤ r))) ≤ℤ pos 0
 bound_more D L s m v r m_low v_high rest =
     subst (λ (z : ℤ). z ≤ℤ pos 0)
     (ring (pos D ∷ s ∷ pos L ∷ m ∷ v ∷ r ∷ []) (var 2 ⊗ (var 3 ⊗ var 4) ⊕ (var 0 ⊗ var 1 ⊕ var 2 ⊗ var 5)) (var 0 ⊗ var 1 ⊕ var 2 ⊗ (var 3 ⊗ var 4 ⊕ var 5)) refl)
-    (both _ _ (low_product L m v m_low v_high) rest)
+    (both _ _ (low_times L (m *ℤ v) (opposite_product m v m_low v_high)) rest)
   where
     both : (a b : ℤ) → a ≤ℤ pos 0 → b ≤ℤ pos 0 → (a +ℤ b) ≤ℤ pos 0
     both a b first second = omega (arith, ints)
@@ -97,10 +93,6 @@ row_column D L row rows w (negsuc k) q m rest r none made below =
     subst (λ (z : ℤ). ((pos D *ℤ z) +ℤ (pos L *ℤ ((m *ℤ value (form_at rows row) w) +ℤ r))) ≤ℤ pos 0) (sym (value-weighted rows (whole_part L (row, negated q)) rest w))
     (row_more D L (pos (whole_part L (row, negated q)).1) (value (weighted rows rest) w) m (value (form_at rows row) w) r made.0 below)
 
-pub parts_append : (L : ℕ) (xs ys : List (ℕ × Fraction)) → map (whole_part L) (xs ++ ys) ≡ map (whole_part L) xs ++ map (whole_part L) ys
-parts_append L [] ys = refl
-parts_append L (x ∷ xs) ys = ap (λ ps. whole_part L x ∷ ps) (parts_append L xs ys)
-
 -- The rows' sum, D-fold, and that of all members, times the multiple, are together at most 0.
 pub columns_sum : (D L n : ℕ) (rows : List Form) (w : List ℕ) (members : List Member) (qs : List Fraction) (ms : List ℤ) → AllHigh n w members → AreMade D L members qs ms →
     ((pos D *ℤ value (weighted rows (map (whole_part L) (columns_numbered members qs))) w) +ℤ (pos L *ℤ member_sum n rows w ms members)) ≤ℤ pos 0
@@ -116,27 +108,18 @@ columns_sum D L n rows w (High v bound ∷ members) (q ∷ qs) (m ∷ ms) high m
     (columns_sum D L n rows w members qs ms high.1 made.1)
 columns_sum D L n rows w (Row row ∷ members) (q ∷ qs) (m ∷ ms) high made =
     subst (λ (ps : List (ℕ × ℕ)). ((pos D *ℤ value (weighted rows ps) w) +ℤ (pos L *ℤ ((m *ℤ value (form_at rows row) w) +ℤ member_sum n rows w ms members))) ≤ℤ pos 0)
-    (sym (parts_append L (numbered (Row row) (unless_zero q.numerator q)) (columns_numbered members qs)))
+    (sym (map-append (whole_part L) (numbered (Row row) (unless_zero q.numerator q)) (columns_numbered members qs)))
     (row_column D L row rows w q.numerator q m (map (whole_part L) (columns_numbered members qs)) (member_sum n rows w ms members) made.0.none made.0.made
     (columns_sum D L n rows w members qs ms high.1 made.1))
 
--- the form's own part, and the equation of the form at the costs
-negative_factor : (D : ℕ) (z : ℤ) → (pos D *ℤ z) <ℤ pos 0 → z <ℤ pos 0
-negative_factor D (pos n) h = absurd (omega (arith, ints))
-negative_factor D (negsuc n) h = omega (arith, ints)
-
-negative_product : (L : ℕ) (m : ℤ) → 0 < L → m <ℤ pos 0 → (pos L *ℤ m) <ℤ pos 0
-negative_product L (pos n) positive low = absurd (omega (arith, ints))
-negative_product (suc L) (negsuc n) positive low = omega (arith, ints)
-negative_product zero (negsuc n) positive low = absurd (omega arith)
-
+-- the form's own part, and the equation of the form at the costs: where it is a row, and where it is a bound
 row_negative : (D L : ℕ) (v s m r : ℤ) → 0 < L → m <ℤ pos 0 → (pos D *ℤ v) ≡ (m +ℤ r) → ((pos D *ℤ s) +ℤ (pos L *ℤ r)) ≤ℤ pos 0 → ((pos L *ℤ v) +ℤ s) <ℤ pos 0
 row_negative D L v s m r L_positive below equation rest =
     negative_factor D ((pos L *ℤ v) +ℤ s)
     (subst (λ (z : ℤ). z <ℤ pos 0)
-    (ring_by (pos D ∷ pos L ∷ v ∷ s ∷ m ∷ r ∷ []) (var 1 ⊗ var 4 ⊕ (var 0 ⊗ var 3 ⊕ var 1 ⊗ var 5)) (var 0 ⊗ (var 1 ⊗ var 2 ⊕ var 3))
+    (ring_by (pos D ∷ pos L ∷ v ∷ s ∷ m ∷ r ∷ []) (var 4 ⊗ var 1 ⊕ (var 0 ⊗ var 3 ⊕ var 1 ⊗ var 5)) (var 0 ⊗ (var 1 ⊗ var 2 ⊕ var 3))
     (using (neg (var 1)) (var 0 ⊗ var 2) (var 4 ⊕ var 5) equation nothing) refl)
-    (both _ _ (negative_product L m L_positive below) rest))
+    (both _ _ (negative_product m L below L_positive) rest))
   where
     both : (a b : ℤ) → a <ℤ pos 0 → b ≤ℤ pos 0 → (a +ℤ b) <ℤ pos 0
     both a b first second = omega (arith, ints)
@@ -144,8 +127,8 @@ row_negative D L v s m r L_positive below equation rest =
 bound_negative : (D L : ℕ) (v s m r : ℤ) → 0 < L → m <ℤ pos 0 → pos 0 ≤ℤ v → (pos D *ℤ v) ≡ (m +ℤ r) → ((pos D *ℤ s) +ℤ (pos L *ℤ r)) ≤ℤ pos 0 → s <ℤ pos 0
 bound_negative D L v s m r L_positive below high equation rest =
     negative_factor D s
-    (both (pos L *ℤ m) ((pos D *ℤ s) +ℤ (pos L *ℤ r)) (pos L *ℤ (pos D *ℤ v)) (pos D *ℤ s) (negative_product L m L_positive below) rest (high_product L D v high)
-    (ring_by (pos D ∷ pos L ∷ v ∷ s ∷ m ∷ r ∷ []) (var 0 ⊗ var 3 ⊕ var 1 ⊗ (var 0 ⊗ var 2)) (var 1 ⊗ var 4 ⊕ (var 0 ⊗ var 3 ⊕ var 1 ⊗ var 5))
+    (both (m *ℤ pos L) ((pos D *ℤ s) +ℤ (pos L *ℤ r)) (pos L *ℤ (pos D *ℤ v)) (pos D *ℤ s) (negative_product m L below L_positive) rest (high_product L D v high)
+    (ring_by (pos D ∷ pos L ∷ v ∷ s ∷ m ∷ r ∷ []) (var 0 ⊗ var 3 ⊕ var 1 ⊗ (var 0 ⊗ var 2)) (var 4 ⊗ var 1 ⊕ (var 0 ⊗ var 3 ⊕ var 1 ⊗ var 5))
     (using (var 1) (var 0 ⊗ var 2) (var 4 ⊕ var 5) equation nothing) refl))
   where
     high_product : (a b : ℕ) (z : ℤ) → pos 0 ≤ℤ z → pos 0 ≤ℤ (pos a *ℤ (pos b *ℤ z))

@@ -1,15 +1,15 @@
 -- The whole multipliers of a line that is stuck refute the box.
-use Rattle.std.proofs.Common.{◌≡◌, ◌≢◌, ℕ, zero, suc, ◌+◌, ◌*◌, ◌^◌, ◌<◌, ◌≤◌, refl, sym, ◌∙◌, ap, subst, List, [], ◌∷◌, ◌++◌, map, length, drop, arith}
+use Rattle.std.proofs.Common.{◌≡◌, ℕ, zero, suc, ◌^◌, ◌<◌, ◌≤◌, refl, sym, ◌∙◌, ap, subst, List, [], ◌∷◌, map, length, drop, arith}
 use Rattle.std.specs.Prelude.{ℤ, pos, negsuc, ◌+ℤ◌, ◌*ℤ◌, ◌<ℤ◌, ◌≤ℤ◌, slice_index_or, sum_by, All}
 use Rattle.std.specs.List.{AllPairs}
 use Rattle.std.specs.List.Sorted.{IsNonDecreasingBy, IsPermutation}
 use Rattle.std.proofs.lemmas.Int.{ints}
-use Rattle.std.proofs.lemmas.List.{length-append, length-map}
+use Rattle.std.proofs.lemmas.List.{get_or-map, length-append, length-map}
 use Rattle.std.proofs.lemmas.List.Sorted.{All-permutation, length_permutation, sum_by-IsPermutation}
 use Rattle.std.proofs.lemmas.List.Sums.{sum_by-cons}
 use Prim.Native.Nat.{◌∣◌}
 use Rattle.cost_base.specs.Lists.{numbers_from}
-use Rattle.whole_numbers.specs.Fractions.{Fraction, IsLowest, StandsFor, plus, sum_of, whole}
+use Rattle.whole_numbers.specs.Fractions.{Fraction, whole}
 use Rattle.whole_numbers.proofs.Ring.{var, num, ◌⊕◌, ◌⊗◌, ring}
 use Rattle.wide_fraction.specs.declared.steps.Wide.{Wide}
 use Rattle.area_graph.specs.Costs.{at_costs}
@@ -18,24 +18,21 @@ use Rattle.path_rows.specs.declared.form.CostBox.{CostBox}
 use Rattle.path_rows.specs.declared.tree.Member.{Member}
 use Rattle.path_rows.specs.declared.tree.Member.TheVariants.{Low, High, Row}
 use Rattle.path_rows.specs.Forms.{dot, no_form, value, value_at, weighted}
-use Rattle.path_rows.specs.Boxes.{IsBox, IsInBox, IsPointOf, Refutes, greatest}
-use Rattle.path_rows.specs.Basis.{HasEntries, IsFormOf, entry, forms_of, member_form, one_form}
+use Rattle.path_rows.specs.Boxes.{IsInBox, IsPointOf, Refutes}
+use Rattle.path_rows.specs.Basis.{HasEntries, IsFormOf, entry, forms_of, member_form}
 use Rattle.path_rows.specs.Steps.{IsStep, IsStuck, IsTooWide, made_whole, multipliers, unless_zero}
 use Rattle.path_rows.specs.Steps.IsStep.{multiple as multiple_step, multiplier_product, multiplier_sum, multiplier_scale}
 use Rattle.path_rows.proofs.GreatestLaws.{greatest_reached}
 use Rattle.exact_simplex.specs.declared.table.Table.{Table}
 use Rattle.exact_simplex.specs.declared.stage.SimplexStop.{SimplexStop}
 use Rattle.exact_simplex.specs.declared.stage.SimplexStop.TheVariants.{TooWide, OutOfMemory}
-use Rattle.exact_simplex.specs.declared.stage.Solved.TheVariants.{Refuted}
-use Rattle.exact_simplex.specs.declared.stage.Stage.{Stage}
-use Rattle.exact_simplex.specs.declared.stage.Stage.TheVariants.{Ended}
 use Rattle.exact_simplex.specs.Entries.{AllNumbers, IsPassing}
 use Rattle.exact_simplex.specs.Multipliers.{IsMultiplierStep, IsTallyStep, IsToldOf, IsWideMultiplier, columns_numbered, common_of, fractions, fractions_of, numbered, whole_part, whole_parts, wholes}
 use Rattle.exact_simplex.specs.Multipliers.IsMultiplierStep.{multiple, product, tally}
 use Rattle.exact_simplex.specs.Multipliers.IsTallyStep.{sum, scale}
 use Rattle.exact_simplex.specs.TableRows.{AreNumbers}
-use Rattle.exact_simplex.specs.Tableaus.{IsTold, wide_at}
-use Rattle.exact_simplex.specs.Wholes.{IsSound, IsWholeTable, Stand, held_of, low_forms, number_of}
+use Rattle.exact_simplex.specs.Tableaus.{wide_at}
+use Rattle.exact_simplex.specs.Wholes.{IsWholeTable, Stand, low_forms, number_of}
 use Rattle.exact_simplex.specs.Pivots.{line_at, member_at}
 use Rattle.exact_simplex.proofs.Bases.{whole_basis}
 use Rattle.exact_simplex.proofs.Blends.{form_mixture}
@@ -139,11 +136,6 @@ parts_are t line s =
     (rest_low (length t.costs.low) es long (λ k k_from k_in. s.stuck.none_above k k_from (omega (arith, w.count, k_in)))))
 
 -- the members of a basis are different
-form_there : (n : ℕ) (rows : List Form) (members : List Member) (k : ℕ) → k < length members → slice_index_or (map (member_form n rows) members) k no_form ≡ member_form n rows (slice_index_or members k (Low 0 0))
-form_there n rows [] k k_in = absurd (omega arith)
-form_there n rows (member ∷ members) zero k_in = refl
-form_there n rows (member ∷ members) (suc k) k_in = form_there n rows members k (omega arith)
-
 both_numbers : (D : ℕ) (z : ℤ) → 0 < D → z ≡ pos D → z ≡ pos 0 → ⊥
 both_numbers D z positive first second = omega (arith, ints)
 
@@ -153,7 +145,7 @@ basis_apart t w j k before k_in same =
     let D = w.common in
     let k_there : k < n = omega (arith, w.count, k_in) in
     let forms_same : slice_index_or (forms_of t.costs t.rows.items t.basis.items) k no_form ≡ slice_index_or (forms_of t.costs t.rows.items t.basis.items) j no_form =
-    form_there n t.rows.items t.basis.items k k_in ∙ ap (member_form n t.rows.items) same ∙ sym (form_there n t.rows.items t.basis.items j (omega (arith, before, k_in))) in
+    get_or-map (member_form n t.rows.items) t.basis.items k (Low 0 0) no_form k_in ∙ ap (member_form n t.rows.items) same ∙ sym (get_or-map (member_form n t.rows.items) t.basis.items j (Low 0 0) no_form (omega (arith, before, k_in))) in
     both_numbers D (number_of D t.costs.low w.lows (slice_index_or (forms_of t.costs t.rows.items t.basis.items) k no_form) (suc k)) w.positive (w.own k k_there)
     (ap (λ (f : Form). number_of D t.costs.low w.lows f (suc k)) forms_same ∙ w.elsewhere j (suc k) (omega (arith, before, k_there)) (omega (arith, k_there)) (λ e. omega (arith, before, e)))
 
@@ -164,7 +156,7 @@ line_apart t line s k k_in same =
     let D = w.common in
     let k_there : k < n = omega (arith, w.count, k_in) in
     let form_is : slice_index_or (forms_of t.costs t.rows.items t.basis.items) k no_form ≡ member_form n t.rows.items (member_at t line) =
-    form_there n t.rows.items t.basis.items k k_in ∙ ap (member_form n t.rows.items) same in
+    get_or-map (member_form n t.rows.items) t.basis.items k (Low 0 0) no_form k_in ∙ ap (member_form n t.rows.items) same in
     not_both (constant_at t line w) (constant_low t line s)
     (sym (ap (λ (f : Form). number_of D t.costs.low w.lows f 0) form_is) ∙ w.elsewhere k 0 k_there (omega arith) (λ e. omega (arith, e)))
   where
@@ -320,14 +312,3 @@ pub parts_few : (t : Table) (line : ℕ) (parts : List (ℕ × ℕ)) → IsStuck
 parts_few t line parts s moved =
     let made = whole_parts (parts_at t line) in
     omega (arith, length_permutation made parts moved, length-map (parts_at t line) (whole_part (common_of (parts_at t line))), parts_long t line s)
-
--- what the table tells is what the tableau does
-pub told_of_held : (t : Table) (stage : Stage) (stop : SimplexStop) → IsToldOf t stop → IsTold (held_of t stage) stop
-told_of_held t stage (TooWide wide) told = told
-told_of_held t stage OutOfMemory told = tt
-
--- A tableau that refuted its box has a line that is stuck.
-pub refuted_line : (t : Table) (stage : Stage) (form : ℕ) → IsSound t stage → stage ≡ Ended (Refuted form) → IsStuckLine t form
-refuted_line t stage form sound ended =
-    let at_end = subst (IsSound t) ended sound in
-    record { whole = at_end.whole tt; line_in = at_end.shown.0; stuck = at_end.shown.1 }

@@ -1,15 +1,16 @@
 //! The tableau: a table, and how far the work on it is.
-ghost use Rattle.std.specs.Prelude.{◌≡◌, ℕ, ◌^◌, ◌<◌, [], length, IfErr, IfOk, OnOk};
+ghost use Rattle.std.specs.Prelude.{◌≡◌, ℕ, suc, ◌^◌, ◌<◌, ◌≤◌, [], length, IfErr, IfOk, OnErr, OnOk};
 ghost use Rattle.path_rows.specs.Basis.{IsBasis};
-ghost use Rattle.path_rows.specs.Boxes.{IsBox};
+ghost use Rattle.path_rows.specs.Boxes.{IsBox, Refutes};
+ghost use Rattle.exact_simplex.specs.declared.stage.Solved.TheVariants.{Refuted};
 ghost use Rattle.exact_simplex.specs.declared.stage.Stage.TheVariants.{Ended, Stopped};
-ghost use Rattle.exact_simplex.specs.Tableaus.{IsGoing, IsSolved, IsStop, starting};
+ghost use Rattle.exact_simplex.specs.Tableaus.{IsGoing, IsSolved, IsStop, IsTold, starting};
 
 use crate::start::starting_table;
 use crate::table::Table;
-use crate::{Solved, Stage};
+use crate::{SimplexStop, Solved, Stage};
 use cost_base::OutOfMemory;
-use path_rows::{CostBox, Member};
+use path_rows::{CostBox, Member, Parts};
 use std::alloc::Global;
 use std::marker::Model;
 use wide_fraction::{Top, Wide};
@@ -101,5 +102,28 @@ impl Tableau {
             Err(wide) => Stage::Stopped(*wide),
         };
         settled
+    }
+
+    /// Whole multipliers of rows held, numbered as they were added, whose sum is negative at every point of the box
+    /// (Ben-Ameur and Gourdin 2003, the dual ray of the rows): into `into`. The form that `solve` found counts once where
+    /// it is a row, and each row of the basis by how far it pulls that form down.
+    ///
+    /// # Errors
+    ///
+    /// `TooWide` where a step makes a whole number that passes the top; `OutOfMemory`. After both `into` is as before.
+    pub fn multipliers(
+        &self,
+        alloc: Global,
+        form: u64,
+        into: &mut Parts,
+    ) -> Result<(), SimplexStop>
+        requires solved { self.now.stage ≡ Ended (Refuted form) }
+        ensures refutes { OnOk result (Refutes self.now.rows into.new self.now.costs) }
+        ensures few { OnOk result (length into.new ≤ suc (length self.now.costs.low)) }
+        ensures kept { OnErr result (into.new ≡ into.old) }
+        ensures told { IfErr result (IsTold self.now) }
+    {
+        *into = self.table.multipliers(alloc, form as usize)?;
+        Ok(())
     }
 }

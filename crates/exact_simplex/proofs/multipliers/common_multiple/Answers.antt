@@ -1,11 +1,9 @@
 -- One more denominator is taken.
-use Rattle.std.proofs.Common.{◌≡◌, ℕ, ◌<◌, ◌≤◌, ◌^◌, refl, sym, ◌∙◌, ap, subst, length, nat_abs, arith}
+use Rattle.std.proofs.Common.{◌≤◌, refl, sym, ◌∙◌, subst, nat_abs, arith}
 use Rattle.std.specs.Prelude.{ℤ, pos, ◌<ℤ◌, slice_index_or}
 use Rattle.std.proofs.lemmas.Int.{ints}
-use Rattle.std.proofs.lemmas.List.{take_all}
 use Rattle.std.proofs.lemmas.Result.{err_from_is_err_and}
-use Rattle.path_rows.specs.Steps.{lcm_of}
-use Rattle.exact_simplex.proofs.MultiplierSteps.{denominator_within, denominators_long, multiple_next, multiple_wide, part_number, positive_denominator, positive_multiple, read_back}
+use Rattle.exact_simplex.proofs.MultiplierSteps.{denominator_within, multiple_next, multiple_wide, part_number, positive_denominator, positive_multiple, read_back}
 use Rattle.exact_simplex.proofs.StartLines.{top_small, top_some}
 use Rattle.exact_simplex.proofs.multipliers.common_multiple.Goals as goal
 

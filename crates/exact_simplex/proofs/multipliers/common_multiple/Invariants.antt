@@ -1,5 +1,5 @@
 -- The multiple is that of the denominators before the index.
-use Rattle.std.proofs.Common.{◌≡◌, ◌≤◌, ◌<◌}
+use Rattle.std.proofs.Common.{◌≡◌, ◌≤◌}
 use Rattle.std.specs.Prelude.{pos, ◌<ℤ◌, nat_abs, take}
 use Rattle.path_rows.specs.Steps.{denominators, lcm_of}
 use Rattle.exact_simplex.specs.Multipliers.{fractions}
