@@ -88,6 +88,7 @@ fractions_next basis r es k n member q olds news k_in k_there long olds_are memb
     dropped_long : (qs : List Fraction) (j m : ℕ) → j < m → length qs ≡ suc m → j < length (drop 1 qs)
     dropped_long [] j m j_in counted = absurd (omega arith)
     dropped_long (p ∷ qs) j m j_in counted = omega arith
+
     one_more : (j : ℕ) → suc j ≡ j + 1
     one_more j = omega arith
 

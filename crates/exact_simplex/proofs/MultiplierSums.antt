@@ -134,6 +134,7 @@ bound_negative D L v s m r L_positive below high equation rest =
     high_product : (a b : ℕ) (z : ℤ) → pos 0 ≤ℤ z → pos 0 ≤ℤ (pos a *ℤ (pos b *ℤ z))
     high_product a b (pos k) up = omega (arith, ints)
     high_product a b (negsuc k) up = absurd (omega (arith, ints))
+
     both : (a b c d : ℤ) → a <ℤ pos 0 → b ≤ℤ pos 0 → pos 0 ≤ℤ c → (d +ℤ c) ≡ (a +ℤ b) → d <ℤ pos 0
     both a b c d first second third same = omega (arith, ints)
 

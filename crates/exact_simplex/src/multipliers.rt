@@ -17,6 +17,10 @@ use std::alloc::Global;
 use wide_fraction::{Frac, Top, Wide, add, lcm, mul, scale};
 
 /// Puts the fraction of a member, where that is a row.
+///
+/// # Errors
+///
+/// `OutOfMemory` where the list got no memory.
 fn put_fraction(
     parts: &mut Vec<(u64, Frac)>,
     member: Member,
@@ -35,11 +39,11 @@ fn put_fraction(
 }
 
 /// Puts the negated entry of a member's column, where the member is a row and the entry isn't 0.
-fn put_negated(
-    parts: &mut Vec<(u64, Frac)>,
-    member: Member,
-    entry: Frac,
-) -> Result<(), OutOfMemory>
+///
+/// # Errors
+///
+/// `OutOfMemory` where the list got no memory.
+fn put_negated(parts: &mut Vec<(u64, Frac)>, member: Member, entry: Frac) -> Result<(), OutOfMemory>
     ensures { OnOk result (parts.new.items ≡ parts.old.items ++ numbered member (unless_zero entry.numerator entry)) }
 {
     if entry.is_zero() {
@@ -50,6 +54,10 @@ fn put_negated(
 }
 
 /// The least common multiple of the denominators, made one by one.
+///
+/// # Errors
+///
+/// `Wide` where one of these passes `top`.
 fn common_multiple(parts: &[(u64, Frac)], top: Top) -> Result<i128, Wide>
     requires numbers { AllNumbers top parts.now }
     ensures exact { IfOk result (λ multiple. multiple ≡ pos (common_of parts.now)) }
@@ -67,6 +75,10 @@ fn common_multiple(parts: &[(u64, Frac)], top: Top) -> Result<i128, Wide>
 }
 
 /// Each fraction, times the common multiple of the denominators.
+///
+/// # Errors
+///
+/// `TooWide` where a product makes a whole number that passes `top`; `OutOfMemory`.
 fn made_parts(
     alloc: Global,
     parts: &[(u64, Frac)],
@@ -91,6 +103,10 @@ fn made_parts(
 }
 
 /// The sum of the multipliers, made one by one.
+///
+/// # Errors
+///
+/// `Wide` where one of these steps makes a whole number that passes `top`.
 fn sum_of_parts(parts: &[(u64, u128)], top: Top) -> Result<Frac, Wide>
     requires within { All (λ part. part.1 ≤ top) parts.now }
     ensures exact { IfOk result (λ sum. sum ≡ sum_of (wholes parts.now)) }
@@ -107,7 +123,11 @@ fn sum_of_parts(parts: &[(u64, u128)], top: Top) -> Result<Frac, Wide>
     Ok(sum)
 }
 
-/// Tries that the sum of the multipliers is small.
+/// Tries that the sum of the multipliers is below 2^100: that its multiple by 2^27 doesn't pass `top`.
+///
+/// # Errors
+///
+/// `Wide` where that or a step of the sum does.
 fn check_sum(parts: &[(u64, u128)], top: Top) -> Result<(), Wide>
     requires within { All (λ part. part.1 ≤ top) parts.now }
     requires positive { 0 < sum_by (λ part. part.1) parts.now }
@@ -122,8 +142,12 @@ fn check_sum(parts: &[(u64, u128)], top: Top) -> Result<(), Wide>
 }
 
 impl Table {
-    /// The multipliers of a line's form and of the basis: 1 for the form itself, and then the negated entries of the line
-    /// at the columns, in order; of these the rows' that aren't 0.
+    /// The multipliers of a line's form and of the basis, of which rows alone have one: 1 for the form itself, and then
+    /// the negated entries of the line at the columns, in order, where they aren't 0.
+    ///
+    /// # Errors
+    ///
+    /// `OutOfMemory` where the list got no memory.
     fn fractions(&self, alloc: Global, line: usize) -> Result<Vec<(u64, Frac)>, OutOfMemory>
         requires whole { IsWholeTable self.now }
         requires room { HasRoom self.now }

@@ -104,19 +104,15 @@ impl Tableau {
         settled
     }
 
-    /// Whole multipliers of rows held, numbered as they were added, whose sum is negative at every point of the box
-    /// (Ben-Ameur and Gourdin 2003, the dual ray of the rows): into `into`. The form that `solve` found counts once where
-    /// it is a row, and each row of the basis by how far it pulls that form down.
+    /// Whole multipliers over the rows held, numbered as they were added, that refute the box: under them the sum of
+    /// the rows is negative at every point of it (Ben-Ameur and Gourdin 2003). They are put into `into`. The form that
+    /// `solve` found counts once where it is a row, and each row of the basis by the negated entry of that form in its
+    /// column; all times the least number that makes them whole.
     ///
     /// # Errors
     ///
     /// `TooWide` where a step makes a whole number that passes the top; `OutOfMemory`. After both `into` is as before.
-    pub fn multipliers(
-        &self,
-        alloc: Global,
-        form: u64,
-        into: &mut Parts,
-    ) -> Result<(), SimplexStop>
+    pub fn multipliers(&self, alloc: Global, form: u64, into: &mut Parts) -> Result<(), SimplexStop>
         requires solved { self.now.stage ≡ Ended (Refuted form) }
         ensures refutes { OnOk result (Refutes self.now.rows into.new self.now.costs) }
         ensures few { OnOk result (length into.new ≤ suc (length self.now.costs.low)) }
