@@ -82,7 +82,7 @@ high_less : (a b : ℕ) (z : ℤ) → z ≡ (pos b -ℤ pos a) → pos 0 ≤ℤ 
 high_less a b z is high = omega (arith, ints)
 
 -- each form of the box is at least 0 at a point of the box that meets the rows
-member_met : (costs : CostBox) (rows : List Form) (p : Point) (member : Member) → IsPointOf costs p → MeetsRows rows p → IsFormOf costs rows member → pos 0 ≤ℤ value_at (member_form (length costs.low) rows member) p
+pub member_met : (costs : CostBox) (rows : List Form) (p : Point) (member : Member) → IsPointOf costs p → MeetsRows rows p → IsFormOf costs rows member → pos 0 ≤ℤ value_at (member_form (length costs.low) rows member) p
 member_met costs rows p (Low v bound) point meets is =
     let v_in : v < length p.values = omega (arith, point.low_count, is.0) in
     subst (λ (n : ℕ). pos 0 ≤ℤ value_at (member_form n rows (Low v bound)) p) (sym point.low_count)
@@ -111,7 +111,7 @@ not_above top D (q ∷ qs) (m ∷ ms) D_positive numbers stand low = (
   not_above top D qs ms D_positive numbers.1 stand.1 (λ k k_in. low (suc k) (omega arith)),
 )
 
-stuck_first : (top D : ℕ) (qs : List Fraction) (m : ℤ) (ms : List ℤ) → 0 < D → AreNumbers top qs → Stand D qs (m ∷ ms) → (entry qs 0).numerator <ℤ pos 0 → m <ℤ pos 0
+pub stuck_first : (top D : ℕ) (qs : List Fraction) (m : ℤ) (ms : List ℤ) → 0 < D → AreNumbers top qs → Stand D qs (m ∷ ms) → (entry qs 0).numerator <ℤ pos 0 → m <ℤ pos 0
 stuck_first top D [] m ms D_positive numbers stand below = absurd stand
 stuck_first top D (q ∷ qs) m ms D_positive numbers stand below = negative_number q.numerator m q.denominator D numbers.0.lowest.positive D_positive stand.0 below
 

@@ -7,3 +7,4 @@ pub mod Pivots
 pub mod Ranks
 pub mod Sums
 pub mod Corners
+pub mod Multipliers

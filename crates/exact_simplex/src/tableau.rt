@@ -1,19 +1,20 @@
 //! The tableau: a table, and how far the work on it is.
-ghost use Rattle.std.specs.Prelude.{◌≡◌, ℕ, ◌^◌, ◌<◌, [], length, IfErr, IfOk, OnErr, OnOk};
+ghost use Rattle.std.specs.Prelude.{◌≡◌, ℕ, ◌^◌, ◌<◌, [], length, IfErr, IfOk, OnErr, OnOk, suc, ◌≤◌};
 ghost use Rattle.path_rows.specs.Basis.{IsBasis};
-ghost use Rattle.path_rows.specs.Boxes.{IsBox};
+ghost use Rattle.path_rows.specs.Boxes.{IsBox, Refutes};
 ghost use Rattle.path_rows.specs.Steps.{IsTooWide};
-ghost use Rattle.exact_simplex.specs.declared.stage.Solved.TheVariants.{Feasible};
+ghost use Rattle.exact_simplex.specs.declared.stage.Solved.TheVariants.{Feasible, Refuted};
 ghost use Rattle.exact_simplex.specs.declared.stage.Stage.TheVariants.{Ended, Stopped};
 ghost use Rattle.exact_simplex.specs.Corners.{IsLeastPoint};
-ghost use Rattle.exact_simplex.specs.Tableaus.{IsGoing, IsSolved, IsStop, starting, wide_at};
+ghost use Rattle.exact_simplex.specs.Tableaus.{IsGoing, IsSolved, IsStop, starting, wide_at, IsTold};
 
 use crate::start::starting_table;
 use crate::table::Table;
-use crate::{Solved, Stage};
+use crate::{Solved, Stage, SimplexStop};
 use area_graph::Point;
+
 use cost_base::OutOfMemory;
-use path_rows::{CostBox, Member};
+use path_rows::{CostBox, Member, Parts};
 use std::alloc::Global;
 use std::marker::Model;
 use wide_fraction::{Top, Wide};
@@ -121,5 +122,24 @@ impl Tableau {
         ensures wide { IfErr result (λ wide. IsTooWide self.now.top self.now.costs self.now.rows (wide_at wide self.now.basis)) }
     {
         self.table.put_corner(into)
+    }
+
+    /// Whole multipliers over the rows held, numbered as they were added, that refute the box: under them the sum of
+    /// the rows is negative at every point of it (Ben-Ameur and Gourdin 2003). They are put into `into`. The form that
+    /// `solve` found counts once where it is a row, and each row of the basis by the negated entry of that form in its
+    /// column; all times the least number that makes them whole.
+    ///
+    /// # Errors
+    ///
+    /// `TooWide` where a step makes a whole number that passes the top; `OutOfMemory`. After both `into` is as before.
+    pub fn multipliers(&self, alloc: Global, form: u64, into: &mut Parts) -> Result<(), SimplexStop>
+        requires solved { self.now.stage ≡ Ended (Refuted form) }
+        ensures refutes { OnOk result (Refutes self.now.rows into.new self.now.costs) }
+        ensures few { OnOk result (length into.new ≤ suc (length self.now.costs.low)) }
+        ensures kept { OnErr result (into.new ≡ into.old) }
+        ensures told { IfErr result (IsTold self.now) }
+    {
+        *into = self.table.multipliers(alloc, form as usize)?;
+        Ok(())
     }
 }
