@@ -6,3 +6,4 @@ pub mod Wholes
 pub mod Pivots
 pub mod Ranks
 pub mod Sums
+pub mod RowLines

@@ -1,15 +1,15 @@
 //! The tableau: a table, and how far the work on it is.
-ghost use Rattle.std.specs.Prelude.{◌≡◌, ℕ, ◌^◌, ◌<◌, [], length, IfErr, IfOk, OnOk};
+ghost use Rattle.std.specs.Prelude.{◌≡◌, ℕ, ◌^◌, ◌<◌, ◌++◌, [], ◌∷◌, length, IfErr, IfOk, OnOk};
 ghost use Rattle.path_rows.specs.Basis.{IsBasis};
 ghost use Rattle.path_rows.specs.Boxes.{IsBox};
 ghost use Rattle.exact_simplex.specs.declared.stage.Stage.TheVariants.{Ended, Stopped};
-ghost use Rattle.exact_simplex.specs.Tableaus.{IsGoing, IsSolved, IsStop, starting};
+ghost use Rattle.exact_simplex.specs.Tableaus.{FitsBox, IsGoing, IsRefused, IsSolved, IsStop, starting};
 
 use crate::start::starting_table;
 use crate::table::Table;
-use crate::{Solved, Stage};
+use crate::{SimplexStop, Solved, Stage};
 use cost_base::OutOfMemory;
-use path_rows::{CostBox, Member};
+use path_rows::{CostBox, Form, Member};
 use std::alloc::Global;
 use std::marker::Model;
 use wide_fraction::{Top, Wide};
@@ -80,6 +80,31 @@ impl Tableau {
             Stage::Ended(_) => Ok(()),
             Stage::Stopped(wide) => Err(wide),
         }
+    }
+
+    /// Adds the form of a row, with its line at the present basis: first the line's constant, and then its columns in
+    /// order. A column's sum starts with 0, and that of the constant with the form's value at the low corner; the terms
+    /// of the coefficients other than 0 are added in the order of the variables. All memory is taken before.
+    ///
+    /// # Errors
+    ///
+    /// - `TooWide` where a step makes a whole number that passes the top. It stops the tableau, which has the row then;
+    ///   every later call tells the same step.
+    /// - `OutOfMemory` where something got no memory. Then the tableau is as before.
+    pub fn add_row(&mut self, alloc: Global, form: &Form) -> Result<(), SimplexStop>
+        requires fits { FitsBox self.old.costs form.now }
+        ensures going { OnOk result (IsGoing self.old.stage) }
+        ensures added { OnOk result (self.new ≡ record { top = self.old.top; costs = self.old.costs; rows = self.old.rows ++ form.now ∷ []; basis = self.old.basis; stage = Stage.Open }) }
+        ensures refused { IfErr result (IsRefused self.old form.now self.new) }
+    {
+        self.going()?;
+        let row = self.table.make_room(alloc, form)?;
+        let put = self.table.put_row(row);
+        self.stage = match &put {
+            Ok(()) => Stage::Open,
+            Err(step) => Stage::Stopped(*step),
+        };
+        Ok(put?)
     }
 
     /// Whether some rational point of the box meets all rows. It takes no memory.
