@@ -1,5 +1,5 @@
 -- A line of zeros is filled from the left.
-use Rattle.std.proofs.Common.{◌≡◌, ◌≢◌, ℕ, zero, suc, ◌+◌, ◌<◌, ◌≤◌, refl, sym, ◌∙◌, ap, subst, List, [], ◌∷◌, map, take, length, arith, inl, inr, add-one}
+use Rattle.std.proofs.Common.{◌≡◌, ℕ, zero, suc, ◌+◌, ◌<◌, ◌≤◌, refl, sym, ◌∙◌, ap, subst, List, [], ◌∷◌, map, take, length, arith, inl, inr, add-one}
 use Rattle.std.specs.Prelude.{ℤ, pos, ◌+ℤ◌, ◌*ℤ◌, Result, Ok, Err, IfErr, slice_index_or, slice_set}
 use Rattle.std.proofs.lemmas.Bool.{cases_lt}
 use Rattle.std.proofs.lemmas.List.{get_or-set_other, get_or-set_same, length-set}
@@ -13,7 +13,7 @@ use Rattle.path_rows.specs.Basis.{entry}
 use Rattle.path_rows.specs.Steps.{start_of_sum}
 use Rattle.wide_fraction.specs.declared.steps.Wide.{Wide}
 use Rattle.exact_simplex.specs.Entries.{IsPassing}
-use Rattle.exact_simplex.specs.RowLines.{IsRowLine, IsRowStep, sum_at_place}
+use Rattle.exact_simplex.specs.RowLines.{IsRowStep, sum_at_place}
 use Rattle.exact_simplex.specs.Sums.{IsSumStep}
 use Rattle.exact_simplex.specs.TableRows.{AreNumbers, IsNumber, nothing}
 use Rattle.exact_simplex.proofs.Filled.{length-mapped, numbers_mapped}
@@ -61,11 +61,6 @@ filled_first top costs form lines line new q blank q_is number new_is =
     blank_after : (n place : ℕ) → 0 ≤ place → entry (nothing ∷ map (λ column. nothing) (numbers_from 0 n)) place ≡ nothing
     blank_after n zero from = refl
     blank_after n (suc k) from = blank_at 0 n k
-
--- all places are filled
-pub filled_all : (top : ℕ) (costs : CostBox) (form : Form) (lines : List (List Fraction)) (count : ℕ) (line : List Fraction) → suc (length costs.low) ≤ count → IsFilledTo top costs form lines count line → IsRowLine top costs form lines line
-filled_all top costs form lines count line all f =
-    record { long = f.long; sums = λ place place_in. f.before place (omega (arith, all, place_in)); numbers = f.numbers }
 
 dot_suc : (cs : List ℤ) (xs : List ℕ) (i : ℕ) → i < length cs → length cs ≡ length xs → dot (take (suc i) cs) (take (suc i) xs) ≡ (dot (take i cs) (take i xs) +ℤ (slice_index_or cs i (pos 0) *ℤ pos (slice_index_or xs i 0)))
 dot_suc [] xs i i_in same = absurd (omega arith)

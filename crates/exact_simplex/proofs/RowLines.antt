@@ -1,6 +1,6 @@
 -- The line of a row that is added stands for the row's numbers, and its steps are steps of the table.
-use Rattle.std.proofs.Common.{◌≡◌, ℕ, zero, suc, ◌+◌, ◌*◌, ◌<◌, ◌≤◌, refl, sym, ◌∙◌, ap, subst, List, [], ◌∷◌, ◌++◌, map, take, length, arith, one-mul}
-use Rattle.std.specs.Prelude.{ℤ, pos, negsuc, ◌+ℤ◌, ◌*ℤ◌, Result, Ok, Err, IfErr, OnOk, Some, fold, slice_get, slice_index_or}
+use Rattle.std.proofs.Common.{◌≡◌, ℕ, zero, suc, ◌*◌, ◌<◌, ◌≤◌, refl, sym, ◌∙◌, ap, subst, List, [], ◌∷◌, ◌++◌, take, length, arith, one-mul}
+use Rattle.std.specs.Prelude.{ℤ, pos, negsuc, ◌+ℤ◌, ◌*ℤ◌, Result, Ok, Err, IfErr, OnOk, fold, slice_get, slice_index_or}
 use Rattle.std.proofs.lemmas.List.{get_or-take, length-append}
 use Rattle.cost_base.specs.declared.StepName.TheVariants.{Add, Mul}
 use Rattle.whole_numbers.specs.Fractions.{Fraction, StandsFor, plus, times, whole}
@@ -12,7 +12,7 @@ use Rattle.path_rows.specs.declared.form.Form.{Form}
 use Rattle.path_rows.specs.declared.form.CostBox.{CostBox}
 use Rattle.path_rows.specs.declared.tree.Member.{Member}
 use Rattle.path_rows.specs.Forms.{form_at, value}
-use Rattle.path_rows.specs.Basis.{AreEntries, IsTable, entry, forms_of, low_member, member_form}
+use Rattle.path_rows.specs.Basis.{AreEntries, IsTable, entry, low_member, member_form}
 use Rattle.path_rows.specs.Steps.{IsStep, IsTooWide, row_product, row_sum, start_of_sum, terms}
 use Rattle.exact_simplex.specs.RowLines.{IsRowLine, IsRowStep, sum_at_place}
 use Rattle.exact_simplex.specs.Sums.{IsSumStep, product, sum, sum_from}
@@ -34,8 +34,7 @@ term_stands D q e m x c D_positive q_is e_is =
     let term_positive = (times_lowest (whole c) e (omega arith) e_is.0).positive in
     let whole_is : StandsFor (whole c) c 1 = refl in
     let term_is : StandsFor (times (whole c) e) (c *ℤ x) D =
-    subst (λ (n : ℕ). StandsFor (times (whole c) e) (c *ℤ x) n) (one-mul D) (times_stands (whole c) e c x 1 D (omega arith) e_is.0 whole_is e_is.1) in
-    (
+    subst (λ (n : ℕ). StandsFor (times (whole c) e) (c *ℤ x) n) (one-mul D) (times_stands (whole c) e c x 1 D (omega arith) e_is.0 whole_is e_is.1) in (
       (reduced_lowest ((q.numerator *ℤ pos (times (whole c) e).denominator) +ℤ ((times (whole c) e).numerator *ℤ pos q.denominator)) (q.denominator * (times (whole c) e).denominator) (product_positive q.denominator (times (whole c) e).denominator q_is.0 term_positive)).positive,
       plus_stands_over q (times (whole c) e) m (c *ℤ x) D q_is.0 term_positive D_positive q_is.1 term_is,
     )
@@ -83,10 +82,10 @@ line_stands top costs rows basis table f line w fits l =
     let ms = numbers_of n w.common costs.low w.lows f in
     zip_from (λ q m. StandsFor q m w.common) line ms (whole (pos 0)) (pos 0) (l.long ∙ sym (numbers_long n w.common costs.low w.lows f))
     (λ place place_in.
-        let within : place < suc n = omega (arith, l.long, place_in) in
-        subst (λ (q : Fraction). StandsFor q (number_at ms place) w.common) (sym (l.sums place within))
-        (subst (λ (z : ℤ). StandsFor (sum_at_place costs f table place) z w.common) (sym (numbers_at n w.common costs.low w.lows f place within))
-        (place_stands top costs rows basis table f place w fits within)))
+    let within : place < suc n = omega (arith, l.long, place_in) in
+    subst (λ (q : Fraction). StandsFor q (number_at ms place) w.common) (sym (l.sums place within))
+    (subst (λ (z : ℤ). StandsFor (sum_at_place costs f table place) z w.common) (sym (numbers_at n w.common costs.low w.lows f place within))
+    (place_stands top costs rows basis table f place w fits within)))
 
 -- With the form and its line the table is whole.
 pub row_whole : (top : ℕ) (costs : CostBox) (rows : List Form) (basis : List Member) (table : List (List Fraction)) (f : Form) (line : List Fraction) → IsWhole top costs rows basis table → FitsBox costs f → IsRowLine top costs f table line → IsWhole top costs (rows ++ f ∷ []) basis (table ++ line ∷ [])
