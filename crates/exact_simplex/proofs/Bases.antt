@@ -96,13 +96,17 @@ low_line_stands top costs rows basis table w v place v_in place_in =
     let here = number_there top line place l.numbers (omega (arith, stand_length w.common line ts stand, long, place_in)) in
     (here.lowest.positive, stand_at w.common line ts place stand (omega (arith, long, place_in)))
 
--- the lines of x - low are the table of its basis
-pub whole_lows : (top : ℕ) (costs : CostBox) (rows : List Form) (basis : List Member) (table : List (List Fraction)) → IsWhole top costs rows basis table → IsTable costs rows basis (take (length costs.low) table)
-whole_lows top costs rows basis table w =
+-- it has a line for each variable at least
+pub table_long : (top : ℕ) (costs : CostBox) (rows : List Form) (basis : List Member) (table : List (List Fraction)) (w : IsWhole top costs rows basis table) → length costs.low ≤ length table
+table_long top costs rows basis table w =
+    omega (arith, members_many costs (length rows), zip_long (IsLine top w.common costs rows w.lows) (members_of costs (length rows)) table w.lines)
+
+-- the first lines are the entries of x - low for each variable
+pub whole_table : (top : ℕ) (costs : CostBox) (rows : List Form) (basis : List Member) (table : List (List Fraction)) → IsWhole top costs rows basis table → IsTable costs rows basis (take (length costs.low) table)
+whole_table top costs rows basis table w =
     let n = length costs.low in
     let counted = lows_counted top costs rows basis table w in
-    let many : n ≤ length table = omega (arith, members_many costs (length rows), zip_long (IsLine top w.common costs rows w.lows) (members_of costs (length rows)) table w.lines) in
-    let taken : length (take n table) ≡ n = length-take-le n table many in
+    let taken : length (take n table) ≡ n = length-take-le n table (table_long top costs rows basis table w) in
     let lead : (k : ℕ) → k < length basis → LeadsPositive (column (take n table) (suc k)) =
     λ k k_in. (
     leads_stand w.common (suc k) (take n table) w.lows w.positive
@@ -122,4 +126,5 @@ whole_lows top costs rows basis table w =
     }
 
 pub whole_basis : (top : ℕ) (costs : CostBox) (rows : List Form) (basis : List Member) (table : List (List Fraction)) → IsWhole top costs rows basis table → IsBasis costs rows basis
-whole_basis top costs rows basis table w = (take (length costs.low) table, whole_lows top costs rows basis table w)
+whole_basis top costs rows basis table w =
+    (take (length costs.low) table, whole_table top costs rows basis table w)

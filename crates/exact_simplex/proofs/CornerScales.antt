@@ -25,7 +25,7 @@ use Rattle.exact_simplex.specs.Entries.{IsPassing}
 use Rattle.exact_simplex.specs.Tableaus.{wide_at}
 use Rattle.exact_simplex.specs.Wholes.{IsWholeTable, number_at}
 use Rattle.exact_simplex.specs.Pivots.{AreHigh, line_at}
-use Rattle.exact_simplex.proofs.Bases.{low_line_stands, whole_lows}
+use Rattle.exact_simplex.proofs.Bases.{low_line_stands, whole_table}
 use Rattle.exact_simplex.proofs.RowLaws.{number_at as number_there}
 use Rattle.exact_simplex.proofs.Pivots.{line_long, line_read, lines_long, whole_line}
 use Rattle.exact_simplex.proofs.Solutions.{corner_fits, corner_long, corner_of, corner_point, counted_lows, first_high}
@@ -174,7 +174,7 @@ multiple_wide t w k left right wide k_in left_is right_is wide_is passes =
     ∙ ap {B = Wide} (λ (z : ℤ). record { step = Lcm; left = whole (pos (lcm_of (take k ds))); right = whole z }) right_is in
     record {
       lows = lows;
-      table = whole_lows t.top t.costs t.rows.items t.basis.items t.lines.items w;
+      table = whole_table t.top t.costs t.rows.items t.basis.items t.lines.items w;
       left = wide.left;
       right = wide.right;
       left_is = refl;
@@ -191,7 +191,7 @@ scale_wide t w multiple wide multiple_is wide_is passes =
     wide_is ∙ ap {B = Wide} (λ (z : ℤ). record { step = Scale; left = whole z; right = two_to_27 }) multiple_is in
     record {
       lows = lows;
-      table = whole_lows t.top t.costs t.rows.items t.basis.items t.lines.items w;
+      table = whole_table t.top t.costs t.rows.items t.basis.items t.lines.items w;
       left = wide.left;
       right = wide.right;
       left_is = refl;

@@ -8,3 +8,4 @@ pub mod Ranks
 pub mod Sums
 pub mod Corners
 pub mod Multipliers
+pub mod RowLines

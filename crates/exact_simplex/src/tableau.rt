@@ -1,20 +1,19 @@
 //! The tableau: a table, and how far the work on it is.
-ghost use Rattle.std.specs.Prelude.{◌≡◌, ℕ, ◌^◌, ◌<◌, [], length, IfErr, IfOk, OnErr, OnOk, suc, ◌≤◌};
+ghost use Rattle.std.specs.Prelude.{◌≡◌, ℕ, suc, ◌^◌, ◌<◌, ◌≤◌, ◌++◌, [], ◌∷◌, length, IfErr, IfOk, OnErr, OnOk};
 ghost use Rattle.path_rows.specs.Basis.{IsBasis};
 ghost use Rattle.path_rows.specs.Boxes.{IsBox, Refutes};
 ghost use Rattle.path_rows.specs.Steps.{IsTooWide};
 ghost use Rattle.exact_simplex.specs.declared.stage.Solved.TheVariants.{Feasible, Refuted};
 ghost use Rattle.exact_simplex.specs.declared.stage.Stage.TheVariants.{Ended, Stopped};
 ghost use Rattle.exact_simplex.specs.Corners.{IsLeastPoint};
-ghost use Rattle.exact_simplex.specs.Tableaus.{IsGoing, IsSolved, IsStop, starting, wide_at, IsTold};
+ghost use Rattle.exact_simplex.specs.Tableaus.{FitsBox, IsGoing, IsRefused, IsSolved, IsStop, IsTold, starting, wide_at};
 
 use crate::start::starting_table;
 use crate::table::Table;
-use crate::{Solved, Stage, SimplexStop};
+use crate::{SimplexStop, Solved, Stage};
 use area_graph::Point;
-
 use cost_base::OutOfMemory;
-use path_rows::{CostBox, Member, Parts};
+use path_rows::{CostBox, Form, Member, Parts};
 use std::alloc::Global;
 use std::marker::Model;
 use wide_fraction::{Top, Wide};
@@ -85,6 +84,31 @@ impl Tableau {
             Stage::Ended(_) => Ok(()),
             Stage::Stopped(wide) => Err(wide),
         }
+    }
+
+    /// Adds the form of a row, with its line at the present basis: first the line's constant, and then its columns in
+    /// order. A column's sum starts with 0, and that of the constant with the form's value at the low corner; the terms
+    /// of the coefficients other than 0 are added in the order of the variables. All memory is taken before.
+    ///
+    /// # Errors
+    ///
+    /// - `TooWide` where a step makes a whole number that passes the top. It stops the tableau, which has the row then;
+    ///   every later call tells the same step.
+    /// - `OutOfMemory` where something got no memory. Then the tableau is as before.
+    pub fn add_row(&mut self, alloc: Global, form: &Form) -> Result<(), SimplexStop>
+        requires fits { FitsBox self.old.costs form.now }
+        ensures going { OnOk result (IsGoing self.old.stage) }
+        ensures added { OnOk result (self.new ≡ record { top = self.old.top; costs = self.old.costs; rows = self.old.rows ++ form.now ∷ []; basis = self.old.basis; stage = Stage.Open }) }
+        ensures refused { IfErr result (IsRefused self.old form.now self.new) }
+    {
+        self.going()?;
+        let row = self.table.make_room(alloc, form)?;
+        let put = self.table.put_row(row);
+        self.stage = match &put {
+            Ok(()) => Stage::Open,
+            Err(step) => Stage::Stopped(*step),
+        };
+        Ok(put?)
     }
 
     /// Whether some rational point of the box meets all rows. It takes no memory.
