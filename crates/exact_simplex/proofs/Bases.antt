@@ -10,7 +10,7 @@ use Rattle.path_rows.specs.declared.form.Form.{Form}
 use Rattle.path_rows.specs.declared.form.CostBox.{CostBox}
 use Rattle.path_rows.specs.declared.tree.Member.{Member}
 use Rattle.path_rows.specs.declared.tree.Member.TheVariants.{Low, Row}
-use Rattle.path_rows.specs.Basis.{HasEntries, IsBasis, IsFormOf, LeadsPositive, column, entry, forms_of, low_member, member_form}
+use Rattle.path_rows.specs.Basis.{HasEntries, IsBasis, IsFormOf, IsTable, LeadsPositive, column, entry, forms_of, low_member, member_form}
 use Rattle.exact_simplex.specs.Wholes.{IsLine, IsWhole, high_member, low_forms, members_of, number_at}
 use Rattle.exact_simplex.proofs.Filled.{length-mapped, mapped_at}
 use Rattle.exact_simplex.proofs.RowLaws.{number_at as number_there}
@@ -96,12 +96,17 @@ low_line_stands top costs rows basis table w v place v_in place_in =
     let here = number_there top line place l.numbers (omega (arith, stand_length w.common line ts stand, long, place_in)) in
     (here.lowest.positive, stand_at w.common line ts place stand (omega (arith, long, place_in)))
 
-pub whole_basis : (top : ℕ) (costs : CostBox) (rows : List Form) (basis : List Member) (table : List (List Fraction)) → IsWhole top costs rows basis table → IsBasis costs rows basis
-whole_basis top costs rows basis table w =
+-- it has a line for each variable at least
+pub table_long : (top : ℕ) (costs : CostBox) (rows : List Form) (basis : List Member) (table : List (List Fraction)) (w : IsWhole top costs rows basis table) → length costs.low ≤ length table
+table_long top costs rows basis table w =
+    omega (arith, members_many costs (length rows), zip_long (IsLine top w.common costs rows w.lows) (members_of costs (length rows)) table w.lines)
+
+-- the first lines are the entries of x - low for each variable
+pub whole_table : (top : ℕ) (costs : CostBox) (rows : List Form) (basis : List Member) (table : List (List Fraction)) → IsWhole top costs rows basis table → IsTable costs rows basis (take (length costs.low) table)
+whole_table top costs rows basis table w =
     let n = length costs.low in
     let counted = lows_counted top costs rows basis table w in
-    let many : n ≤ length table = omega (arith, members_many costs (length rows), zip_long (IsLine top w.common costs rows w.lows) (members_of costs (length rows)) table w.lines) in
-    let taken : length (take n table) ≡ n = length-take-le n table many in
+    let taken : length (take n table) ≡ n = length-take-le n table (table_long top costs rows basis table w) in
     let lead : (k : ℕ) → k < length basis → LeadsPositive (column (take n table) (suc k)) =
     λ k k_in. (
     leads_stand w.common (suc k) (take n table) w.lows w.positive
@@ -109,15 +114,17 @@ whole_basis top costs rows basis table w =
     (λ v v_in. subst (λ (line : List Fraction). (0 < (entry line (suc k)).denominator) × StandsFor (entry line (suc k)) (number_at (slice_index_or w.lows v []) (suc k)) w.common) (sym (get_or-take n table v [] (omega (arith, taken, v_in))))
     (low_line_stands top costs rows basis table w v (suc k) (omega (arith, taken, v_in)) (omega (arith, k_in, w.count)))))
     (w.lead k (omega (arith, k_in, w.count)))
-    ) in (
-      take n table,
-      record {
-        count = w.count;
-        members = w.members;
-        lows_count = taken;
-        entries = λ v v_in.
-            subst (HasEntries costs rows basis (low_member costs v)) (sym (get_or-take n table v [] v_in))
-            (line_entries top costs rows basis table w (low_member costs v) (slice_index_or table v []) (v_in, refl) (low_line top costs rows basis table w v v_in));
-        lead = lead;
-      },
-    )
+    ) in
+    record {
+      count = w.count;
+      members = w.members;
+      lows_count = taken;
+      entries = λ v v_in.
+          subst (HasEntries costs rows basis (low_member costs v)) (sym (get_or-take n table v [] v_in))
+          (line_entries top costs rows basis table w (low_member costs v) (slice_index_or table v []) (v_in, refl) (low_line top costs rows basis table w v v_in));
+      lead = lead;
+    }
+
+pub whole_basis : (top : ℕ) (costs : CostBox) (rows : List Form) (basis : List Member) (table : List (List Fraction)) → IsWhole top costs rows basis table → IsBasis costs rows basis
+whole_basis top costs rows basis table w =
+    (take (length costs.low) table, whole_table top costs rows basis table w)

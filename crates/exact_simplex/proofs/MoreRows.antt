@@ -29,7 +29,7 @@ form_kept n costs rows f (Low var bound) is = refl
 form_kept n costs rows f (High var bound) is = refl
 form_kept n costs rows f (Row row) is = get_or_append_left rows (f ∷ []) no_form row is
 
-member_kept : (costs : CostBox) (rows : List Form) (f : Form) (member : Member) → IsFormOf costs rows member → IsFormOf costs (rows ++ f ∷ []) member
+pub member_kept : (costs : CostBox) (rows : List Form) (f : Form) (member : Member) → IsFormOf costs rows member → IsFormOf costs (rows ++ f ∷ []) member
 member_kept costs rows f (Low var bound) is = is
 member_kept costs rows f (High var bound) is = is
 member_kept costs rows f (Row row) is = omega (arith, length-append rows (f ∷ []), is)

@@ -65,7 +65,7 @@ high_number (pos n) (negsuc a) d D d_positive D_positive is high =
     absurd (omega (arith, ints))
 
 -- the values of x - low and of high - x at a point
-low_value_at : (rows : List Form) (v bound : ℕ) (p : Point) → v < length p.values → value_at (member_form (length p.values) rows (Low v bound)) p ≡ (pos (slice_index p.values v) -ℤ pos (bound * p.scale))
+pub low_value_at : (rows : List Form) (v bound : ℕ) (p : Point) → v < length p.values → value_at (member_form (length p.values) rows (Low v bound)) p ≡ (pos (slice_index p.values v) -ℤ pos (bound * p.scale))
 low_value_at rows v bound p v_in =
     ap (λ z. (neg_ℤ (pos bound) *ℤ pos p.scale) +ℤ z) (unit_dot v (pos 1) p.values v_in)
     ∙ ring (pos bound ∷ pos p.scale ∷ pos (slice_index p.values v) ∷ []) (neg (var 0) ⊗ var 1 ⊕ num (pos 1) ⊗ var 2) (var 2 ⊖ (var 0 ⊗ var 1)) refl
@@ -82,7 +82,7 @@ high_less : (a b : ℕ) (z : ℤ) → z ≡ (pos b -ℤ pos a) → pos 0 ≤ℤ 
 high_less a b z is high = omega (arith, ints)
 
 -- each form of the box is at least 0 at a point of the box that meets the rows
-member_met : (costs : CostBox) (rows : List Form) (p : Point) (member : Member) → IsPointOf costs p → MeetsRows rows p → IsFormOf costs rows member → pos 0 ≤ℤ value_at (member_form (length costs.low) rows member) p
+pub member_met : (costs : CostBox) (rows : List Form) (p : Point) (member : Member) → IsPointOf costs p → MeetsRows rows p → IsFormOf costs rows member → pos 0 ≤ℤ value_at (member_form (length costs.low) rows member) p
 member_met costs rows p (Low v bound) point meets is =
     let v_in : v < length p.values = omega (arith, point.low_count, is.0) in
     subst (λ (n : ℕ). pos 0 ≤ℤ value_at (member_form n rows (Low v bound)) p) (sym point.low_count)
@@ -95,7 +95,7 @@ member_met costs rows p (High v bound) point meets is =
     (subst (λ (b : ℕ). slice_index p.values v ≤ b * p.scale) (sym is.1) (point.below v v_in)))
 member_met costs rows p (Row row) point meets is = meets row no_form is
 
-basis_met : (costs : CostBox) (rows : List Form) (p : Point) (basis : List Member) → IsPointOf costs p → MeetsRows rows p → All (IsFormOf costs rows) basis → MetAt (forms_of costs rows basis) p
+pub basis_met : (costs : CostBox) (rows : List Form) (p : Point) (basis : List Member) → IsPointOf costs p → MeetsRows rows p → All (IsFormOf costs rows) basis → MetAt (forms_of costs rows basis) p
 basis_met costs rows p [] point meets are = tt
 basis_met costs rows p (member ∷ members) point meets are = (
   member_met costs rows p member point meets (are 0 member (omega arith)),
@@ -111,7 +111,7 @@ not_above top D (q ∷ qs) (m ∷ ms) D_positive numbers stand low = (
   not_above top D qs ms D_positive numbers.1 stand.1 (λ k k_in. low (suc k) (omega arith)),
 )
 
-stuck_first : (top D : ℕ) (qs : List Fraction) (m : ℤ) (ms : List ℤ) → 0 < D → AreNumbers top qs → Stand D qs (m ∷ ms) → (entry qs 0).numerator <ℤ pos 0 → m <ℤ pos 0
+pub stuck_first : (top D : ℕ) (qs : List Fraction) (m : ℤ) (ms : List ℤ) → 0 < D → AreNumbers top qs → Stand D qs (m ∷ ms) → (entry qs 0).numerator <ℤ pos 0 → m <ℤ pos 0
 stuck_first top D [] m ms D_positive numbers stand below = absurd stand
 stuck_first top D (q ∷ qs) m ms D_positive numbers stand below = negative_number q.numerator m q.denominator D numbers.0.lowest.positive D_positive stand.0 below
 
@@ -161,7 +161,7 @@ corner_is D (l ∷ ls) [] same high = absurd (omega arith)
 corner_is D (l ∷ ls) (ts ∷ lows) same high =
     (corner_first l D (number_at ts 0) (high 0 (omega arith)), corner_is D ls lows (omega arith) (λ v v_in. high (suc v) (omega arith)))
 
-corner_long : (D : ℕ) (low : List ℕ) (lows : List (List ℤ)) → length low ≡ length lows → length (corner_of D low lows) ≡ length low
+pub corner_long : (D : ℕ) (low : List ℕ) (lows : List (List ℤ)) → length low ≡ length lows → length (corner_of D low lows) ≡ length low
 corner_long D [] lows same = refl
 corner_long D (l ∷ ls) [] same = absurd (omega arith)
 corner_long D (l ∷ ls) (ts ∷ lows) same = let rest = corner_long D ls lows (omega arith) in omega arith
@@ -170,16 +170,18 @@ corner_long D (l ∷ ls) (ts ∷ lows) same = let rest = corner_long D ls lows (
 abbrev pub corner_point : (t : Table) → IsWholeTable t → Point
 corner_point t w = record { scale = w.common; values = corner_of w.common t.costs.low w.lows }
 
-counted_lows : (t : Table) (w : IsWholeTable t) → length t.costs.low ≡ length w.lows
+pub counted_lows : (t : Table) (w : IsWholeTable t) → length t.costs.low ≡ length w.lows
 counted_lows t w = lows_counted t.top t.costs t.rows.items t.basis.items t.lines.items w
 
-at_corner : (t : Table) (w : IsWholeTable t) → AreHigh t → IsCorner w.common t.costs.low w.lows (corner_of w.common t.costs.low w.lows)
-at_corner t w high =
-    corner_is w.common t.costs.low w.lows (counted_lows t w)
-    (λ v v_in.
-    (let stands = low_line_stands t.top t.costs t.rows.items t.basis.items t.lines.items w v 0 v_in (omega arith) in
+-- no number of x - low is negative at the corner
+pub first_high : (t : Table) (w : IsWholeTable t) → AreHigh t → (v : ℕ) → v < length t.costs.low → pos 0 ≤ℤ number_at (slice_index_or w.lows v []) 0
+first_high t w high v v_in =
+    let stands = low_line_stands t.top t.costs t.rows.items t.basis.items t.lines.items w v 0 v_in (omega arith) in
     high_number (entry (line_at t v) 0).numerator (number_at (slice_index_or w.lows v []) 0) (entry (line_at t v) 0).denominator w.common stands.0 w.positive stands.1
-    (high v [] (omega (arith, members_long t.costs (length t.rows.items), zip_long (IsLine t.top w.common t.costs t.rows.items w.lows) (members_of t.costs (length t.rows.items)) t.lines.items w.lines, v_in)))))
+    (high v [] (omega (arith, members_long t.costs (length t.rows.items), zip_long (IsLine t.top w.common t.costs t.rows.items w.lows) (members_of t.costs (length t.rows.items)) t.lines.items w.lines, v_in)))
+
+pub at_corner : (t : Table) (w : IsWholeTable t) → AreHigh t → IsCorner w.common t.costs.low w.lows (corner_of w.common t.costs.low w.lows)
+at_corner t w high = corner_is w.common t.costs.low w.lows (counted_lows t w) (first_high t w high)
 
 -- each form is its constant at the corner
 corner_high : (t : Table) (w : IsWholeTable t) → AreHigh t → (line : ℕ) → line < length t.lines.items → pos 0 ≤ℤ value_at (member_form (length t.costs.low) t.rows.items (member_at t line)) (corner_point t w)
@@ -199,8 +201,8 @@ member_high t w high line member line_in is =
     (corner_high t w high line (omega (arith, zip_long (IsLine t.top w.common t.costs t.rows.items w.lows) (members_of t.costs (length t.rows.items)) t.lines.items w.lines, line_in)))
 
 -- Where no constant is negative, the corner is a point of the box that meets the rows.
-pub corner_solves : (t : Table) → IsWholeTable t → AreHigh t → IsSolved t.costs t.rows.items Feasible
-corner_solves t w high =
+pub corner_fits : (t : Table) (w : IsWholeTable t) → AreHigh t → IsPointOf t.costs (corner_point t w) × MeetsRows t.rows.items (corner_point t w)
+corner_fits t w high =
     let n = length t.costs.low in
     let p = corner_point t w in
     let many = members_long t.costs (length t.rows.items) in
@@ -217,20 +219,20 @@ corner_solves t w high =
     (ap (λ (m : ℕ). value_at (member_form m t.rows.items (high_member t.costs k)) p) (sym counted) ∙ high_value_at t.rows.items k (slice_index t.costs.high k) p k_in)
     (member_high t w high (n + k) (high_member t.costs k) (omega (arith, many, counted, k_in)) (high_place t.costs (length t.rows.items) k (Low 0 0) (omega (arith, counted, k_in))))
     ) in (
-      p,
-      (
-        record {
-          scale = w.positive;
-          low_count = sym counted;
-          high_count = w.box.high_count ∙ sym counted;
-          above = above;
-          below = below;
-        },
-        λ k d k_in.
-            subst (λ (f : Form). pos 0 ≤ℤ value_at f p) (get_or_default t.rows.items k no_form d k_in)
-            (member_high t w high (n + n + k) (Row k) (omega (arith, many, k_in)) (row_place t.costs (length t.rows.items) k (Low 0 0) k_in)),
-      ),
+      record {
+        scale = w.positive;
+        low_count = sym counted;
+        high_count = w.box.high_count ∙ sym counted;
+        above = above;
+        below = below;
+      },
+      λ k d k_in.
+          subst (λ (f : Form). pos 0 ≤ℤ value_at f p) (get_or_default t.rows.items k no_form d k_in)
+          (member_high t w high (n + n + k) (Row k) (omega (arith, many, k_in)) (row_place t.costs (length t.rows.items) k (Low 0 0) k_in)),
     )
+
+pub corner_solves : (t : Table) → IsWholeTable t → AreHigh t → IsSolved t.costs t.rows.items Feasible
+corner_solves t w high = (corner_point t w, corner_fits t w high)
 
 -- what the lines show is so
 pub shown_solves : (t : Table) (w : IsWholeTable t) (solved : Solved) → IsShown t.basis.items t.lines.items (Ended solved) → IsSolved t.costs t.rows.items solved

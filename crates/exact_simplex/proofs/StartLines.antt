@@ -63,6 +63,17 @@ pub unit_line_long : (line : List Fraction) (width v : ℕ) (constant coefficien
 unit_line_long line width v constant coefficient line_is =
     ap length line_is ∙ ap suc (length-map (unit width v coefficient) whole ∙ length-mapped (λ k. cond (k == v) coefficient (pos 0)) 0 width)
 
+-- a top has at most 127 bits, and isn't 0
+pub top_small : (top : ℕ) → IsTop top → top < 2 ^ 127
+top_small top is_top =
+    let most : 2 ^ is_top.0 ≤ 2 ^ 127 = pow_mono is_top.2 in
+    omega (arith, is_top.3)
+
+pub top_some : (top : ℕ) → IsTop top → 1 ≤ top
+top_some top is_top =
+    let most : 2 ^ 28 ≤ 2 ^ is_top.0 = pow_mono is_top.1 in
+    omega (arith, is_top.3)
+
 -- a whole number below 2^27 is a number of each table
 pub whole_number : (top : ℕ) (m : ℤ) → IsTop top → nat_abs m < 2 ^ 27 → IsNumber top (whole m)
 whole_number top m is_top small =

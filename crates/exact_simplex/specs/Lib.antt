@@ -6,3 +6,6 @@ pub mod Wholes
 pub mod Pivots
 pub mod Ranks
 pub mod Sums
+pub mod Corners
+pub mod Multipliers
+pub mod RowLines

@@ -1,5 +1,7 @@
 //! What the work on a tableau answers, and how far it is.
 
+use cost_base::OutOfMemory;
+use std::alloc::AllocFailed;
 use wide_fraction::Wide;
 
 /// How the work on a tableau ended.
@@ -31,4 +33,37 @@ pub enum SimplexStop {
     TooWide(Wide),
     /// Want of memory.
     OutOfMemory,
+}
+
+impl From<Wide> for SimplexStop {
+    ghost use Rattle.std.specs.Prelude.{◌≡◌};
+    ghost use Rattle.exact_simplex.specs.declared.stage.SimplexStop.TheVariants.{TooWide};
+
+    ghost from_gives = { λ wide stop. stop ≡ TooWide wide };
+
+    fn from(wide: Wide) -> SimplexStop {
+        SimplexStop::TooWide(wide)
+    }
+}
+
+impl From<OutOfMemory> for SimplexStop {
+    ghost use Rattle.std.specs.Prelude.{◌≡◌};
+    ghost use Rattle.exact_simplex.specs.declared.stage.SimplexStop.TheVariants.{OutOfMemory as NoMemory};
+
+    ghost from_gives = { λ _ stop. stop ≡ NoMemory };
+
+    fn from(_error: OutOfMemory) -> SimplexStop {
+        SimplexStop::OutOfMemory
+    }
+}
+
+impl<T: Drop> From<AllocFailed<T>> for SimplexStop {
+    ghost use Rattle.std.specs.Prelude.{◌≡◌};
+    ghost use Rattle.exact_simplex.specs.declared.stage.SimplexStop.TheVariants.{OutOfMemory as NoMemory};
+
+    ghost from_gives = { λ _ stop. stop ≡ NoMemory };
+
+    fn from(_error: AllocFailed<T>) -> SimplexStop {
+        SimplexStop::OutOfMemory
+    }
 }

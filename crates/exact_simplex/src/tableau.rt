@@ -1,15 +1,19 @@
 //! The tableau: a table, and how far the work on it is.
-ghost use Rattle.std.specs.Prelude.{◌≡◌, ℕ, ◌^◌, ◌<◌, [], length, IfErr, IfOk, OnOk};
+ghost use Rattle.std.specs.Prelude.{◌≡◌, ℕ, suc, ◌^◌, ◌<◌, ◌≤◌, ◌++◌, [], ◌∷◌, length, IfErr, IfOk, OnErr, OnOk};
 ghost use Rattle.path_rows.specs.Basis.{IsBasis};
-ghost use Rattle.path_rows.specs.Boxes.{IsBox};
+ghost use Rattle.path_rows.specs.Boxes.{IsBox, Refutes};
+ghost use Rattle.path_rows.specs.Steps.{IsTooWide};
+ghost use Rattle.exact_simplex.specs.declared.stage.Solved.TheVariants.{Feasible, Refuted};
 ghost use Rattle.exact_simplex.specs.declared.stage.Stage.TheVariants.{Ended, Stopped};
-ghost use Rattle.exact_simplex.specs.Tableaus.{IsGoing, IsSolved, IsStop, starting};
+ghost use Rattle.exact_simplex.specs.Corners.{IsLeastPoint};
+ghost use Rattle.exact_simplex.specs.Tableaus.{FitsBox, IsGoing, IsRefused, IsSolved, IsStop, IsTold, starting, wide_at};
 
 use crate::start::starting_table;
 use crate::table::Table;
-use crate::{Solved, Stage};
+use crate::{SimplexStop, Solved, Stage};
+use area_graph::Point;
 use cost_base::OutOfMemory;
-use path_rows::{CostBox, Member};
+use path_rows::{CostBox, Form, Member, Parts};
 use std::alloc::Global;
 use std::marker::Model;
 use wide_fraction::{Top, Wide};
@@ -82,6 +86,31 @@ impl Tableau {
         }
     }
 
+    /// Adds the form of a row, with its line at the present basis: first the line's constant, and then its columns in
+    /// order. A column's sum starts with 0, and that of the constant with the form's value at the low corner; the terms
+    /// of the coefficients other than 0 are added in the order of the variables. All memory is taken before.
+    ///
+    /// # Errors
+    ///
+    /// - `TooWide` where a step makes a whole number that passes the top. It stops the tableau, which has the row then;
+    ///   every later call tells the same step.
+    /// - `OutOfMemory` where something got no memory. Then the tableau is as before.
+    pub fn add_row(&mut self, alloc: Global, form: &Form) -> Result<(), SimplexStop>
+        requires fits { FitsBox self.old.costs form.now }
+        ensures going { OnOk result (IsGoing self.old.stage) }
+        ensures added { OnOk result (self.new ≡ record { top = self.old.top; costs = self.old.costs; rows = self.old.rows ++ form.now ∷ []; basis = self.old.basis; stage = Stage.Open }) }
+        ensures refused { IfErr result (IsRefused self.old form.now self.new) }
+    {
+        self.going()?;
+        let row = self.table.make_room(alloc, form)?;
+        let put = self.table.put_row(row);
+        self.stage = match &put {
+            Ok(()) => Stage::Open,
+            Err(step) => Stage::Stopped(*step),
+        };
+        Ok(put?)
+    }
+
     /// Whether some rational point of the box meets all rows. It takes no memory.
     ///
     /// # Errors
@@ -101,5 +130,40 @@ impl Tableau {
             Err(wide) => Stage::Stopped(*wide),
         };
         settled
+    }
+
+    /// The lexicographically least point of the box that meets all rows, into `into`. It takes no memory.
+    ///
+    /// # Errors
+    ///
+    /// `Wide` where a step makes a whole number that passes the top; then `into` is as before.
+    pub fn point(&self, into: &mut Point) -> Result<(), Wide>
+        requires solved { self.now.stage ≡ Ended Feasible }
+        requires places { length into.old.values ≡ length self.now.costs.low }
+        ensures least { OnOk result (IsLeastPoint self.now.costs self.now.rows into.new) }
+        ensures small { OnOk result (into.new.scale < 2 ^ 100) }
+        ensures kept { OnErr result (into.new ≡ into.old) }
+        ensures wide { IfErr result (λ wide. IsTooWide self.now.top self.now.costs self.now.rows (wide_at wide self.now.basis)) }
+    {
+        self.table.put_corner(into)
+    }
+
+    /// Whole multipliers over the rows held, numbered as they were added, that refute the box: under them the sum of
+    /// the rows is negative at every point of it (Ben-Ameur and Gourdin 2003). They are put into `into`. The form that
+    /// `solve` found counts once where it is a row, and each row of the basis by the negated entry of that form in its
+    /// column; all times the least number that makes them whole.
+    ///
+    /// # Errors
+    ///
+    /// `TooWide` where a step makes a whole number that passes the top; `OutOfMemory`. After both `into` is as before.
+    pub fn multipliers(&self, alloc: Global, form: u64, into: &mut Parts) -> Result<(), SimplexStop>
+        requires solved { self.now.stage ≡ Ended (Refuted form) }
+        ensures refutes { OnOk result (Refutes self.now.rows into.new self.now.costs) }
+        ensures few { OnOk result (length into.new ≤ suc (length self.now.costs.low)) }
+        ensures kept { OnErr result (into.new ≡ into.old) }
+        ensures told { IfErr result (IsTold self.now) }
+    {
+        *into = self.table.multipliers(alloc, form as usize)?;
+        Ok(())
     }
 }

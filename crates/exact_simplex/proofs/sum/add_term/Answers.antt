@@ -1,4 +1,4 @@
--- The coefficient is a number of each table.
+-- The coefficient is a number of each table, and the line's entry is one of this.
 use Rattle.std.proofs.Common.{◌<◌, ◌^◌, ◌∙◌, ap, sym, subst, nat_abs, w64, arith}
 use Rattle.std.proofs.lemmas.Int.{to_z-of_z}
 use Rattle.std.proofs.lemmas.Result.{err_from_is_err_and}
@@ -7,6 +7,7 @@ use Rattle.whole_numbers.specs.Fractions.{Fraction, whole}
 use Rattle.wide_fraction.specs.Widths.{IsWithin}
 use Rattle.exact_simplex.specs.Entries.{IsPassing}
 use Rattle.exact_simplex.proofs.Passing.{named_passes}
+use Rattle.exact_simplex.proofs.RowLaws.{number_at}
 use Rattle.exact_simplex.proofs.StartLines.{whole_number}
 use Rattle.exact_simplex.proofs.sum.add_term.Goals as goal
 
@@ -15,6 +16,10 @@ mul-requires-clause-left_within c =
     let small : nat_abs c.args.coefficient < 2 ^ 27 = omega (arith, c.requires.small) in
     subst (IsWithin c.args.top) (sym (c.whole.ensures ∙ ap whole (to_z-of_z w64 c.args.coefficient c.ranges.coefficient)))
     (whole_number c.args.top c.args.coefficient c.value.ensures.width small).within
+
+pub mul-requires-clause-right_within : goal.mul-requires-clause-right_within
+mul-requires-clause-right_within c =
+    subst (IsWithin c.args.top) (sym c.at-value.ensures) (number_at c.args.top c.args.line.now c.args.place c.requires.line c.requires.place).within
 
 pub returns-in_err-term-clause-passes : goal.returns-in_err-term-clause-passes
 returns-in_err-term-clause-passes c =

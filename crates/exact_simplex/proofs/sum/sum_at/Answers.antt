@@ -7,8 +7,8 @@ use Rattle.std.proofs.lemmas.Result.{err_from_is_err_and}
 use Rattle.whole_numbers.specs.Fractions.{Fraction, plus}
 use Rattle.path_rows.specs.Basis.{entry}
 use Rattle.exact_simplex.specs.Sums.{IsTermSum, sum_from, term_of}
-use Rattle.exact_simplex.specs.TableRows.{IsNumber}
-use Rattle.exact_simplex.proofs.RowLaws.{number_at, rows_at}
+use Rattle.exact_simplex.specs.TableRows.{AreNumbers}
+use Rattle.exact_simplex.proofs.RowLaws.{rows_at}
 use Rattle.exact_simplex.proofs.Sums.{sum_next, sum_wide}
 use Rattle.exact_simplex.proofs.sum.sum_at.Goals as goal
 
@@ -22,22 +22,17 @@ read_back z small =
 pub loop-var-init : goal.loop-var-init
 loop-var-init c = record { so_far = refl; number = c.requires.start }
 
-pub at-requires : goal.at-requires
-at-requires c =
-    let there : c.loop-var.var < length c.args.lines.now = omega (arith, c.loop-var-test.true, c.requires.many) in
-    let row_is = c.index-lines-var.is ∙ get_or_default c.args.lines.now c.loop-var.var c.index-lines-var.result [] there in
-    omega (arith, ap length row_is, (rows_at c.args.top c.requires.lines.0 c.args.lines.now c.loop-var.var [] c.requires.lines.2 there).0, c.requires.lines.1)
-
-pub add_term-requires-clause-sum : goal.add_term-requires-clause-sum
-add_term-requires-clause-sum c = c.loop-var.invariant.number
-
-pub add_term-requires-clause-value : goal.add_term-requires-clause-value
-add_term-requires-clause-value c =
+pub add_term-requires : goal.add_term-requires
+add_term-requires c =
     let there : c.loop-var.var < length c.args.lines.now = omega (arith, c.loop-var-test.true, c.requires.many) in
     let row_is = c.index-lines-var.is ∙ get_or_default c.args.lines.now c.loop-var.var c.index-lines-var.result [] there in
     let row = rows_at c.args.top c.requires.lines.0 c.args.lines.now c.loop-var.var [] c.requires.lines.2 there in
-    subst (IsNumber c.args.top) (sym (c.at.ensures ∙ ap (λ (qs : List Fraction). entry qs c.args.place) row_is))
-    (number_at c.args.top (slice_index_or c.args.lines.now c.loop-var.var []) c.args.place row.1 (omega (arith, row.0, c.requires.lines.1)))
+    record {
+      sum = c.loop-var.invariant.number;
+      line = subst (AreNumbers c.args.top) (sym row_is) row.1;
+      place = omega (arith, ap length row_is, row.0, c.requires.lines.1);
+      small = subst (λ (z : ℤ). nat_abs z ≤ 2 ^ 26) (sym (read_back (slice_index_or c.args.coefficients.now c.loop-var.var (pos 0)) (c.requires.small c.loop-var.var (pos 0) c.loop-var-test.true))) (c.requires.small c.loop-var.var (pos 0) c.loop-var-test.true);
+    }
 
 pub returns-in_err-sum-clause-step : goal.returns-in_err-sum-clause-step
 returns-in_err-sum-clause-step c =
@@ -45,19 +40,19 @@ returns-in_err-sum-clause-step c =
     let there : c.loop-var.var < length c.args.lines.now = omega (arith, c.loop-var-test.true, c.requires.many) in
     let row_is = c.index-lines-var.is ∙ get_or_default c.args.lines.now c.loop-var.var c.index-lines-var.result [] there in
     rw (p.1, p.2)
-    (sum_wide c.args.start c.loop-var.sum c.at.result c.args.coefficients.now c.args.lines.now c.args.place c.loop-var.var c.in_err-sum.field-0.0 c.loop-var-test.true there
-    (c.at.ensures ∙ ap (λ (qs : List Fraction). entry qs c.args.place) row_is) c.loop-var.invariant.so_far
-    (subst (λ (z : ℤ). IsTermSum c.loop-var.sum z c.at.result c.in_err-sum.field-0.0) (read_back (slice_index_or c.args.coefficients.now c.loop-var.var (pos 0)) (c.requires.small c.loop-var.var (pos 0) c.loop-var-test.true)) c.in_err-sum.ensures.step))
+    (sum_wide c.args.start c.loop-var.sum (entry c.index-lines-var.result c.args.place) c.args.coefficients.now c.args.lines.now c.args.place c.loop-var.var c.in_err-sum.field-0.0 c.loop-var-test.true there
+    (ap (λ (qs : List Fraction). entry qs c.args.place) row_is) c.loop-var.invariant.so_far
+    (subst (λ (z : ℤ). IsTermSum c.loop-var.sum z (entry c.index-lines-var.result c.args.place) c.in_err-sum.field-0.0) (read_back (slice_index_or c.args.coefficients.now c.loop-var.var (pos 0)) (c.requires.small c.loop-var.var (pos 0) c.loop-var-test.true)) c.in_err-sum.ensures.step))
 
 pub loop-var-preserved : goal.loop-var-preserved
 loop-var-preserved c =
     let there : c.loop-var.var < length c.args.lines.now = omega (arith, c.loop-var-test.true, c.requires.many) in
     let row_is = c.index-lines-var.is ∙ get_or_default c.args.lines.now c.loop-var.var c.index-lines-var.result [] there in
     record {
-      so_far = sum_next c.args.start c.loop-var.sum c.in_ok-sum.sum c.at.result c.args.coefficients.now c.args.lines.now c.args.place c.loop-var.var c.loop-var-test.true there
-          (c.at.ensures ∙ ap (λ (qs : List Fraction). entry qs c.args.place) row_is) c.loop-var.invariant.so_far
+      so_far = sum_next c.args.start c.loop-var.sum c.in_ok-sum.sum (entry c.index-lines-var.result c.args.place) c.args.coefficients.now c.args.lines.now c.args.place c.loop-var.var c.loop-var-test.true there
+          (ap (λ (qs : List Fraction). entry qs c.args.place) row_is) c.loop-var.invariant.so_far
           (c.in_ok-sum.ensures.exact
-          ∙ ap (λ (z : ℤ). fold plus c.loop-var.sum (term_of z c.at.result)) (read_back (slice_index_or c.args.coefficients.now c.loop-var.var (pos 0)) (c.requires.small c.loop-var.var (pos 0) c.loop-var-test.true)));
+          ∙ ap (λ (z : ℤ). fold plus c.loop-var.sum (term_of z (entry c.index-lines-var.result c.args.place))) (read_back (slice_index_or c.args.coefficients.now c.loop-var.var (pos 0)) (c.requires.small c.loop-var.var (pos 0) c.loop-var-test.true)));
       number = c.in_ok-sum.ensures.number;
     }
 

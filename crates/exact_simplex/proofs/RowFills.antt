@@ -1,0 +1,98 @@
+-- A line of zeros is filled from the left.
+use Rattle.std.proofs.Common.{◌≡◌, ℕ, zero, suc, ◌+◌, ◌<◌, ◌≤◌, refl, sym, ◌∙◌, ap, subst, List, [], ◌∷◌, map, take, length, arith, inl, inr, add-one}
+use Rattle.std.specs.Prelude.{ℤ, pos, ◌+ℤ◌, ◌*ℤ◌, Result, Ok, Err, IfErr, slice_index_or, slice_set}
+use Rattle.std.proofs.lemmas.Bool.{cases_lt}
+use Rattle.std.proofs.lemmas.List.{get_or-set_other, get_or-set_same, length-set}
+use Rattle.cost_base.specs.Lists.{numbers_from}
+use Rattle.whole_numbers.specs.Fractions.{Fraction}
+use Rattle.whole_numbers.proofs.Ring.{var, num, ◌⊕◌, ring}
+use Rattle.path_rows.specs.declared.form.Form.{Form}
+use Rattle.path_rows.specs.declared.form.CostBox.{CostBox}
+use Rattle.path_rows.specs.Forms.{dot}
+use Rattle.path_rows.specs.Basis.{entry}
+use Rattle.path_rows.specs.Steps.{start_of_sum}
+use Rattle.wide_fraction.specs.declared.steps.Wide.{Wide}
+use Rattle.exact_simplex.specs.Entries.{IsPassing}
+use Rattle.exact_simplex.specs.RowLines.{IsRowStep, sum_at_place}
+use Rattle.exact_simplex.specs.Sums.{IsSumStep}
+use Rattle.exact_simplex.specs.TableRows.{AreNumbers, IsNumber, nothing}
+use Rattle.exact_simplex.proofs.Filled.{length-mapped, numbers_mapped}
+use Rattle.exact_simplex.proofs.Numbers.{nothing_number}
+use Rattle.exact_simplex.proofs.RowLaws.{written_numbers}
+use Rattle.exact_simplex.proofs.StartLines.{blank_at}
+
+-- the first places of a line have the form's sums, and the others 0
+pub record IsFilledTo (top : ℕ) (costs : CostBox) (form : Form) (lines : List (List Fraction)) (count : ℕ) (line : List Fraction) : Type 0 where
+  pub long : length line ≡ suc (length costs.low)
+  pub before : (place : ℕ) → place < count → entry line place ≡ sum_at_place costs form lines place
+  pub after : (place : ℕ) → count ≤ place → entry line place ≡ nothing
+  pub numbers : AreNumbers top line
+
+-- one more place is filled
+pub filled_next : (top : ℕ) (costs : CostBox) (form : Form) (lines : List (List Fraction)) (count : ℕ) (line new : List Fraction) (q : Fraction) → count < suc (length costs.low) → q ≡ sum_at_place costs form lines count → IsNumber top q → new ≡ slice_set line count q → IsFilledTo top costs form lines count line → IsFilledTo top costs form lines (suc count) new
+filled_next top costs form lines count line new q count_in q_is number new_is f =
+    subst (IsFilledTo top costs form lines (suc count)) (sym new_is)
+    (record {
+      long = length-set line count q ∙ f.long;
+      before = λ place place_in. elim (cases_lt place count) [
+        | inl earlier ↦ get_or-set_other line count place q nothing (λ same. absurd (omega (arith, same, earlier))) ∙ f.before place earlier
+        | inr later ↦
+            let here : place ≡ count = omega (arith, place_in, later) in
+            subst (λ (k : ℕ). entry (slice_set line count q) k ≡ sum_at_place costs form lines k) (sym here)
+            (get_or-set_same line count q nothing (omega (arith, f.long, count_in)) ∙ q_is)
+      ];
+      after = λ place later. get_or-set_other line count place q nothing (λ same. absurd (omega (arith, same, later))) ∙ f.after place (omega (arith, later));
+      numbers = written_numbers top line count q f.numbers number;
+    })
+
+-- the constant is filled first
+pub filled_first : (top : ℕ) (costs : CostBox) (form : Form) (lines : List (List Fraction)) (line new : List Fraction) (q : Fraction) → line ≡ nothing ∷ map (λ column. nothing) (numbers_from 0 (length costs.low)) → q ≡ sum_at_place costs form lines 0 → IsNumber top q → new ≡ slice_set line 0 q → IsFilledTo top costs form lines 1 new
+filled_first top costs form lines line new q blank q_is number new_is =
+    let none = nothing_number top q number in
+    filled_next top costs form lines 0 line new q (omega arith) q_is number new_is
+    (subst (IsFilledTo top costs form lines 0) (sym blank)
+    (record {
+      long = ap suc (length-mapped (λ column. nothing) 0 (length costs.low));
+      before = λ place place_in. absurd (omega (arith, place_in));
+      after = blank_after (length costs.low);
+      numbers = (none, numbers_mapped top (λ column. nothing) (numbers_from 0 (length costs.low)) (λ k. none));
+    }))
+  where
+    blank_after : (n place : ℕ) → 0 ≤ place → entry (nothing ∷ map (λ column. nothing) (numbers_from 0 n)) place ≡ nothing
+    blank_after n zero from = refl
+    blank_after n (suc k) from = blank_at 0 n k
+
+dot_suc : (cs : List ℤ) (xs : List ℕ) (i : ℕ) → i < length cs → length cs ≡ length xs → dot (take (suc i) cs) (take (suc i) xs) ≡ (dot (take i cs) (take i xs) +ℤ (slice_index_or cs i (pos 0) *ℤ pos (slice_index_or xs i 0)))
+dot_suc [] xs i i_in same = absurd (omega arith)
+dot_suc (c ∷ cs) [] i i_in same = absurd (omega arith)
+dot_suc (c ∷ cs) (x ∷ xs) zero i_in same = ring ((c *ℤ pos x) ∷ []) (var 0 ⊕ num (pos 0)) (num (pos 0) ⊕ var 0) refl
+dot_suc (c ∷ cs) (x ∷ xs) (suc i) i_in same =
+    let last = slice_index_or cs i (pos 0) *ℤ pos (slice_index_or xs i 0) in
+    ap (λ z. (c *ℤ pos x) +ℤ z) (dot_suc cs xs i (omega arith) (omega arith))
+    ∙ ring ((c *ℤ pos x) ∷ dot (take i cs) (take i xs) ∷ last ∷ []) (var 0 ⊕ (var 1 ⊕ var 2)) ((var 0 ⊕ var 1) ⊕ var 2) refl
+
+-- the products of the first places, and one more
+pub dot_more : (cs : List ℤ) (xs : List ℕ) (i : ℕ) → i < length cs → length cs ≡ length xs → dot (take (i + 1) cs) (take (i + 1) xs) ≡ (dot (take i cs) (take i xs) +ℤ (slice_index_or cs i (pos 0) *ℤ pos (slice_index_or xs i 0)))
+dot_more cs xs i i_in same = rw add-one (dot_suc cs xs i i_in same)
+
+-- a step of the sum at a place is a step of the line
+pub step_at : {X : Type 0} (r : Result X Wide) (top : ℕ) (costs : CostBox) (form : Form) (lines : List (List Fraction)) (place : ℕ) (start : Fraction) (cs : List ℤ) → place < suc (length costs.low) → start ≡ start_of_sum costs form place → cs ≡ form.coefficients → IfErr r (λ wide. IsSumStep start cs lines place wide) → IfErr r (λ wide. IsPassing top wide) → IfErr r (IsRowStep top costs form lines)
+step_at (Ok q) top costs form lines place start cs place_in start_is cs_are step passes = tt
+step_at (Err wide) top costs form lines place start cs place_in start_is cs_are step passes =
+    record {
+      place = place;
+      place_in = place_in;
+      step =
+          subst (λ (q : Fraction). IsSumStep q form.coefficients lines place wide) start_is
+          (subst (λ (zs : List ℤ). IsSumStep start zs lines place wide) cs_are step);
+      passes = passes;
+    }
+
+-- one more column is filled
+pub filled_more : (top : ℕ) (costs : CostBox) (form : Form) (lines : List (List Fraction)) (column : ℕ) (line new : List Fraction) (q : Fraction) → column < length costs.low → q ≡ sum_at_place costs form lines (column + 1) → IsNumber top q → new ≡ slice_set line (suc column) q → IsFilledTo top costs form lines (suc column) line → IsFilledTo top costs form lines (suc (column + 1)) new
+filled_more top costs form lines column line new q column_in q_is number new_is f =
+    subst (λ (k : ℕ). IsFilledTo top costs form lines (suc k) new) (sym (one_more column))
+    (filled_next top costs form lines (suc column) line new q (omega (arith, column_in)) (q_is ∙ ap (sum_at_place costs form lines) (one_more column)) number new_is f)
+  where
+    one_more : (k : ℕ) → k + 1 ≡ suc k
+    one_more k = omega arith
