@@ -30,7 +30,7 @@ fn refuse_ports(alloc: Global, configs: &[RouterConfig], ports: &[Port]) -> Resu
     ensures few { OnOk result (length ports.now ≤ 4000) }
 {
     refuse_many_ports(ports)?;
-    refuse_second_name(configs)?;
+    refuse_second_name(alloc, configs)?;
     refuse_second_of_router(alloc, ports)?;
     refuse_second_of_address(alloc, ports)?;
     refuse_mismatch(alloc, ports)?;
