@@ -10,7 +10,7 @@ use Rattle.lsdb_build.specs.Topology.{places_from}
 use Rattle.lsdb_build.specs.Places.{listed, places_at, passes}
 
 -- a subnet is its length and its address
-same_subnets : (s t : Subnet) → same_subnet s t ≡ true → s ≡ t
+pub same_subnets : (s t : Subnet) → same_subnet s t ≡ true → s ≡ t
 same_subnets s t same =
     let parts = and_parts (eqb s.length t.length) (eqb s.address t.address) same in
     let lengths = eqb-true s.length t.length parts.0 in
