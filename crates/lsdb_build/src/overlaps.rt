@@ -72,8 +72,8 @@ fn note_prefixes(enclosing: &mut Owners, port: &Port) -> Result<(), OutOfMemory>
     Ok(())
 }
 
-/// Whether an earlier port of another router may have an overlapping subnet: one of the subnets seen contains the port's,
-/// or one of the prefixes that enclose them is the port's subnet. Where neither holds, none overlaps.
+/// Whether an earlier port of another router may have an overlapping subnet: one of the subnets seen contains the
+/// port's, or one of the prefixes that enclose them is the port's subnet. Where neither holds, none overlaps.
 fn may_overlap(seen: &Owners, enclosing: &Owners, port: &Port) -> bool
     ensures { (before : List Port) → All (HasSubnet seen.now.by_prefix) before → All (HasPrefixes enclosing.now.by_prefix) before → is_overlap before port.now ≡ true → result ≡ true }
 {
@@ -82,7 +82,8 @@ fn may_overlap(seen: &Owners, enclosing: &Owners, port: &Port) -> bool
 
 /// Refuses the first port of which an earlier one, of another router, has an overlapping subnet.
 ///
-/// The ports before are compared one by one only at a port whose subnet lies in or round an earlier one of another router.
+/// The ports before are compared one by one only at a port whose subnet lies in or round an earlier one of another
+/// router.
 pub fn refuse_overlap(alloc: Global, ports: &[Port]) -> Result<(), TopologyStop>
     requires { length ports.now ≤ 4000 }
     ensures { let fault = at_port 16 (first_where is_overlap [] ports.now) in
