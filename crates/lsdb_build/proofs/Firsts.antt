@@ -2,6 +2,7 @@
 use Rattle.std.proofs.Common.{append-nil, ◌≡◌, ℕ, ◌+◌, ◌<◌, ◌++◌, Bool, true, false, filter, cond, ◌&&◌, not, List, [], ◌∷◌, Some, length, get_or, take, drop, reverse, count_by, refl, sym, ap, ◌∙◌, map}
 use Rattle.std.specs.List.{list_any}
 use Rattle.std.proofs.lemmas.List.{at_drop_more, take_more, reverse-append, map-append}
+use Rattle.std.proofs.Math.Bool.{not-not}
 use Rattle.std.proofs.lemmas.List.Elements.{filter_more}
 use Rattle.std.proofs.lemmas.List.Sorted.{list_any-IsPermutation, sum_by-IsPermutation, IsPermutation-reverse}
 use Rattle.cost_base.specs.Lists.{same_bytes}
@@ -36,7 +37,7 @@ first_members-more xs i p within is b b_is =
     ∙ ap (λ before. cond b (p ∷ first_members before (drop (i + 1) xs)) (first_members before (drop (i + 1) xs))) (reverse_more xs i p within is)
 
 -- a test of what a function gives
-list_any-map : {X Y : Type 0} (p : Y → Bool) (f : X → Y) (xs : List X) → list_any p (map f xs) ≡ list_any (λ x. p (f x)) xs
+pub list_any-map : {X Y : Type 0} (p : Y → Bool) (f : X → Y) (xs : List X) → list_any p (map f xs) ≡ list_any (λ x. p (f x)) xs
 list_any-map p f [] = refl
 list_any-map p f (x ∷ xs) = rw (list_any-map p f xs) refl
 
@@ -51,6 +52,17 @@ second_of_name-more xs i r within is =
     ∙ ap (λ (q : Router). cond (list_any (same_bytes q.name) (reverse (map (λ x. x.name) (take i xs)))) (Some i) (second_of_name (q.name ∷ reverse (map (λ x. x.name) (take i xs))) (i + 1) (drop (i + 1) xs))) (sym is)
     ∙ ap (λ b. cond b (Some i) (second_of_name (r.name ∷ reverse (map (λ x. x.name) (take i xs))) (i + 1) (drop (i + 1) xs))) (list_any-reverse (same_bytes r.name) (map (λ x. x.name) (take i xs)) ∙ list_any-map (same_bytes r.name) (λ (x : Router). x.name) (take i xs))
     ∙ ap (λ before. cond (list_any (λ x. same_bytes r.name x.name) (take i xs)) (Some i) (second_of_name before (i + 1) (drop (i + 1) xs))) (names_more xs i r within is)
+
+-- the names seen, with that of one more router
+pub names_seen : (names more : List (List ℕ)) (xs : List Router) (i : ℕ) (r : Router) → i < length xs → r ≡ get_or xs i r → names ≡ map (λ x. x.name) (take i xs) → more ≡ names ++ r.name ∷ [] → more ≡ map (λ x. x.name) (take (i + 1) xs)
+names_seen names more xs i r within is are added =
+    added ∙ ap (λ (ns : List (List ℕ)). ns ++ r.name ∷ []) are
+    ∙ sym (ap (map (λ (x : Router). x.name)) (take_more xs i r within) ∙ map-append (λ (x : Router). x.name) (take i xs) (get_or xs i r ∷ []) ∙ ap (λ (y : Router). map (λ (x : Router). x.name) (take i xs) ++ y.name ∷ []) (sym is))
+
+-- whether one before has the name, by whether the name is new
+pub name_before : (names : List (List ℕ)) (xs : List Router) (i : ℕ) (name : List ℕ) (new : Bool) → names ≡ map (λ x. x.name) (take i xs) → new ≡ not (list_any (same_bytes name) names) → list_any (λ x. same_bytes name x.name) (take i xs) ≡ not new
+name_before names xs i name new are is =
+    sym (list_any-map (same_bytes name) (λ (x : Router). x.name) (take i xs)) ∙ ap (list_any (same_bytes name)) (sym are) ∙ sym (ap not is ∙ not-not (list_any (same_bytes name) names))
 
 -- one element further, which passes or not
 pub filter_kept : {X : Type 0} (f : X → Bool) (xs : List X) (i : ℕ) (x : X) → i < length xs → x ≡ get_or xs i x → f x ≡ true → filter f (take (i + 1) xs) ≡ filter f (take i xs) ++ x ∷ []

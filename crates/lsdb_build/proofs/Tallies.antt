@@ -22,22 +22,6 @@ module _ {K S : Type 0} (eq : K → K → Bool) (laws : IsEquivalence eq) (old n
   count_alike : (other : K) → eq key other ≡ true → count_of eq old key ≡ count_of eq old other
   count_alike other same = ap (λ (test : K → Bool). unwrap_or (get_by test old) 0) (λ i x. laws.congr key other x same i)
 
-  pub tally_there : (n : ℕ) → Updates eq old new key (Some (n + 1)) → 0 < count_of eq new key
-  tally_there n updates = let e = ap (λ o. unwrap_or o 0) updates.1 in omega arith
-
-  -- no count falls
-  pub tally_kept : (n : ℕ) → n ≡ count_of eq old key → Updates eq old new key (Some (n + 1)) → (other : K) → count_of eq old other ≤ count_of eq new other
-  tally_kept n is updates other =
-      elim (cases_Bool (eq key other)) [
-        | inl same ↦
-            let now : count_of eq new other ≡ n + 1 = ap (λ o. unwrap_or o 0) (updates.0 other ∙ ap (λ b. cond b (Some (n + 1)) (get eq old other)) same) in
-            let before : n ≡ count_of eq old other = is ∙ count_alike other same in
-            omega arith
-        | inr differs ↦
-            let now : count_of eq new other ≡ count_of eq old other = ap (λ o. unwrap_or o 0) (updates.0 other ∙ ap (λ b. cond b (Some (n + 1)) (get eq old other)) differs) in
-            omega arith
-      ]
-
   pub tally_more : (n : ℕ) → n ≡ count_of eq old key → Updates eq old new key (Some (n + 1)) → (keys : List K) → IsTally eq old keys → IsTally eq new (key ∷ keys)
   tally_more n is updates keys tally other =
       elim (cases_Bool (eq key other)) [

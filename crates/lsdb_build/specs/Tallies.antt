@@ -1,5 +1,5 @@
 -- How often keys came, and the keys of ports.
-use Rattle.std.specs.Prelude.{◌≡◌, ℕ, ◌<◌, Bool, ◌==◌, ◌&&◌, nat_lt, List, unwrap_or, count_by}
+use Rattle.std.specs.Prelude.{◌≡◌, ℕ, Bool, ◌==◌, ◌&&◌, nat_lt, List, unwrap_or, count_by}
 use Rattle.std.specs.Bool.{beq}
 use Rattle.indexmap.specs.IndexMap.{IndexMap, get}
 use Rattle.interface_model.specs.Addresses.{subnet}
@@ -46,7 +46,3 @@ rank_on p = (nat_lt 0 p.interface.priority, subnet_of p)
 
 abbrev pub address_of : Port → ℕ
 address_of p = p.address
-
--- the shorter prefixes in which a port's subnet lies are there
-abbrev pub HasPrefixes : {S : Type 0} → IndexMap Subnet ℕ S → Port → Type 0
-HasPrefixes counts p = (length : ℕ) → length < p.interface.length → 0 < count_of same_subnet counts (prefix_of p length)

@@ -1,4 +1,4 @@
-ghost use Rattle.std.specs.Prelude.{◌≡◌, ◌<◌, ◌≤◌, List, [], None, length, map, slice_get, MatchResult, IfOk};
+ghost use Rattle.std.specs.Prelude.{◌≡◌, ◌<◌, ◌≤◌, ◌++◌, List, [], ◌∷◌, None, length, map, not, slice_get, IsTrue, MatchResult, IfOk};
 ghost use Rattle.std.specs.List.{list_any};
 ghost use Rattle.cost_base.specs.Lists.{same_bytes};
 ghost use Rattle.lsdb_build.specs.Neighbours.{Port};
@@ -10,6 +10,7 @@ use crate::members::members_on;
 use crate::port::{Port, Subnet, is_broadcast, subnet_of};
 use crate::tally::Tally;
 use cost_base::{Name, OutOfMemory};
+use indexmap::IndexSet;
 use interface_model::RouterConfig;
 use std::alloc::Global;
 
@@ -189,28 +190,23 @@ pub fn refuse_many_ports(ports: &[Port]) -> Result<(), TopologyStop>
     }
 }
 
-/// Whether two names are one.
-fn same_name(name: &Name, other: &Name) -> bool
-    ensures { result ≡ same_bytes name.now other.now }
+/// Adds a name to those seen; tells whether it is new.
+fn see<'a>(seen: &mut IndexSet<&'a [u8]>, name: &'a Name) -> Result<bool, OutOfMemory>
+    ensures new { IfOk result (λ new. new ≡ not (list_any (same_bytes name.now) (map (λ n. n.now) seen.old.keys))) }
+    ensures added { IfOk result (λ new. IsTrue new → map (λ n. n.now) seen.new.keys ≡ map (λ n. n.now) seen.old.keys ++ name.now ∷ []) }
 {
-    name.as_bytes() == other.as_bytes()
-}
-
-/// Whether a configuration has the name.
-fn has_name(configs: &[RouterConfig], name: &Name) -> bool
-    ensures { result ≡ list_any (λ r. same_bytes name.now r.name) configs.now }
-{
-    configs.iter().any(|config| same_name(name, &config.name))
+    Ok(seen.insert(name.as_bytes())?)
 }
 
 /// Refuses the first configuration of which an earlier one has the name.
-pub fn refuse_second_name(configs: &[RouterConfig]) -> Result<(), TopologyStop>
+pub fn refuse_second_name(alloc: Global, configs: &[RouterConfig]) -> Result<(), TopologyStop>
     requires { length configs.now ≤ 1000 }
     ensures { let fault = at_config 10 (second_of_name [] 0 configs.now) in
         MatchResult result (λ _. fault ≡ None) (Tells fault) }
 {
+    let mut seen = IndexSet::new(alloc);
     for (i, config) in configs.iter().enumerate() {
-        if has_name(&configs[..i], &config.name) {
+        if !see(&mut seen, &config.name)? {
             return Err(TopologyStop::Refused {
                 number: 10,
                 config: i as u32,

@@ -1,11 +1,13 @@
-ghost use Rattle.std.specs.Prelude.{◌≡◌, ℕ, ◌<◌, ◌≤◌, ◌&&◌, not, List, [], length, map, IfOk};
+ghost use Rattle.std.specs.Prelude.{◌≡◌, ℕ, ◌<◌, ◌≤◌, ◌&&◌, not, List, [], length, map, slice_get, IfOk};
 ghost use Rattle.std.specs.List.{list_any};
 ghost use Rattle.lsdb_build.specs.Neighbours.{Port, is_linked_kind, is_linked, linked, is_broadcast, first_members, shares_subnet, is_other, is_port, place_from};
 ghost use Rattle.lsdb_build.specs.Topology.{places_from, router_at};
 ghost use Rattle.lsdb_build.specs.Tallies.{IsTally, same_subnet, subnet_of};
+ghost use Rattle.lsdb_build.specs.Places.{ArePlaces, places_at, passes};
 ghost use Rattle.lsdb_build.specs.Checks.{far_among, mate_among, link_among};
 
 use crate::members::{count_members, members_on};
+use crate::places::{Places, places_of};
 use crate::port::{Port, Subnet, is_broadcast, shares_subnet, subnet_of};
 use crate::tally::Tally;
 use crate::{Far, Linked};
@@ -76,30 +78,35 @@ fn is_other(port: &Port, other: &Port) -> bool
     shares_subnet(port, other) && !(port.router == other.router && port.address == other.address)
 }
 
+/// Whether the port at a place is another one on a port's subnet.
+fn is_other_at(links: &[Port], place: u32, port: &Port) -> bool
+    ensures { result ≡ passes (is_other port.now) (slice_get links.now place) }
+{
+    match links.get(place as usize) {
+        Some(other) => is_other(port, other),
+        None => false,
+    }
+}
+
 /// The place of the other port of a point-to-point subnet.
-fn place_of_other(links: &[Port], port: &Port) -> Option<u32>
-    requires { length links.now ≤ 4000 }
+fn place_of_other(links: &[Port], places: &Places, port: &Port) -> Option<u32>
+    requires { ArePlaces places.now.by_subnet links.now }
     ensures { result ≡ place_from 0 (is_other port.now) links.now }
 {
-    for (i, other) in links.iter().enumerate() {
-        if is_other(port, other) {
-            return Some(i as u32);
+    let members = places.on(port);
+    for place in members {
+        if is_other_at(links, *place, port) {
+            return Some(*place);
         }
     }
     None
 }
 
 /// The place of a port's transit subnet.
-fn place_of_subnet(transit: &[Port], port: &Port) -> Option<u32>
-    requires { length transit.now ≤ 4000 }
-    ensures { result ≡ place_from 0 (shares_subnet port.now) transit.now }
+fn place_of_subnet(firsts: &Places, port: &Port) -> Option<u32>
+    ensures { (transit : List Port) → ArePlaces firsts.now.by_subnet transit → result ≡ place_from 0 (shares_subnet port.now) transit }
 {
-    for (i, first) in transit.iter().enumerate() {
-        if shares_subnet(port, first) {
-            return Some(i as u32);
-        }
-    }
-    None
+    firsts.on(port).first().copied()
 }
 
 /// The router of the link at a place, 0 where there is none.
@@ -116,36 +123,35 @@ fn router_at(links: &[Port], place: Option<u32>) -> u32
 }
 
 /// Where the link of a port leads, and its mate.
-fn far_and_mate(links: &[Port], transit: &[Port], port: &Port) -> (Far, Option<u32>)
-    requires links { length links.now ≤ 4000 }
-    requires transit { length transit.now ≤ 4000 }
-    ensures far { result.0 ≡ far_among links.now transit.now port.now port.now.interface.kind }
+fn far_and_mate(links: &[Port], places: &Places, firsts: &Places, port: &Port) -> (Far, Option<u32>)
+    requires { ArePlaces places.now.by_subnet links.now }
+    ensures far { (transit : List Port) → ArePlaces firsts.now.by_subnet transit → result.0 ≡ far_among links.now transit port.now port.now.interface.kind }
     ensures mate { result.1 ≡ mate_among links.now port.now port.now.interface.kind }
 {
     match port.interface.kind {
         Kind::PointToPoint => {
-            let mate = place_of_other(links, port);
+            let mate = place_of_other(links, places, port);
             (Far::Router(router_at(links, mate)), mate)
         }
         Kind::Broadcast => {
-            let subnet = place_of_subnet(transit, port);
+            let subnet = place_of_subnet(firsts, port);
             (Far::Subnet(subnet.unwrap_or(0)), None)
         }
     }
 }
 
-/// The link of a linked port.
+/// The link of a linked port, by the places of the linked ports and those of the first members of transit subnets.
 fn link_of(
     alloc: Global,
     links: &[Port],
-    transit: &[Port],
+    places: &Places,
+    firsts: &Places,
     port: &Port,
 ) -> Result<Linked, OutOfMemory>
-    requires links { length links.now ≤ 4000 }
-    requires transit { length transit.now ≤ 4000 }
-    ensures { IfOk result (λ link. link ≡ link_among links.now transit.now port.now) }
+    requires { ArePlaces places.now.by_subnet links.now }
+    ensures { (transit : List Port) → ArePlaces firsts.now.by_subnet transit → IfOk result (λ link. link ≡ link_among links.now transit port.now) }
 {
-    let (to, mate) = far_and_mate(links, transit, port);
+    let (to, mate) = far_and_mate(links, places, firsts, port);
     let interface = port.interface;
     Ok(Linked {
         router: port.router,
@@ -157,15 +163,21 @@ fn link_of(
     })
 }
 
-/// The links of the linked ports, in order.
-pub fn links_of(alloc: Global, links: &[Port], transit: &[Port]) -> Result<Vec<Linked>, OutOfMemory>
-    requires links { length links.now ≤ 4000 }
+/// The links of the linked ports, in order, by the places of these ports.
+pub fn links_of(
+    alloc: Global,
+    links: &[Port],
+    places: &Places,
+    transit: &[Port],
+) -> Result<Vec<Linked>, OutOfMemory>
+    requires places { ArePlaces places.now.by_subnet links.now }
     requires transit { length transit.now ≤ 4000 }
     ensures { IfOk result (λ made. made.items ≡ map (link_among links.now transit.now) links.now) }
 {
+    let firsts = places_of(alloc, transit)?;
     let mut made = Vec::new(alloc);
     for port in links {
-        let link = link_of(alloc, links, transit, port)?;
+        let link = link_of(alloc, links, places, &firsts, port)?;
         if made.push(link).is_err() {
             return Err(OutOfMemory);
         }
@@ -174,31 +186,24 @@ pub fn links_of(alloc: Global, links: &[Port], transit: &[Port]) -> Result<Vec<L
 }
 
 /// The places of the linked ports on one subnet, in order.
-fn members_of(alloc: Global, links: &[Port], first: &Port) -> Result<Vec<u32>, OutOfMemory>
-    requires { length links.now ≤ 4000 }
-    ensures { IfOk result (λ members. members.items ≡ places_from 0 (shares_subnet first.now) links.now) }
+fn members_of(alloc: Global, places: &Places, first: &Port) -> Result<Listed<u32>, OutOfMemory>
+    ensures { IfOk result (λ members. members ≡ places_at places.now.by_subnet (subnet_of first.now)) }
 {
-    let mut members = Vec::new(alloc);
-    for (i, port) in links.iter().enumerate() {
-        if shares_subnet(first, port) && members.push(i as u32).is_err() {
-            return Err(OutOfMemory);
-        }
-    }
-    Ok(members)
+    let members = places.on(first).to_vec(alloc)?;
+    Ok(Listed::from_items(members))
 }
 
-/// The members of each transit subnet, in the order of their first members.
+/// The members of each transit subnet, in the order of their first members, by the places of the linked ports.
 pub fn subnets_of(
     alloc: Global,
-    links: &[Port],
+    places: &Places,
     transit: &[Port],
 ) -> Result<Vec<Listed<u32>>, OutOfMemory>
-    requires { length links.now ≤ 4000 }
-    ensures { IfOk result (λ made. made.items ≡ map (λ first. places_from 0 (shares_subnet first) links.now) transit.now) }
+    ensures { IfOk result (λ made. (links : List Port) → ArePlaces places.now.by_subnet links → made.items ≡ map (λ first. places_from 0 (shares_subnet first) links) transit.now) }
 {
     let mut made = Vec::new(alloc);
     for first in transit {
-        let members = Listed::from_items(members_of(alloc, links, first)?);
+        let members = members_of(alloc, places, first)?;
         if made.push(members).is_err() {
             return Err(OutOfMemory);
         }

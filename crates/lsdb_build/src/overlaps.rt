@@ -1,13 +1,15 @@
 //! Overlapping subnets of two routers.
 ghost use Rattle.std.specs.Prelude.{◌&&◌, ◌||◌, ◌==◌, not, ◌≡◌, ℕ, ◌<◌, ◌≤◌, List, [], None, true, false, length, map, All, MatchResult, OnOk};
 ghost use Rattle.lsdb_build.specs.Neighbours.{Port, shares_subnet};
-ghost use Rattle.lsdb_build.specs.Tallies.{IsTally, count_of, same_subnet, subnet_of, prefix_of, HasPrefixes};
+ghost use Rattle.indexmap.specs.IndexMap.{get};
+ghost use Rattle.lsdb_build.specs.Tallies.{same_subnet, prefix_of};
+ghost use Rattle.lsdb_build.specs.Owners.{has_other, IsNoted, HasSubnet, HasPrefixes};
 ghost use Rattle.lsdb_build.specs.Topology.{holds, is_overlap, first_where, at_port, Tells};
 
 use crate::TopologyStop;
 use crate::checks::refusal_at;
+use crate::owners::Owners;
 use crate::port::{Port, Subnet, shares_subnet, subnet_of};
-use crate::tally::Tally;
 use cost_base::OutOfMemory;
 use interface_model::{contains, subnet};
 use std::alloc::Global;
@@ -47,52 +49,53 @@ fn prefix_of(port: &Port, length: u8) -> Subnet
     }
 }
 
-/// Whether a port's address lies in a shorter one of the subnets seen.
-fn is_inside(seen: &Tally<Subnet>, port: &Port) -> bool
-    ensures { result ≡ false → (l : ℕ) → l < port.now.interface.length → count_of same_subnet seen.now.counts (prefix_of port.now l) ≡ 0 }
+/// Whether a port's address lies in a shorter one of the subnets seen, which another router has.
+fn is_inside(seen: &Owners, port: &Port) -> bool
+    ensures { result ≡ false → (l : ℕ) → l < port.now.interface.length → has_other (get same_subnet seen.now.by_prefix (prefix_of port.now l)) port.now.router ≡ false }
 {
     for length in 0..port.interface.length {
-        if seen.count(prefix_of(port, length)) > 0 {
+        if seen.has_other(port.router, prefix_of(port, length)) {
             return true;
         }
     }
     false
 }
 
-/// Notes the shorter prefixes in which a port's subnet lies.
-fn note_prefixes(enclosing: &mut Tally<Subnet>, port: &Port) -> Result<(), OutOfMemory>
-    ensures noted { OnOk result (HasPrefixes enclosing.new.counts port.now) }
-    ensures kept { OnOk result ((key : Subnet) → 0 < count_of same_subnet enclosing.old.counts key → 0 < count_of same_subnet enclosing.new.counts key) }
+/// Notes a port's router at the shorter prefixes in which its subnet lies.
+fn note_prefixes(enclosing: &mut Owners, port: &Port) -> Result<(), OutOfMemory>
+    ensures noted { OnOk result (HasPrefixes enclosing.new.by_prefix port.now) }
+    ensures kept { OnOk result ((router : ℕ) (key : Subnet) → IsNoted enclosing.old.by_prefix router key → IsNoted enclosing.new.by_prefix router key) }
 {
     for length in 0..port.interface.length {
-        enclosing.note(prefix_of(port, length))?;
+        enclosing.note(port.router, prefix_of(port, length))?;
     }
     Ok(())
 }
 
-/// Whether an earlier port may have an overlapping subnet: one of the subnets seen contains the port's, or one of the
-/// prefixes that enclose them is the port's subnet. Where neither holds, none overlaps.
-fn may_overlap(seen: &Tally<Subnet>, enclosing: &Tally<Subnet>, port: &Port) -> bool
-    ensures { (before : List Port) → IsTally same_subnet seen.now.counts (map subnet_of before) → All (HasPrefixes enclosing.now.counts) before → is_overlap before port.now ≡ true → result ≡ true }
+/// Whether an earlier port of another router may have an overlapping subnet: one of the subnets seen contains the
+/// port's, or one of the prefixes that enclose them is the port's subnet. Where neither holds, none overlaps.
+fn may_overlap(seen: &Owners, enclosing: &Owners, port: &Port) -> bool
+    ensures { (before : List Port) → All (HasSubnet seen.now.by_prefix) before → All (HasPrefixes enclosing.now.by_prefix) before → is_overlap before port.now ≡ true → result ≡ true }
 {
-    is_inside(seen, port) || enclosing.count(subnet_of(port)) > 0
+    is_inside(seen, port) || enclosing.has_other(port.router, subnet_of(port))
 }
 
 /// Refuses the first port of which an earlier one, of another router, has an overlapping subnet.
 ///
-/// The ports before are compared one by one only at a port whose subnet lies in or round an earlier one.
+/// The ports before are compared one by one only at a port whose subnet lies in or round an earlier one of another
+/// router.
 pub fn refuse_overlap(alloc: Global, ports: &[Port]) -> Result<(), TopologyStop>
     requires { length ports.now ≤ 4000 }
     ensures { let fault = at_port 16 (first_where is_overlap [] ports.now) in
         MatchResult result (λ _. fault ≡ None) (Tells fault) }
 {
-    let mut seen = Tally::new(alloc);
-    let mut enclosing = Tally::new(alloc);
+    let mut seen = Owners::new(alloc);
+    let mut enclosing = Owners::new(alloc);
     for (i, port) in ports.iter().enumerate() {
         if may_overlap(&seen, &enclosing, port) && is_overlap(&ports[..i], port) {
             return Err(refusal_at(16, port));
         }
-        seen.add(subnet_of(port))?;
+        seen.note(port.router, subnet_of(port))?;
         note_prefixes(&mut enclosing, port)?;
     }
     Ok(())

@@ -1,5 +1,5 @@
 //! How often keys came.
-ghost use Rattle.std.specs.Prelude.{◌≡◌, ◌<◌, ◌≤◌, ◌^◌, List, [], ◌∷◌, IfOk, OnOk};
+ghost use Rattle.std.specs.Prelude.{◌≡◌, ◌<◌, ◌^◌, List, [], ◌∷◌, IfOk};
 ghost use Rattle.lsdb_build.specs.Tallies.{IsTally, count_of};
 
 use cost_base::OutOfMemory;
@@ -37,23 +37,10 @@ impl<K: Copy + Eq + Hash> Tally<K> {
     pub fn add(&mut self, key: K) -> Result<u32, OutOfMemory>
         requires few { count_of K.eq self.old.counts key < 2 ^ 31 }
         ensures before { IfOk result (λ count. count ≡ count_of K.eq self.old.counts key) }
-        ensures there { IfOk result (λ _. 0 < count_of K.eq self.new.counts key) }
-        ensures kept { IfOk result (λ _. (other : K) → count_of K.eq self.old.counts other ≤ count_of K.eq self.new.counts other) }
         ensures added { IfOk result (λ _. (keys : List K) → IsTally K.eq self.old.counts keys → IsTally K.eq self.new.counts (key ∷ keys)) }
     {
         let count = self.count(key);
         self.counts.insert(key, count + 1)?;
         Ok(count)
-    }
-
-    /// Adds a key, unless it is there.
-    pub fn note(&mut self, key: K) -> Result<(), OutOfMemory>
-        ensures there { OnOk result (0 < count_of K.eq self.new.counts key) }
-        ensures kept { OnOk result ((other : K) → count_of K.eq self.old.counts other ≤ count_of K.eq self.new.counts other) }
-    {
-        if self.count(key) == 0 {
-            self.add(key)?;
-        }
-        Ok(())
     }
 }

@@ -10,6 +10,7 @@ use crate::checks::{
 };
 use crate::links::{linked_ports, links_of, names_of, subnets_of, transit_ports};
 use crate::overlaps::refuse_overlap;
+use crate::places::places_of;
 use crate::port::{Port, active_ports};
 use crate::{Lsdb, TopologyStop};
 use cost_base::{Listed, OutOfMemory};
@@ -30,7 +31,7 @@ fn refuse_ports(alloc: Global, configs: &[RouterConfig], ports: &[Port]) -> Resu
     ensures few { OnOk result (length ports.now ≤ 4000) }
 {
     refuse_many_ports(ports)?;
-    refuse_second_name(configs)?;
+    refuse_second_name(alloc, configs)?;
     refuse_second_of_router(alloc, ports)?;
     refuse_second_of_address(alloc, ports)?;
     refuse_mismatch(alloc, ports)?;
@@ -59,8 +60,9 @@ fn assemble(
     }) }
 {
     let routers = names_of(alloc, configs)?;
-    let made = links_of(alloc, links, transit)?;
-    let subnets = subnets_of(alloc, links, transit)?;
+    let places = places_of(alloc, links)?;
+    let made = links_of(alloc, links, &places, transit)?;
+    let subnets = subnets_of(alloc, &places, transit)?;
     Ok(Lsdb {
         routers: Listed::from_items(routers),
         links: Listed::from_items(made),

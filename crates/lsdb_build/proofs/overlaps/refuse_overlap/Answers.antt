@@ -1,16 +1,15 @@
-use Rattle.std.proofs.Common.{◌≡◌, false, take, reverse, map, All, ap, sym, ◌∙◌, subst}
+use Rattle.std.proofs.Common.{◌≡◌, false, take, reverse, All, ap, sym, ◌∙◌, subst}
 use Rattle.std.proofs.lemmas.Bool.{false≢true, false_from_ne_true}
 use Rattle.std.proofs.lemmas.List.{at_drop_all}
 use Rattle.std.proofs.lemmas.List.Elements.{All-cons, All-weaker}
-use Rattle.lsdb_build.specs.Tallies.{same_subnet, subnet_of, prefix_of, HasPrefixes}
+use Rattle.lsdb_build.specs.declared.port.Subnet.{Subnet}
+use Rattle.lsdb_build.specs.Neighbours.{Port}
+use Rattle.lsdb_build.specs.Tallies.{subnet_of, prefix_of}
+use Rattle.lsdb_build.specs.Owners.{IsNoted, HasSubnet, HasPrefixes}
 use Rattle.lsdb_build.specs.Topology.{first_where, is_overlap, at_port}
 use Rattle.lsdb_build.proofs.Firsts.{first_where-more, list_any-reverse, reverse_more}
-use Rattle.lsdb_build.proofs.Tallies.{tally_on, tally_few}
 use Rattle.lsdb_build.proofs.overlaps.refuse_overlap.Goals as goal
 use Rattle.lsdb_build.proofs.overlaps.refuse_overlap.Goals.{else-may_overlap-via-then-may_overlap+else-is_overlap, else-may_overlap-via-else-may_overlap}
-
-pub add-requires : goal.add-requires
-add-requires c = record { few = tally_few same_subnet subnet_of c.loop-i.seen.counts c.args.ports.now c.loop-i.i c.loop-i.invariant.seen c.requires c.subnet_of.result }
 
 pub loop-i-preserved : goal.loop-i-preserved
 loop-i-preserved c =
@@ -18,16 +17,21 @@ loop-i-preserved c =
     let i = c.loop-i.i in
     let p = c.index-ports-i.result in
     let before = reverse (take i ports) in
-    let old = HasPrefixes c.loop-i.enclosing.counts in
-    let new = HasPrefixes c.note_prefixes.new.enclosing.counts in
+    let seen = HasSubnet c.loop-i.seen.by_prefix in
+    let more = HasSubnet c.note.new.self.by_prefix in
+    let old = HasPrefixes c.loop-i.enclosing.by_prefix in
+    let new = HasPrefixes c.note_prefixes.new.enclosing.by_prefix in
+    let here : more p = subst (λ (s : Subnet). IsNoted c.note.new.self.by_prefix p.router s) c.subnet_of.ensures
+    (subst (λ (q : Port). IsNoted c.note.new.self.by_prefix q.router c.subnet_of.result) c.port.view_is c.in_ok-note.ensures.noted) in
     let fails : is_overlap before p ≡ false = elim c.else-may_overlap.branch [
       | else-may_overlap-via-then-may_overlap+else-is_overlap w ↦ list_any-reverse _ (take i ports) ∙ sym w.is_overlap.ensures ∙ w.if-is_overlap.false
       | else-may_overlap-via-else-may_overlap w ↦ false_from_ne_true (is_overlap before p) (λ does. false≢true (sym w.if-may_overlap.false ∙ c.may_overlap.ensures before c.loop-i.invariant.seen c.loop-i.invariant.noted does))
     ] in
     record {
-      seen = tally_on same_subnet subnet_of c.add.new.self.counts ports i p c.loop-i-test.true c.index-ports-i.is c.subnet_of.result c.subnet_of.ensures (c.in_ok-add.ensures.added (map subnet_of before) c.loop-i.invariant.seen);
+      seen = subst (All more) (reverse_more ports i p c.loop-i-test.true c.index-ports-i.is)
+          (All-cons more p before here (All-weaker seen more (λ q has. c.in_ok-note.ensures.kept q.router (subnet_of q) has) before c.loop-i.invariant.seen));
       noted = subst (All new) (reverse_more ports i p c.loop-i-test.true c.index-ports-i.is)
-          (All-cons new p before c.in_ok-note_prefixes.ensures.noted (All-weaker old new (λ q has l below. c.in_ok-note_prefixes.ensures.kept (prefix_of q l) (has l below)) before c.loop-i.invariant.noted));
+          (All-cons new p before c.in_ok-note_prefixes.ensures.noted (All-weaker old new (λ q has l below. c.in_ok-note_prefixes.ensures.kept q.router (prefix_of q l) (has l below)) before c.loop-i.invariant.noted));
       left = c.loop-i.invariant.left ∙ first_where-more is_overlap ports i p c.loop-i-test.true c.index-ports-i.is _ fails;
     }
 

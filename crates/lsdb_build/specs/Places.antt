@@ -1,0 +1,25 @@
+-- The places of ports, found by their subnets.
+use Rattle.std.specs.Prelude.{◌≡◌, ℕ, Bool, false, List, [], Option, Some, None, Vec}
+use Rattle.indexmap.specs.IndexMap.{IndexMap, get}
+use Rattle.lsdb_build.specs.declared.port.Subnet.{Subnet}
+use Rattle.lsdb_build.specs.Neighbours.{Port, shares_subnet}
+use Rattle.lsdb_build.specs.Tallies.{same_subnet, subnet_of}
+use Rattle.lsdb_build.specs.Topology.{places_from}
+
+-- the places of a list, none where there is no list
+abbrev pub listed : {A : Type 0} → Option (Vec ℕ A) → List ℕ
+listed None = []
+listed (Some places) = places.items
+
+-- the places that are kept for a subnet
+abbrev pub places_at : {A S : Type 0} → IndexMap Subnet (Vec ℕ A) S → Subnet → List ℕ
+places_at places key = listed (get same_subnet places key)
+
+-- for each port's subnet the places of the ports on it are kept, in order
+abbrev pub ArePlaces : {A S : Type 0} → IndexMap Subnet (Vec ℕ A) S → List Port → Type 0
+ArePlaces places ports = (p : Port) → places_at places (subnet_of p) ≡ places_from 0 (shares_subnet p) ports
+
+-- whether there is a port that passes
+abbrev pub passes : (Port → Bool) → Option Port → Bool
+passes test None = false
+passes test (Some p) = test p
