@@ -143,10 +143,12 @@ all_apart d items = ap (λ (f : Linked → Bool). map f d.links) (λ t link. sym
 pub tied_none : (d : Database) (f : Linked → Bool) → map f d.links ≡ map (λ link. f link || false) d.links
 tied_none d f = ap (λ (g : Linked → Bool). map g d.links) (λ t link. sym (or-false (f link)) t)
 
-pub tied_more : (d : Database) (items : List Item) (i : ℕ) (other : Item) (f : Linked → Bool) → i < length items → map (λ link. (f link || list_any (λ item. ties_one d link item.what) (take i items)) || ties_one d link (get_or items i other).what) d.links ≡ map (λ link. f link || list_any (λ item. ties_one d link item.what) (take (i + 1) items)) d.links
-tied_more d items i other f within = ap (λ (g : Linked → Bool). map g d.links) (λ t link. each link t)
+pub tied_more : (d : Database) (items : List Item) (i : ℕ) (item : Item) (f : Linked → Bool) → i < length items → item ≡ get_or items i item → map (λ link. (f link || list_any (λ other. ties_one d link other.what) (take i items)) || ties_one d link item.what) d.links ≡ map (λ link. f link || list_any (λ other. ties_one d link other.what) (take (i + 1) items)) d.links
+tied_more d items i item f within is = ap (λ (g : Linked → Bool). map g d.links) (λ t link. each link t)
   where
-    each : (link : Linked) → ((f link || list_any (λ item. ties_one d link item.what) (take i items)) || ties_one d link (get_or items i other).what) ≡ (f link || list_any (λ item. ties_one d link item.what) (take (i + 1) items))
+    each : (link : Linked) → ((f link || list_any (λ other. ties_one d link other.what) (take i items)) || ties_one d link item.what) ≡ (f link || list_any (λ other. ties_one d link other.what) (take (i + 1) items))
     each link =
-        or_assoc (f link) (list_any (λ item. ties_one d link item.what) (take i items)) (ties_one d link (get_or items i other).what)
-        ∙ ap (λ b. f link || b) (sym (list_any_more (λ item. ties_one d link item.what) items i other within))
+        or_assoc (f link) (list_any (λ other. ties_one d link other.what) (take i items)) (ties_one d link item.what)
+        ∙ ap (λ b. f link || b)
+        (ap (λ (x : Item). list_any (λ other. ties_one d link other.what) (take i items) || ties_one d link x.what) is
+        ∙ sym (list_any_more (λ other. ties_one d link other.what) items i item within))

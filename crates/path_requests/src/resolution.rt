@@ -14,6 +14,7 @@ mod present;
 mod problems;
 mod ranges;
 mod routes;
+mod symmetric;
 mod variables;
 
 use self::lines::resolve_lines;
