@@ -7,7 +7,7 @@ use Rattle.lsdb_build.specs.Graphs.{Database}
 use Rattle.path_requests.specs.declared.Wish.{Wish}
 use Rattle.path_requests.specs.declared.Wish.TheVariants.{FreeAll, Free, Fix, SymmetricAll, Symmetric}
 use Rattle.path_requests.specs.declared.Item.{Item}
-use Rattle.path_requests.specs.Meaning.{Range, Within, AsItIs, is_named, range_said}
+use Rattle.path_requests.specs.Meaning.{Asked, Range, Within, AsItIs, is_named, range_said}
 
 -- the range that a line gives to each link
 abbrev pub said_of_all : Wish → Option Range
@@ -33,3 +33,8 @@ ties_all _ = false
 abbrev pub ties_one : Database → Linked → Wish → Bool
 ties_one d link (Symmetric router interface) = is_named d router interface link
 ties_one d link _ = false
+
+-- requests, and the database that they are for
+pub record Chosen : Type 0 where
+  pub asked : Asked
+  pub database : Database

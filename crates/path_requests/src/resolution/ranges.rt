@@ -1,9 +1,8 @@
 //! Which links are free, and within which bounds.
 ghost use Rattle.std.specs.Prelude.{◌≡◌, ◌||◌, ◌&&◌, ℕ, List, Option, Some, None, if◌then◌else◌, map, unwrap_or, IfOk};
 ghost use Rattle.std.specs.Option.{option_or};
-ghost use Rattle.std.specs.List.{list_any};
 ghost use Rattle.lsdb_build.specs.declared.Linked.{Linked as LinkValue};
-ghost use Rattle.path_requests.specs.Meaning.{is_named, range_said, range_by, says_symmetric};
+ghost use Rattle.path_requests.specs.Meaning.{is_named, range_by};
 ghost use Rattle.path_requests.specs.Chosen.{said_of_all, said_of_one};
 ghost use Rattle.path_requests.specs.Resolving.{same_range};
 
@@ -32,48 +31,6 @@ pub fn same_range(range: Range, other: Range) -> bool
         (Range::Within(_, _), Range::AsItIs) => false,
         (Range::AsItIs, Range::Within(_, _)) => false,
     }
-}
-
-/// Whether a link is the interface of that router.
-fn is_named(names: &Names, router: &[u8], interface: &[u8], link: &Linked) -> bool
-    ensures { result ≡ is_named names.now router.now interface.now link.now }
-{
-    names.router_name(link.router) == router && link.interface.as_bytes() == interface
-}
-
-/// What a line says of a link's range.
-fn range_said(names: &Names, link: &Linked, wish: &Wish) -> Option<Range>
-    ensures { result ≡ range_said names.now link.now wish.now }
-{
-    match wish {
-        Wish::FreeAll(low, high) => Some(Range::Within(*low, *high)),
-        Wish::Free(router, interface, low, high) => {
-            if is_named(names, router.as_bytes(), interface.as_bytes(), link) {
-                Some(Range::Within(*low, *high))
-            } else {
-                None
-            }
-        }
-        Wish::Fix(router, interface) => {
-            if is_named(names, router.as_bytes(), interface.as_bytes(), link) {
-                Some(Range::AsItIs)
-            } else {
-                None
-            }
-        }
-        _ => None,
-    }
-}
-
-/// The range of a link: the last line that says it counts.
-pub fn range_by(names: &Names, link: &Linked, items: &[Item]) -> Range
-    ensures { result ≡ range_by names.now link.now items.now }
-{
-    let mut range = Range::AsItIs;
-    for item in items {
-        range = range_said(names, link, &item.what).unwrap_or(range);
-    }
-    range
 }
 
 /// The range that a line gives to each link.
@@ -114,11 +71,23 @@ fn decide_named(names: &Names, wish: &Wish, decided: &mut Vec<Option<Range>>)
     match wish {
         Wish::Free(router, interface, low, high) => {
             let range = Range::Within(*low, *high);
-            decide(names, router.as_bytes(), interface.as_bytes(), range, decided);
+            decide(
+                names,
+                router.as_bytes(),
+                interface.as_bytes(),
+                range,
+                decided,
+            );
         }
         Wish::Fix(router, interface) => {
             let range = Range::AsItIs;
-            decide(names, router.as_bytes(), interface.as_bytes(), range, decided);
+            decide(
+                names,
+                router.as_bytes(),
+                interface.as_bytes(),
+                range,
+                decided,
+            );
         }
         _ => {}
     }
@@ -173,26 +142,4 @@ pub fn ranges_by(alloc: Global, names: &Names, items: &[Item]) -> Result<Vec<Ran
     let mut decided = undecided(alloc, names)?;
     let other = decide_lines(names, items, &mut decided);
     ranges_or(alloc, &decided, other)
-}
-
-/// Whether a line names the link of an interface as symmetric.
-fn says_symmetric(names: &Names, link: &Linked, wish: &Wish) -> bool
-    ensures { result ≡ says_symmetric names.now link.now wish.now }
-{
-    match wish {
-        Wish::SymmetricAll => link.mate.is_some(),
-        Wish::Symmetric(router, interface) => {
-            is_named(names, router.as_bytes(), interface.as_bytes(), link)
-        }
-        _ => false,
-    }
-}
-
-/// Whether one of the lines names the link of an interface as symmetric.
-pub fn any_symmetric(names: &Names, link: &Linked, items: &[Item]) -> bool
-    ensures { result ≡ list_any (λ item. says_symmetric names.now link.now item.what) items.now }
-{
-    items
-        .iter()
-        .any(|item| says_symmetric(names, link, &item.what))
 }
