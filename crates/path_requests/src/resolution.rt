@@ -6,6 +6,7 @@ ghost use Rattle.path_requests.specs.Meaning.{owners, request_of, problem_of};
 ghost use Rattle.path_requests.specs.Checked.{AreOwners};
 ghost use Rattle.path_requests.specs.Resolving.{fault_unless, line_faults, whole_faults, outline, resolution_fault, present_fault, present_problem_of, TellsResolution};
 
+mod choices;
 mod lines;
 mod names;
 mod parts;
@@ -14,13 +15,15 @@ mod present;
 mod problems;
 mod ranges;
 mod routes;
+mod symmetric;
 mod variables;
 
+use self::choices::{Choices, items};
 use self::lines::resolve_lines;
 use self::names::Names;
 use self::present::{assemble_present, check_present};
 use self::problems::assemble;
-use self::variables::{check_costs, check_ends, items, own_links};
+use self::variables::{check_costs, check_ends, own_links};
 use crate::Requests;
 use crate::stop::RequestStop;
 use lsdb_build::Lsdb;
@@ -48,15 +51,30 @@ fn check_count(count: usize) -> Result<(), RequestStop>
 
 /// The links that have a variable of their own; 29, 27 or the first link without a cost where the requests don't
 /// resolve.
-fn check_whole(alloc: Global, names: &Names, requests: &Requests) -> Result<Vec<u32>, RequestStop>
-    ensures made { IfOk result (λ own. AreOwners requests.now names.now own.items) }
-    ensures refused { IfErr result (TellsResolution (first_of (whole_faults requests.now names.now))) }
+fn check_whole(alloc: Global, choices: &Choices) -> Result<Vec<u32>, RequestStop>
+    ensures made { IfOk result (λ own. AreOwners choices.now.asked choices.now.database own.items) }
+    ensures refused { IfErr result (TellsResolution (first_of (whole_faults choices.now.asked choices.now.database))) }
 {
-    check_ends(names, requests, items(requests))?;
-    let own = own_links(alloc, names, requests)?;
+    check_ends(choices, items(choices.requests()))?;
+    let own = own_links(alloc, choices)?;
     check_count(own.len())?;
-    check_costs(names, requests)?;
+    check_costs(choices)?;
     Ok(own)
+}
+
+/// The problem of choices whose requests' lines have no fault, with their paths; the first fault after all lines.
+fn resolve_choices(
+    alloc: Global,
+    choices: &Choices,
+    paths: Vec<Request>,
+) -> Result<Problem, RequestStop>
+    requires lines { line_faults choices.now.database choices.now.asked.items ≡ [] }
+    requires paths { paths.items ≡ filter_map (λ item. request_of choices.now.database (outline choices.now.database) item.what) choices.now.asked.items }
+    ensures made { IfOk result (λ p. (whole_faults choices.now.asked choices.now.database ≡ []) × (p ≡ problem_of choices.now.asked choices.now.database)) }
+    ensures refused { IfErr result (TellsResolution (first_of (whole_faults choices.now.asked choices.now.database))) }
+{
+    let own = check_whole(alloc, choices)?;
+    Ok(assemble(alloc, choices, &own, paths)?)
 }
 
 /// The problem of requests whose lines have no fault, with their paths; the first fault after all lines.
@@ -71,8 +89,8 @@ fn resolve_whole(
     ensures made { IfOk result (λ p. (whole_faults requests.now names.now ≡ []) × (p ≡ problem_of requests.now names.now)) }
     ensures refused { IfErr result (TellsResolution (first_of (whole_faults requests.now names.now))) }
 {
-    let own = check_whole(alloc, names, requests)?;
-    Ok(assemble(alloc, names, requests, &own, paths)?)
+    let choices = Choices::new(alloc, names, requests)?;
+    resolve_choices(alloc, &choices, paths)
 }
 
 /// The problem that requests make of an area's routers and links: free interfaces have variables, and each wanted

@@ -144,14 +144,22 @@ impl<'a> Names<'a> {
         self.find_router(name).unwrap_or(0)
     }
 
+    /// The number of the link of an interface, by the name of its router.
+    pub fn find_interface(&self, router: &[u8], interface: &[u8]) -> Option<u32>
+        ensures base { IsDatabase self.now }
+        ensures found { MatchOption result (knows_link self.now router.now interface.now ≡ false) (λ l. (knows_link self.now router.now interface.now ≡ true) × (l ≡ link_number self.now router.now interface.now)) }
+    {
+        match self.find_router(router) {
+            Some(number) => self.find_link(number, interface),
+            None => None,
+        }
+    }
+
     /// The number of the link of an interface, 0 where there is none.
     pub fn link_number(&self, router: &[u8], interface: &[u8]) -> u32
         ensures { result ≡ link_number self.now router.now interface.now }
     {
-        match self.find_router(router) {
-            Some(number) => self.find_link(number, interface).unwrap_or(0),
-            None => 0,
-        }
+        self.find_interface(router, interface).unwrap_or(0)
     }
 
     /// The number of the router of a name; where there is none, 21 at the line.

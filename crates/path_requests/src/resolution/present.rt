@@ -6,10 +6,11 @@ ghost use Rattle.area_graph.specs.declared.Price.TheVariants.{Fixed};
 ghost use Rattle.path_requests.specs.Meaning.{range_of, present_cost, request_of};
 ghost use Rattle.path_requests.specs.Resolving.{lacks_cost, line_faults, cost_faults, outline, present_asked, present_problem_of, TellsResolution};
 
+use super::choices::items;
 use super::names::Names;
 use super::problems::present_cost;
 use super::ranges::Range;
-use super::variables::{items, lacks_cost};
+use super::variables::lacks_cost;
 use crate::{RequestStop, Requests};
 use area_graph::Price;
 use cost_base::{Listed, OutOfMemory};

@@ -1,7 +1,9 @@
 //! Which links are free, and within which bounds.
-ghost use Rattle.std.specs.Prelude.{◌≡◌, ◌||◌, ◌&&◌, ℕ, List, map, IfOk};
-ghost use Rattle.std.specs.List.{list_any};
-ghost use Rattle.path_requests.specs.Meaning.{is_named, range_said, range_by, says_symmetric};
+ghost use Rattle.std.specs.Prelude.{◌≡◌, ◌||◌, ◌&&◌, ℕ, List, Option, Some, None, if◌then◌else◌, map, unwrap_or, IfOk};
+ghost use Rattle.std.specs.Option.{option_or};
+ghost use Rattle.lsdb_build.specs.declared.Linked.{Linked as LinkValue};
+ghost use Rattle.path_requests.specs.Meaning.{is_named, range_by};
+ghost use Rattle.path_requests.specs.Chosen.{said_of_all, said_of_one};
 ghost use Rattle.path_requests.specs.Resolving.{same_range};
 
 use super::names::Names;
@@ -31,77 +33,113 @@ pub fn same_range(range: Range, other: Range) -> bool
     }
 }
 
-/// Whether a link is the interface of that router.
-fn is_named(names: &Names, router: &[u8], interface: &[u8], link: &Linked) -> bool
-    ensures { result ≡ is_named names.now router.now interface.now link.now }
-{
-    names.router_name(link.router) == router && link.interface.as_bytes() == interface
-}
-
-/// What a line says of a link's range.
-fn range_said(names: &Names, link: &Linked, wish: &Wish) -> Option<Range>
-    ensures { result ≡ range_said names.now link.now wish.now }
+/// The range that a line gives to each link.
+fn said_of_all(wish: &Wish) -> Option<Range>
+    ensures { result ≡ said_of_all wish.now }
 {
     match wish {
         Wish::FreeAll(low, high) => Some(Range::Within(*low, *high)),
-        Wish::Free(router, interface, low, high) => {
-            if is_named(names, router.as_bytes(), interface.as_bytes(), link) {
-                Some(Range::Within(*low, *high))
-            } else {
-                None
-            }
-        }
-        Wish::Fix(router, interface) => {
-            if is_named(names, router.as_bytes(), interface.as_bytes(), link) {
-                Some(Range::AsItIs)
-            } else {
-                None
-            }
-        }
         _ => None,
     }
 }
 
-/// The range of a link: the last line that says it counts.
-pub fn range_by(names: &Names, link: &Linked, items: &[Item]) -> Range
-    ensures { result ≡ range_by names.now link.now items.now }
+/// Decides the range of the link of an interface, if it is undecided.
+fn decide(
+    names: &Names,
+    router: &[u8],
+    interface: &[u8],
+    range: Range,
+    decided: &mut Vec<Option<Range>>,
+)
+    ensures { (f : LinkValue → Option Range) → decided.old.items ≡ map f names.now.links → decided.new.items ≡ map (λ link. option_or (f link) (if is_named names.now router.now interface.now link then Some range else None)) names.now.links }
 {
-    let mut range = Range::AsItIs;
-    for item in items {
-        range = range_said(names, link, &item.what).unwrap_or(range);
+    match names.find_interface(router, interface) {
+        Some(link) => {
+            let place = link as usize;
+            if place < decided.len() {
+                decided[place] = decided[place].or(Some(range));
+            }
+        }
+        None => {}
     }
-    range
 }
 
-/// The range of each link.
-pub fn ranges_by(alloc: Global, names: &Names, items: &[Item]) -> Result<Vec<Range>, OutOfMemory>
-    ensures { IfOk result (λ ranges. ranges.items ≡ map (λ link. range_by names.now link items.now) names.now.links) }
+/// Decides the range of the link that a line names, if it is undecided.
+fn decide_named(names: &Names, wish: &Wish, decided: &mut Vec<Option<Range>>)
+    ensures { (f : LinkValue → Option Range) → decided.old.items ≡ map f names.now.links → decided.new.items ≡ map (λ link. option_or (f link) (said_of_one names.now link wish.now)) names.now.links }
+{
+    match wish {
+        Wish::Free(router, interface, low, high) => {
+            let range = Range::Within(*low, *high);
+            decide(
+                names,
+                router.as_bytes(),
+                interface.as_bytes(),
+                range,
+                decided,
+            );
+        }
+        Wish::Fix(router, interface) => {
+            let range = Range::AsItIs;
+            decide(
+                names,
+                router.as_bytes(),
+                interface.as_bytes(),
+                range,
+                decided,
+            );
+        }
+        _ => {}
+    }
+}
+
+/// Decides ranges from the last line back to one that frees all links; the range of those that stay undecided.
+fn decide_lines(names: &Names, items: &[Item], decided: &mut Vec<Option<Range>>) -> Range
+    requires { decided.old.items ≡ map (λ link. None) names.now.links }
+    ensures { map (λ said. unwrap_or said result) decided.new.items ≡ map (λ link. range_by names.now link items.now) names.now.links }
+{
+    for place in (0..items.len()).rev() {
+        let wish = &items[place].what;
+        match said_of_all(wish) {
+            Some(range) => return range,
+            None => decide_named(names, wish, decided),
+        }
+    }
+    Range::AsItIs
+}
+
+/// No range for each link.
+fn undecided(alloc: Global, names: &Names) -> Result<Vec<Option<Range>>, OutOfMemory>
+    ensures { IfOk result (λ made. made.items ≡ map (λ link. None) names.now.links) }
+{
+    let mut made = Vec::new(alloc);
+    for _link in names.links() {
+        made.push(None)?;
+    }
+    Ok(made)
+}
+
+/// The ranges, of which those that are undecided are one.
+fn ranges_or(
+    alloc: Global,
+    decided: &[Option<Range>],
+    other: Range,
+) -> Result<Vec<Range>, OutOfMemory>
+    ensures { IfOk result (λ ranges. ranges.items ≡ map (λ said. unwrap_or said other) decided.now) }
 {
     let mut ranges = Vec::new(alloc);
-    for link in names.links() {
-        ranges.push(range_by(names, link, items))?;
+    for said in decided {
+        ranges.push(said.unwrap_or(other))?;
     }
     Ok(ranges)
 }
 
-/// Whether a line names the link of an interface as symmetric.
-fn says_symmetric(names: &Names, link: &Linked, wish: &Wish) -> bool
-    ensures { result ≡ says_symmetric names.now link.now wish.now }
+/// The range of each link: the last line that says it counts. One pass over the lines, whose links are looked up by
+/// their names.
+pub fn ranges_by(alloc: Global, names: &Names, items: &[Item]) -> Result<Vec<Range>, OutOfMemory>
+    ensures { IfOk result (λ ranges. ranges.items ≡ map (λ link. range_by names.now link items.now) names.now.links) }
 {
-    match wish {
-        Wish::SymmetricAll => link.mate.is_some(),
-        Wish::Symmetric(router, interface) => {
-            is_named(names, router.as_bytes(), interface.as_bytes(), link)
-        }
-        _ => false,
-    }
-}
-
-/// Whether one of the lines names the link of an interface as symmetric.
-pub fn any_symmetric(names: &Names, link: &Linked, items: &[Item]) -> bool
-    ensures { result ≡ list_any (λ item. says_symmetric names.now link.now item.what) items.now }
-{
-    items
-        .iter()
-        .any(|item| says_symmetric(names, link, &item.what))
+    let mut decided = undecided(alloc, names)?;
+    let other = decide_lines(names, items, &mut decided);
+    ranges_or(alloc, &decided, other)
 }

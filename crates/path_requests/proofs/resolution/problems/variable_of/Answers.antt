@@ -6,8 +6,8 @@ use Rattle.path_requests.proofs.resolution.problems.variable_of.Goals as goal
 
 pub returns : goal.returns
 returns c =
-    let a = c.args.requests.now in
-    let d = c.args.names.now in
+    let a = c.args.choices.now.asked in
+    let d = c.args.choices.now.database in
     c.variable.ensures
     ∙ ap (λ (own : List ℕ). count_by (λ m. nat_lt m (owner_at a d c.args.number (Some c.args.link.now))) own) c.requires.own
     ∙ ap (λ (o : Option Linked). count_by (λ m. nat_lt m (owner_at a d c.args.number o)) (owners a d)) (sym c.requires.there)

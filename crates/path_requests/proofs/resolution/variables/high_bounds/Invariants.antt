@@ -6,5 +6,5 @@ use Rattle.path_requests.proofs.resolution.variables.high_bounds.Given as goal
 
 abbrev pub invariant-loop-link : goal.invariant-loop-link
 invariant-loop-link l =
-    l.made.items ++ map high_of (filter_map (λ k. range_at l.requests l.names (slice_get l.names.links k)) (drop l.link-index l.own))
-    ≡ map high_of (filter_map (λ k. range_at l.requests l.names (slice_get l.names.links k)) l.own)
+    l.made.items ++ map high_of (filter_map (λ k. range_at l.choices.asked l.choices.database (slice_get l.choices.database.links k)) (drop l.link-index l.own))
+    ≡ map high_of (filter_map (λ k. range_at l.choices.asked l.choices.database (slice_get l.choices.database.links k)) l.own)

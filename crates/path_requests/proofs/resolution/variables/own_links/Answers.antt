@@ -8,8 +8,8 @@ use Rattle.path_requests.proofs.resolution.variables.own_links.Goals as goal
 
 pub loop-i-preserved : goal.loop-i-preserved
 loop-i-preserved c =
-    let a = c.args.requests.now in
-    let d = c.args.names.now in
+    let a = c.args.choices.now.asked in
+    let d = c.args.choices.now.database in
     let i = c.loop-i.i in
     rw (c.in_ok-push_own.ensures, append_assoc)
     (ap (λ (ls : List ℕ). c.loop-i.made.items ++ ls) (sym (filter_head (own a d) i (numbers_from (i + 1) (length d.links - (i + 1))))

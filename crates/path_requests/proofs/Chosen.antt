@@ -1,0 +1,154 @@
+-- What a line that names a link writes at the link's number.
+use Rattle.std.proofs.Common.{◌≡◌, ℕ, ◌+◌, ◌<◌, refl, sym, ◌∙◌, ap, List, [], ◌∷◌, length, set, map, take, get_or, arith, Bool, true, false, Option, Some, None}
+use Rattle.std.specs.Prelude.{slice_get, is_some, if◌then◌else◌, ◌||◌, ◌&&◌}
+use Rattle.std.specs.Option.{option_or}
+use Rattle.std.specs.List.{list_any}
+use Rattle.std.proofs.Math.Bool.{or_assoc, or-false, or-true}
+use Rattle.std.proofs.lemmas.List.{length-map, length-set, get_or-map, get_or-set_other, same_lists}
+use Rattle.std.proofs.lemmas.Grind.{get_or-set_at}
+use Rattle.std.proofs.lemmas.List.Folds.{Any-from_list_any, list_any_more}
+use Rattle.std.proofs.lemmas.Option.{slice_get-get_or, slice_get_within, get_or_from_slice_get}
+use Rattle.std.proofs.lemmas.Bool.{or_parts, false_from_ne_true}
+use native.Mathlib.Decide.{ℕ_discrete}
+use Rattle.lsdb_build.specs.declared.Linked.{Linked}
+use Rattle.lsdb_build.specs.Graphs.{Database, IsDatabase}
+use Rattle.path_requests.specs.declared.Wish.{Wish}
+use Rattle.path_requests.specs.declared.Wish.TheVariants.{FreeAll, Free, Fix, Path, SymmetricAll, Symmetric}
+use Rattle.path_requests.specs.declared.Item.{Item}
+use Rattle.path_requests.specs.Meaning.{is_named, says_symmetric, link_number}
+use Rattle.path_requests.specs.Resolution.{knows_link}
+use Rattle.path_requests.specs.Chosen.{ties_all, ties_one}
+use Rattle.path_requests.proofs.LookUps.{link_number_is}
+use Rattle.path_requests.proofs.ProblemLaws.{no_link}
+
+-- functions that agree where no element passes a test make the same list
+pub map_agree : {X Y : Type 0} (p : X → Bool) (f g : X → Y) (xs : List X) → list_any p xs ≡ false → ((x : X) → p x ≡ false → f x ≡ g x) → map f xs ≡ map g xs
+map_agree p f g [] none same = refl
+map_agree {Y} p f g (x ∷ xs) none same =
+    let parts = or_parts (p x) (list_any p xs) none in
+    ap (λ (y : Y). y ∷ map f xs) (same x parts.0) ∙ ap (λ (ys : List Y). g x ∷ ys) (map_agree p f g xs parts.1 same)
+
+-- the link of an interface, at its number
+pub record IsThere (d : Database) (router interface : List ℕ) : Type 0 where
+  pub link : Linked
+  pub there : slice_get d.links (link_number d router interface) ≡ Some link
+  pub named : is_named d router interface link ≡ true
+
+pub known_there : (d : Database) (router interface : List ℕ) → IsDatabase d → knows_link d router interface ≡ true → IsThere d router interface
+known_there d router interface base known =
+    let any = Any-from_list_any (is_named d router interface) d.links known in
+    let at : slice_get d.links any.0 ≡ Some any.1 = slice_get-get_or d.links any.0 any.1 any.2 ∙ ap (λ (link : Linked). Some link) any.3 in
+    let is = link_number_is d any.0 any.1 router interface base at any.4 in
+    record { link = any.1; there = ap (slice_get d.links) is ∙ at; named = any.4 }
+
+-- another value at that number is another value for the one link that is named
+pub set_named : {X : Type 0} (d : Database) (router interface : List ℕ) (f g : Linked → X) (x : X) → IsDatabase d → (is : IsThere d router interface) → x ≡ g is.link → ((link : Linked) → is_named d router interface link ≡ false → f link ≡ g link) → set (map f d.links) (link_number d router interface) x ≡ map g d.links
+set_named {X} d router interface f g x base is here other =
+    same_lists (set (map f d.links) l x) (map g d.links)
+    (length-set (map f d.links) l x ∙ length-map d.links f ∙ sym (length-map d.links g))
+    (λ k y within. at k y (omega (arith, within, length-set (map f d.links) l x, length-map d.links f)))
+  where
+    l : ℕ
+    l = link_number d router interface
+
+    within_links : l < length d.links
+    within_links = slice_get_within d.links l is.link is.there
+
+    at : (k : ℕ) (y : X) → k < length d.links → get_or (set (map f d.links) l x) k y ≡ get_or (map g d.links) k y
+    at k y within =
+        elim (ℕ_discrete k l) [
+          | yes same ↦
+              get_or-set_at (map f d.links) l k x y same (omega (arith, length-map d.links f, within_links))
+              ∙ here ∙ ap g (sym (get_or_from_slice_get d.links l is.link no_link is.there)) ∙ ap (λ i. g (get_or d.links i no_link)) (sym same)
+              ∙ sym (get_or-map g d.links k no_link y within)
+          | no apart ↦
+              get_or-set_other (map f d.links) l k x y apart ∙ get_or-map f d.links k no_link y within
+              ∙ other (get_or d.links k no_link) (false_from_ne_true (is_named d router interface (get_or d.links k no_link))
+              (λ named. apart (sym (link_number_is d k (get_or d.links k no_link) router interface base (slice_get-get_or d.links k no_link within) named))))
+              ∙ sym (get_or-map g d.links k no_link y within)
+        ]
+
+or_none : {X : Type 0} (o : Option X) → o ≡ option_or o None
+or_none None = refl
+or_none (Some x) = refl
+
+-- a range for the link that is named, where it has none
+pub decided_named : {X : Type 0} (d : Database) (router interface : List ℕ) (f : Linked → Option X) (range : X) (y : Option X) → IsDatabase d → knows_link d router interface ≡ true → set (map f d.links) (link_number d router interface) (option_or (get_or (map f d.links) (link_number d router interface) y) (Some range)) ≡ map (λ link. option_or (f link) (if is_named d router interface link then Some range else None)) d.links
+decided_named {X} d router interface f range y base known =
+    let is = known_there d router interface base known in
+    let l = link_number d router interface in
+    let stands = get_or-map f d.links l no_link y (slice_get_within d.links l is.link is.there) ∙ ap f (get_or_from_slice_get d.links l is.link no_link is.there) in
+    set_named d router interface f (λ link. option_or (f link) (if is_named d router interface link then Some range else None)) (option_or (get_or (map f d.links) l y) (Some range)) base is
+    (ap (λ (o : Option X). option_or o (Some range)) stands ∙ ap (λ b. option_or (f is.link) (if b then Some range else None)) (sym is.named))
+    (λ link unnamed. or_none (f link) ∙ ap (λ b. option_or (f link) (if b then Some range else None)) (sym unnamed))
+
+-- an interface that is unknown decides nothing
+pub decided_unknown : {X : Type 0} (d : Database) (router interface : List ℕ) (f : Linked → Option X) (range : X) → knows_link d router interface ≡ false → map f d.links ≡ map (λ link. option_or (f link) (if is_named d router interface link then Some range else None)) d.links
+decided_unknown d router interface f range unknown =
+    map_agree (is_named d router interface) f (λ link. option_or (f link) (if is_named d router interface link then Some range else None)) d.links unknown
+    (λ link unnamed. or_none (f link) ∙ ap (λ b. option_or (f link) (if b then Some range else None)) (sym unnamed))
+
+pub number_within : (d : Database) (router interface : List ℕ) → IsDatabase d → knows_link d router interface ≡ true → link_number d router interface < length d.links
+number_within d router interface base known =
+    let is = known_there d router interface base known in
+    slice_get_within d.links (link_number d router interface) is.link is.there
+
+-- a mark for the link that is named
+pub marked_named : (d : Database) (router interface : List ℕ) (f : Linked → Bool) → IsDatabase d → knows_link d router interface ≡ true → set (map f d.links) (link_number d router interface) true ≡ map (λ link. f link || is_named d router interface link) d.links
+marked_named d router interface f base known =
+    let is = known_there d router interface base known in
+    set_named d router interface f (λ link. f link || is_named d router interface link) true base is
+    (sym (or-true (f is.link)) ∙ ap (λ b. f is.link || b) (sym is.named))
+    (λ link unnamed. sym (or-false (f link)) ∙ ap (λ b. f link || b) (sym unnamed))
+
+-- an interface that is unknown is no link's
+pub marked_unknown : (d : Database) (router interface : List ℕ) (f : Linked → Bool) → knows_link d router interface ≡ false → map f d.links ≡ map (λ link. f link || is_named d router interface link) d.links
+marked_unknown d router interface f unknown =
+    map_agree (is_named d router interface) f (λ link. f link || is_named d router interface link) d.links unknown
+    (λ link unnamed. sym (or-false (f link)) ∙ ap (λ b. f link || b) (sym unnamed))
+
+-- Lines that make links symmetric.
+
+tied_apart : (d : Database) (link : Linked) (wish : Wish) → says_symmetric d link wish ≡ ((ties_all wish && is_some link.mate) || ties_one d link wish)
+tied_apart d link SymmetricAll = sym (or-false (is_some link.mate))
+tied_apart d link (Symmetric router interface) = refl
+tied_apart d link (FreeAll lo hi) = refl
+tied_apart d link (Free router interface lo hi) = refl
+tied_apart d link (Fix router interface) = refl
+tied_apart d link (Path route without) = refl
+
+regroup : (a b m x y : Bool) → (((a && m) || x) || ((b && m) || y)) ≡ (((a || b) && m) || (x || y))
+regroup true true true x y = refl
+regroup true false true x y = refl
+regroup false true true true y = refl
+regroup false true true false y = refl
+regroup false false true x y = refl
+regroup true true false x y = refl
+regroup true false false x y = refl
+regroup false true false x y = refl
+regroup false false false x y = refl
+
+-- all lines that make all links symmetric, and then those that name one
+pub any_apart : (d : Database) (link : Linked) (items : List Item) → list_any (λ item. says_symmetric d link item.what) items ≡ ((list_any (λ item. ties_all item.what) items && is_some link.mate) || list_any (λ item. ties_one d link item.what) items)
+any_apart d link [] = refl
+any_apart d link (item ∷ items) =
+    ap (λ b. b || list_any (λ item. says_symmetric d link item.what) items) (tied_apart d link item.what)
+    ∙ ap (λ b. ((ties_all item.what && is_some link.mate) || ties_one d link item.what) || b) (any_apart d link items)
+    ∙ regroup (ties_all item.what) (list_any (λ item. ties_all item.what) items) (is_some link.mate) (ties_one d link item.what) (list_any (λ item. ties_one d link item.what) items)
+
+pub all_apart : (d : Database) (items : List Item) → map (λ link. (list_any (λ item. ties_all item.what) items && is_some link.mate) || list_any (λ item. ties_one d link item.what) items) d.links ≡ map (λ link. list_any (λ item. says_symmetric d link item.what) items) d.links
+all_apart d items = ap (λ (f : Linked → Bool). map f d.links) (λ t link. sym (any_apart d link items) t)
+
+-- before the first line, after one more, and after the last
+pub tied_none : (d : Database) (f : Linked → Bool) → map f d.links ≡ map (λ link. f link || false) d.links
+tied_none d f = ap (λ (g : Linked → Bool). map g d.links) (λ t link. sym (or-false (f link)) t)
+
+pub tied_more : (d : Database) (items : List Item) (i : ℕ) (item : Item) (f : Linked → Bool) → i < length items → item ≡ get_or items i item → map (λ link. (f link || list_any (λ other. ties_one d link other.what) (take i items)) || ties_one d link item.what) d.links ≡ map (λ link. f link || list_any (λ other. ties_one d link other.what) (take (i + 1) items)) d.links
+tied_more d items i item f within is = ap (λ (g : Linked → Bool). map g d.links) (λ t link. each link t)
+  where
+    each : (link : Linked) → ((f link || list_any (λ other. ties_one d link other.what) (take i items)) || ties_one d link item.what) ≡ (f link || list_any (λ other. ties_one d link other.what) (take (i + 1) items))
+    each link =
+        or_assoc (f link) (list_any (λ other. ties_one d link other.what) (take i items)) (ties_one d link item.what)
+        ∙ ap (λ b. f link || b)
+        (ap (λ (x : Item). list_any (λ other. ties_one d link other.what) (take i items) || ties_one d link x.what) is
+        ∙ sym (list_any_more (λ other. ties_one d link other.what) items i item within))
