@@ -1,6 +1,6 @@
 -- A link's range, line by line.
 use Rattle.std.proofs.Common.{◌≡◌, ℕ, zero, suc, ◌+◌, ◌<◌, refl, sym, ◌∙◌, ap, List, [], ◌∷◌, length, drop, map, get_or, arith, Option, Some, None}
-use Rattle.std.specs.Prelude.{unwrap_or, if◌then◌else◌}
+use Rattle.std.specs.Prelude.{unwrap_or}
 use Rattle.std.specs.Option.{option_or}
 use Rattle.std.specs.List.{filter_map, cons_option}
 use Rattle.std.proofs.lemmas.List.{drop_more}
@@ -11,7 +11,7 @@ use Rattle.lsdb_build.specs.Graphs.{Database}
 use Rattle.path_requests.specs.declared.Wish.{Wish}
 use Rattle.path_requests.specs.declared.Wish.TheVariants.{FreeAll, Free, Fix, Path, SymmetricAll, Symmetric}
 use Rattle.path_requests.specs.declared.Item.{Item}
-use Rattle.path_requests.specs.Meaning.{Range, Within, AsItIs, is_named, range_said, range_by}
+use Rattle.path_requests.specs.Meaning.{Range, Within, AsItIs, range_said, range_by}
 use Rattle.path_requests.specs.Chosen.{said_of_all, said_of_one, last_said}
 
 -- the range after some lines, from the one before them on

@@ -136,3 +136,6 @@ pub fn resolve_present(
     check_present(&names, requests)?;
     Ok(assemble_present(alloc, &names, requests, paths)?)
 }
+
+#[cfg(test)]
+mod tests;

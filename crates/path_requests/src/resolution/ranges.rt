@@ -1,5 +1,5 @@
 //! Which links are free, and within which bounds.
-ghost use Rattle.std.specs.Prelude.{◌≡◌, ◌||◌, ◌&&◌, ℕ, List, Option, Some, None, if◌then◌else◌, map, unwrap_or, IfOk};
+ghost use Rattle.std.specs.Prelude.{◌≡◌, ◌&&◌, Option, Some, None, if◌then◌else◌, map, unwrap_or, IfOk};
 ghost use Rattle.std.specs.Option.{option_or};
 ghost use Rattle.lsdb_build.specs.declared.Linked.{Linked as LinkValue};
 ghost use Rattle.path_requests.specs.Meaning.{is_named, range_by};

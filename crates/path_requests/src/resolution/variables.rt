@@ -1,8 +1,8 @@
 //! Which links have which variables, and what each link costs.
-ghost use Rattle.std.specs.Prelude.{◌≡◌, ◌||◌, ◌&&◌, ◌==◌, ℕ, ◌<◌, ◌≤◌, ◌^◌, ◌++◌, ◌∷◌, [], Some, List, filter, count_by, nat_lt, option_to_list, length, map, slice_get, slice_index_or, IfOk, IfErr, OnOk};
+ghost use Rattle.std.specs.Prelude.{◌≡◌, ◌&&◌, ◌==◌, ◌<◌, ◌++◌, ◌∷◌, [], Some, filter, option_to_list, map, slice_get, IfOk, IfErr, OnOk};
 ghost use Rattle.std.specs.List.{list_any, filter_map};
-ghost use Rattle.cost_base.specs.Lists.{first_of, numbers_from};
-ghost use Rattle.path_requests.specs.Meaning.{AsItIs, range_of, is_free, is_free_at, low_of, high_of, option_at, is_symmetric, owner_at, own, owners, range_at, ranges};
+ghost use Rattle.cost_base.specs.Lists.{first_of};
+ghost use Rattle.path_requests.specs.Meaning.{AsItIs, range_of, is_free, low_of, high_of, is_symmetric, owner_at, own, owners, range_at};
 ghost use Rattle.path_requests.specs.Resolving.{ends_differ, ends_differ_at, ties_different, ends_faults, lacks_cost, cost_faults, TellsResolution};
 
 use super::choices::Choices;

@@ -1,4 +1,4 @@
-use Rattle.std.proofs.Common.{◌∙◌, ap, arith, List, ℕ, Option, Some, length, map, get_or, set}
+use Rattle.std.proofs.Common.{◌∙◌, ap, arith, List, Option, Some, length, map, get_or, set}
 use Rattle.std.specs.Option.{option_or}
 use Rattle.std.proofs.lemmas.List.{length-map}
 use Rattle.path_requests.specs.Meaning.{Range}

@@ -1,4 +1,4 @@
-use Rattle.std.proofs.Common.{◌≡◌, ◌-◌, ◌∙◌, ap, sym, arith, List, Option, ℕ, drop, map}
+use Rattle.std.proofs.Common.{◌≡◌, ◌-◌, ◌∙◌, ap, sym, arith, List, Option, drop, map}
 use Rattle.std.specs.Prelude.{unwrap_or}
 use Rattle.path_requests.specs.Meaning.{Range, AsItIs}
 use Rattle.path_requests.specs.Chosen.{last_said}
