@@ -1,7 +1,7 @@
 //! An audit: how the requested paths stand at present costs.
-ghost use Rattle.std.specs.Prelude.{◌≡◌, ◌↔◌, ◌<◌, ◌≤◌, ◌++◌, ℕ, List, [], length, IfOk, IfErr, IsTrue, slice_index, OnOk};
+ghost use Rattle.std.specs.Prelude.{◌≡◌, ◌<◌, ℕ, List, [], IfOk, IfErr};
 ghost use Rattle.std.specs.List.{AllZip};
-ghost use Rattle.area_graph.specs.Costs.{FitsPoint, IsOnlyCheapest, at_costs, cost};
+ghost use Rattle.area_graph.specs.Costs.{FitsPoint, at_costs, cost};
 ghost use Rattle.area_graph.specs.Paths.{IsPathOf};
 ghost use Rattle.spf_ties.specs.Distances.{IsRoomFor, IsLeast};
 ghost use Rattle.path_rows.specs.Problems.{ends_of};

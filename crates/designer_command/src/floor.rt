@@ -1,6 +1,5 @@
 //! The answer at the lower bounds.
-ghost use Rattle.std.specs.Prelude.{◌≡◌, ◌<◌, ◌≤◌, ◌^◌, ℕ, List, length, slice_index, fold, max, IfOk};
-ghost use Rattle.path_rows.specs.Problems.{IsProblem};
+ghost use Rattle.std.specs.Prelude.{◌≡◌, ◌<◌, ◌≤◌, ℕ, length, slice_index, max, IfOk};
 ghost use Rattle.path_rows.specs.Rows.{IsFit, greatest_cost};
 ghost use Rattle.path_rows.specs.Answers.{Names};
 ghost use Rattle.designer_command.specs.Corners.{AnswersLow, ShowsFloor};

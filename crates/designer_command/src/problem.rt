@@ -1,8 +1,8 @@
 //! The problem that the files of words make: the request, the configurations, the topology, resolution.
-ghost use Rattle.std.specs.Prelude.{◌≡◌, ℕ, List, [], IfOk, IfErr, OnOk, string_bytes, slice_get, slice_index_or, option_map};
+ghost use Rattle.std.specs.Prelude.{◌≡◌, ℕ, List, [], IfOk, IfErr, OnOk, string_bytes};
 ghost use Rattle.lsdb_build.specs.Graphs.{IsDatabase};
 ghost use Rattle.designer_command.specs.Inputs.{names_of};
-ghost use Rattle.designer_command.specs.Outcomes.{OnReady, OnRefused, outcome, topology_read, problem_read, file_of};
+ghost use Rattle.designer_command.specs.Outcomes.{OnReady, outcome, topology_read, problem_read, file_of};
 ghost use Rattle.designer_command.specs.Stops.{StopsReading, StopsWork, files_named, topology_stop, resolution_stop};
 
 use crate::reading::{FileWords, read_configs, read_request};

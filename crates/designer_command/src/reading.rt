@@ -4,7 +4,7 @@ ghost use Rattle.cost_base.specs.Outside.{IsFile, IsLonger, CountsFaults};
 ghost use Rattle.config_reader.specs.Configs.{config_of};
 ghost use Rattle.command_words.specs.Words.{texts};
 ghost use Rattle.designer_command.specs.Checks.{longest_answer};
-ghost use Rattle.designer_command.specs.Outcomes.{OnReady, OnRefused, file_read, request_read, configs_read, config_read, routers_of, fault_number};
+ghost use Rattle.designer_command.specs.Outcomes.{OnReady, file_read, request_read, configs_read, config_read, routers_of, fault_number};
 ghost use Rattle.designer_command.specs.Stops.{StopsReading, file_stop, request_stop, config_stop};
 
 use crate::stop::Stop;

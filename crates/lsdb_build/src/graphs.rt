@@ -1,4 +1,4 @@
-ghost use Rattle.std.specs.Prelude.{◌≡◌, ℕ, ◌+◌, ◌<◌, ◌≤◌, ◌^◌, ◌++◌, length, map, All, IfOk, OnOk};
+ghost use Rattle.std.specs.Prelude.{◌≡◌, ◌+◌, ◌<◌, ◌^◌, ◌++◌, length, map, All, IfOk, OnOk};
 ghost use Rattle.cost_base.specs.Lists.{numbers_from};
 ghost use Rattle.area_graph.specs.declared.Vertex.TheVariants.{Router as RouterVertex, Subnet as SubnetVertex};
 ghost use Rattle.area_graph.specs.declared.Price.TheVariants.{Zero};

@@ -1,6 +1,6 @@
-ghost use Rattle.std.specs.Prelude.{◌≡◌, ℕ, ◌<◌, ◌≤◌, ◌&&◌, not, List, [], length, map, slice_get, IfOk};
+ghost use Rattle.std.specs.Prelude.{◌≡◌, ◌<◌, ◌≤◌, ◌&&◌, not, List, [], length, map, slice_get, IfOk};
 ghost use Rattle.std.specs.List.{list_any};
-ghost use Rattle.lsdb_build.specs.Neighbours.{Port, is_linked_kind, is_linked, linked, is_broadcast, first_members, shares_subnet, is_other, is_port, place_from};
+ghost use Rattle.lsdb_build.specs.Neighbours.{Port, is_linked_kind, is_linked, linked, is_broadcast, first_members, shares_subnet, is_other, place_from};
 ghost use Rattle.lsdb_build.specs.Topology.{places_from, router_at};
 ghost use Rattle.lsdb_build.specs.Tallies.{IsTally, same_subnet, subnet_of};
 ghost use Rattle.lsdb_build.specs.Places.{ArePlaces, places_at, passes};

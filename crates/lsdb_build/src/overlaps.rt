@@ -1,5 +1,5 @@
 //! Overlapping subnets of two routers.
-ghost use Rattle.std.specs.Prelude.{◌&&◌, ◌||◌, ◌==◌, not, ◌≡◌, ℕ, ◌<◌, ◌≤◌, List, [], None, true, false, length, map, All, MatchResult, OnOk};
+ghost use Rattle.std.specs.Prelude.{◌&&◌, ◌||◌, ◌==◌, not, ◌≡◌, ℕ, ◌<◌, ◌≤◌, List, [], None, true, false, length, All, MatchResult, OnOk};
 ghost use Rattle.lsdb_build.specs.Neighbours.{Port, shares_subnet};
 ghost use Rattle.indexmap.specs.IndexMap.{get};
 ghost use Rattle.lsdb_build.specs.Tallies.{same_subnet, prefix_of};

@@ -1,4 +1,4 @@
-ghost use Rattle.std.specs.Prelude.{◌≡◌, ℕ, ◌+◌, ◌<◌, ◌≤◌, ◌++◌, List, [], ◌∷◌, length, All, IfOk, OnOk, option_to_list, vec_len};
+ghost use Rattle.std.specs.Prelude.{◌≡◌, ◌+◌, ◌<◌, ◌≤◌, ◌++◌, length, All, IfOk, OnOk, option_to_list};
 ghost use Rattle.interface_model.specs.Records.{IsRouter};
 ghost use Rattle.lsdb_build.specs.Neighbours.{port_of, ports_of, ports, shares_subnet, is_broadcast};
 ghost use Rattle.lsdb_build.specs.Tallies.{subnet_of};

@@ -1,8 +1,8 @@
 //! The problem that requests make of a database.
-ghost use Rattle.std.specs.Prelude.{◌≡◌, ◌≤◌, nat_le, [], None, List, length, OnOk, IfOk, IfErr};
+ghost use Rattle.std.specs.Prelude.{◌≡◌, ◌≤◌, nat_le, [], None, OnOk, IfOk, IfErr};
 ghost use Rattle.std.specs.List.{filter_map};
 ghost use Rattle.cost_base.specs.Lists.{first_of};
-ghost use Rattle.path_requests.specs.Meaning.{owners, request_of, problem_of};
+ghost use Rattle.path_requests.specs.Meaning.{request_of, problem_of};
 ghost use Rattle.path_requests.specs.Checked.{AreOwners};
 ghost use Rattle.path_requests.specs.Resolving.{fault_unless, line_faults, whole_faults, outline, resolution_fault, present_fault, present_problem_of, TellsResolution};
 

@@ -2,7 +2,7 @@
 ghost use Rattle.std.specs.Prelude.{◌≡◌, ◌++◌, [], Some, length, slice_get, option_to_list, IfOk, IfErr, OnOk};
 ghost use Rattle.std.specs.List.{filter_map};
 ghost use Rattle.cost_base.specs.Lists.{first_of};
-ghost use Rattle.path_requests.specs.Meaning.{link_number, request_of};
+ghost use Rattle.path_requests.specs.Meaning.{request_of};
 ghost use Rattle.path_requests.specs.Resolving.{has_mate, wish_faults, line_faults, outline, TellsResolution};
 ghost use Rattle.path_requests.specs.declared.Wish.TheVariants.{Symmetric as SymmetricWish};
 

@@ -1,5 +1,5 @@
 //! Looks up routers and linked interfaces by their names.
-ghost use Rattle.std.specs.Prelude.{◌≡◌, ◌≢◌, ℕ, List, ◌<◌, ◌≤◌, [], true, false, length, map, take, position, slice_index_or, All, AllPairs, MatchOption, IfOk, IfErr};
+ghost use Rattle.std.specs.Prelude.{◌≡◌, ◌≢◌, ℕ, List, ◌<◌, [], true, false, length, map, slice_index_or, All, AllPairs, MatchOption, IfOk, IfErr};
 ghost use Rattle.cost_base.specs.Lists.{first_of};
 ghost use Rattle.area_graph.specs.declared.Price.TheVariants.{Fixed};
 ghost use Rattle.lsdb_build.specs.Graphs.{IsDatabase, IsLinkPrice, graph_at, router_of};

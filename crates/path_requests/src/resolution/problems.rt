@@ -1,7 +1,6 @@
 //! The prices and the names of links, and the problem that is made of them.
-ghost use Rattle.std.specs.Prelude.{◌≡◌, ℕ, ◌<◌, ◌≤◌, ◌^◌, ◌++◌, ◌∷◌, [], Some, List, count_by, nat_lt, if◌then◌else◌, length, slice_get, slice_index_or, All, IfOk, OnOk};
+ghost use Rattle.std.specs.Prelude.{◌≡◌, ◌<◌, ◌≤◌, ◌^◌, ◌++◌, ◌∷◌, [], Some, count_by, nat_lt, if◌then◌else◌, length, slice_get, slice_index_or, IfOk, OnOk};
 ghost use Rattle.std.specs.List.{filter_map};
-ghost use Rattle.lsdb_build.specs.Graphs.{IsLinkPrice};
 ghost use Rattle.path_requests.specs.Meaning.{range_of, is_free, owner_at, owners, variable_of, present_cost, price_of, prices_from, names_from, request_of, problem_of};
 ghost use Rattle.path_requests.specs.Resolving.{line_faults, ends_faults, cost_faults, outline};
 

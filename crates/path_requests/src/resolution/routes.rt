@@ -1,5 +1,5 @@
 //! Resolves the hops of a wanted path.
-ghost use Rattle.std.specs.Prelude.{◌≡◌, ◌↔◌, ℕ, ◌+◌, ◌^◌, ◌<◌, ◌==◌, ◌&&◌, ◌++◌, [], ◌∷◌, Some, true, false, List, Option, filter, length, slice_get, slice_index_or, IfOk, IfErr, OnOk, IsTrue};
+ghost use Rattle.std.specs.Prelude.{◌≡◌, ◌↔◌, ◌+◌, ◌<◌, ◌==◌, ◌++◌, [], Some, false, Option, filter, length, slice_get, slice_index_or, IfOk, IfErr, OnOk, IsTrue};
 ghost use Rattle.std.specs.List.{list_any};
 ghost use Rattle.cost_base.specs.Lists.{first_of};
 ghost use Rattle.area_graph.specs.Area.{edge_at};
