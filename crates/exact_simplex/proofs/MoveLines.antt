@@ -1,6 +1,6 @@
 -- Lines whose constants are put anew.
 use Rattle.std.proofs.Common.{◌≡◌, ◌≢◌, ℕ, zero, suc, ◌*◌, ◌<◌, refl, sym, ◌∙◌, ap, subst, List, [], ◌∷◌, map, length, arith}
-use Rattle.std.specs.Prelude.{ℤ, pos, ◌+ℤ◌, ◌*ℤ◌, slice_index_or, slice_set}
+use Rattle.std.specs.Prelude.{ℤ, pos, ◌+ℤ◌, ◌*ℤ◌, Option, None, Some, IfSome, slice_index_or, slice_set}
 use Rattle.std.proofs.lemmas.Int.{ints}
 use Rattle.std.proofs.lemmas.List.{length-set}
 use Rattle.whole_numbers.specs.Fractions.{Fraction, IsLowest, StandsFor, plus, times, whole}
@@ -11,7 +11,8 @@ use Rattle.wide_fraction.specs.Widths.{IsWithin}
 use Rattle.path_rows.specs.Basis.{entry}
 use Rattle.exact_simplex.specs.TableRows.{AreNumbers, IsNumber, nothing}
 use Rattle.exact_simplex.specs.Turns.{AreRows}
-use Rattle.exact_simplex.specs.Moves.{raised_line}
+use Rattle.path_rows.specs.declared.tree.Member.{Member}
+use Rattle.exact_simplex.specs.Moves.{IsColumnOf, put_at, raised_line}
 use Rattle.exact_simplex.proofs.Numbers.{lowest_zero, nothing_number, nothing_times, times_lowest}
 use Rattle.exact_simplex.proofs.RowLaws.{number_at, rows_at, rows_set, written_numbers}
 
@@ -69,3 +70,16 @@ zeroed top count lines own d now value rows own_in value_is now_is =
     none_put : (line : List Fraction) → AreNumbers top line → AreNumbers top (slice_set line 0 nothing)
     none_put [] numbers = tt
     none_put (q ∷ line) numbers = (nothing_number top q numbers.0, numbers.1)
+
+-- the column of a member is one of the basis
+pub column_there : (basis : List Member) (member : Member) (column : Option ℕ) → IsColumnOf basis member column → IfSome column (λ k. k < length basis)
+column_there basis member None found = tt
+column_there basis member (Some k) found = found.0
+
+pub column_in : (basis : List Member) (member : Member) (column : Option ℕ) (n : ℕ) → IsColumnOf basis member column → length basis ≡ n → IfSome column (λ k. suc k < suc n)
+column_in basis member None n found counted = tt
+column_in basis member (Some k) n found counted = omega (arith, found.0, counted)
+
+pub length-put : (column : Option ℕ) (member : Member) (basis : List Member) → length (put_at column member basis) ≡ length basis
+length-put None member basis = refl
+length-put (Some k) member basis = length-set basis k member
