@@ -36,12 +36,12 @@ use Rattle.exact_simplex.proofs.WholeTurns.{stand_at}
 use Rattle.exact_simplex.proofs.Zips.{zip_at, zip_from, zip_long}
 
 -- a list of which one thing changes, or none
-map_none : {X : Type 0} (f : X → X) (xs : List X) (d : X) → ((k : ℕ) → k < length xs → f (slice_index_or xs k d) ≡ slice_index_or xs k d) → map f xs ≡ xs
+pub map_none : {X : Type 0} (f : X → X) (xs : List X) (d : X) → ((k : ℕ) → k < length xs → f (slice_index_or xs k d) ≡ slice_index_or xs k d) → map f xs ≡ xs
 map_none f [] d same = refl
 map_none f (x ∷ xs) d same =
     ap (λ z. z ∷ map f xs) (same 0 (omega arith)) ∙ ap (λ zs. x ∷ zs) (map_none f xs d (λ k k_in. same (suc k) (omega (arith, k_in))))
 
-map_one : {X : Type 0} (f : X → X) (xs : List X) (j : ℕ) (y d : X) → j < length xs → f (slice_index_or xs j d) ≡ y → ((k : ℕ) → k < length xs → k ≢ j → f (slice_index_or xs k d) ≡ slice_index_or xs k d) → map f xs ≡ slice_set xs j y
+pub map_one : {X : Type 0} (f : X → X) (xs : List X) (j : ℕ) (y d : X) → j < length xs → f (slice_index_or xs j d) ≡ y → ((k : ℕ) → k < length xs → k ≢ j → f (slice_index_or xs k d) ≡ slice_index_or xs k d) → map f xs ≡ slice_set xs j y
 map_one f [] j y d j_in here others = absurd (omega arith)
 map_one f (x ∷ xs) zero y d j_in here others =
     ap (λ z. z ∷ map f xs) here ∙ ap (λ zs. y ∷ zs) (map_none f xs d (λ k k_in. others (suc k) (omega (arith, k_in)) (λ h. omega (arith, h))))
@@ -118,7 +118,8 @@ pub record AreMoved (D : ℕ) (low next : List ℕ) (lows news : List (List ℤ)
   pub constants : (f : Form) → number_of D next news f 0 ≡ (number_of D low lows f 0 +ℤ (slope D low lows column f *ℤ fall))
   pub others : (f : Form) (k : ℕ) → number_of D next news f (suc k) ≡ number_of D low lows f (suc k)
 
-IsInside : Option ℕ → ℕ → Type 0
+-- the column, if there is one, is one of n
+abbrev pub IsInside : Option ℕ → ℕ → Type 0
 IsInside None n = Unit {0}
 IsInside (Some j) n = j < n
 
@@ -141,7 +142,8 @@ high_moved D low lows bs (Some j) fall inside is =
 pub low_moved : (D : ℕ) (low : List ℕ) (lows : List (List ℤ)) (bs : List Form) (column : Option ℕ) (fall : ℤ) (v bound : ℕ) → IsInside column (length bs) → v < length low → v < length (raised_rows column fall lows) → IsNumbered D (length low) low bs lows → AreMoved D low (slice_set low v bound) lows (lowered_rows v (pos D *ℤ (pos bound -ℤ pos (slice_index low v))) (raised_rows column fall lows)) bs column fall
 low_moved D low lows bs column fall v bound inside v_in row_in is =
     let m = high_moved D low lows bs column fall inside is in
-    let same = λ f place. lowered_number D (length low) low (raised_rows column fall lows) f v bound m.numbered.long v_in row_in place in
+    let same : (f : Form) (place : ℕ) → number_of D (slice_set low v bound) (lowered_rows v (pos D *ℤ (pos bound -ℤ pos (slice_index low v))) (raised_rows column fall lows)) f place ≡ number_of D low (raised_rows column fall lows) f place =
+    λ f place. lowered_number D (length low) low (raised_rows column fall lows) f v bound m.numbered.long v_in row_in place in
     record {
       numbered = lowered_numbered D (length low) low (fallen_basis column fall bs) (raised_rows column fall lows) v bound v_in m.numbered;
       constants = λ f. same f 0 ∙ m.constants f;
@@ -182,7 +184,7 @@ entry_is top n D low lows f line k l k_in =
     )
 
 -- its line where the form isn't in the basis
-own_lowered : (top n D : ℕ) (low next : List ℕ) (lows news : List (List ℤ)) (bs : List Form) (g : Form) (line : List Fraction) (fall : ℤ) → AreMoved D low next lows news bs None fall → IsLong top n D low lows g line → Stand D (slice_set line 0 (minus (entry line 0) (whole fall))) (numbers_of n D next news (fallen g fall))
+pub own_lowered : (top n D : ℕ) (low next : List ℕ) (lows news : List (List ℤ)) (bs : List Form) (g : Form) (line : List Fraction) (fall : ℤ) → AreMoved D low next lows news bs None fall → IsLong top n D low lows g line → Stand D (slice_set line 0 (minus (entry line 0) (whole fall))) (numbers_of n D next news (fallen g fall))
 own_lowered top n D low next lows news bs g line fall m l =
     let e = entry_is top n D low lows g line 0 l (omega arith) in
     line_put n D low next lows news (fallen g fall) g line (minus (entry line 0) (whole fall)) (λ k. m.others (fallen g fall) k) l.stand
@@ -192,7 +194,7 @@ own_lowered top n D low next lows news bs g line fall m l =
     (minus_stands_over (entry line 0) (whole fall) (number_of D low lows g 0) (pos D *ℤ fall) D e.0 (omega arith) l.positive e.1 (whole_stands D fall)))
 
 -- and where it is
-own_zeroed : (top n D : ℕ) (low next : List ℕ) (lows news : List (List ℤ)) (bs : List Form) (g : Form) (line : List Fraction) (j : ℕ) (fall : ℤ) → AreMoved D low next lows news bs (Some j) fall → IsLong top n D low lows g line → number_of D low lows g 0 ≡ pos 0 → number_of D low lows g (suc j) ≡ pos D → Stand D (slice_set line 0 nothing) (numbers_of n D next news (fallen g fall))
+pub own_zeroed : (top n D : ℕ) (low next : List ℕ) (lows news : List (List ℤ)) (bs : List Form) (g : Form) (line : List Fraction) (j : ℕ) (fall : ℤ) → AreMoved D low next lows news bs (Some j) fall → IsLong top n D low lows g line → number_of D low lows g 0 ≡ pos 0 → number_of D low lows g (suc j) ≡ pos D → Stand D (slice_set line 0 nothing) (numbers_of n D next news (fallen g fall))
 own_zeroed top n D low next lows news bs g line j fall m l none own =
     line_put n D low next lows news (fallen g fall) g line nothing (λ k. m.others (fallen g fall) k) l.stand
     (subst (λ z. StandsFor nothing z D)
@@ -203,7 +205,7 @@ own_zeroed top n D low next lows news bs g line j fall m l none own =
     (lib.IntN.zero-*ℤ (pos D)))
 
 -- other lines
-other_kept : (n D : ℕ) (low next : List ℕ) (lows news : List (List ℤ)) (bs : List Form) (f : Form) (line : List Fraction) (fall : ℤ) → AreMoved D low next lows news bs None fall → Stand D line (numbers_of n D low lows f) → Stand D line (numbers_of n D next news f)
+pub other_kept : (n D : ℕ) (low next : List ℕ) (lows news : List (List ℤ)) (bs : List Form) (f : Form) (line : List Fraction) (fall : ℤ) → AreMoved D low next lows news bs None fall → Stand D line (numbers_of n D low lows f) → Stand D line (numbers_of n D next news f)
 other_kept n D low next lows news bs f line fall m stand =
     subst (λ (ms : List ℤ). Stand D line ms) (mapped_same (number_of D low lows f) (number_of D next news f) 0 (suc n) (λ k from k_in. each k)) stand
   where
@@ -211,7 +213,7 @@ other_kept n D low next lows news bs f line fall m stand =
     each zero = sym (m.constants f ∙ ring (number_of D low lows f 0 ∷ fall ∷ []) (var 0 ⊕ num (pos 0) ⊗ var 1) (var 0) refl)
     each (suc k) = sym (m.others f k)
 
-other_raised : (top n D : ℕ) (low next : List ℕ) (lows news : List (List ℤ)) (bs : List Form) (f : Form) (line : List Fraction) (j : ℕ) (fall : ℤ) → j < n → AreMoved D low next lows news bs (Some j) fall → IsLong top n D low lows f line → Stand D (raised_line j (whole fall) line) (numbers_of n D next news f)
+pub other_raised : (top n D : ℕ) (low next : List ℕ) (lows news : List (List ℤ)) (bs : List Form) (f : Form) (line : List Fraction) (j : ℕ) (fall : ℤ) → j < n → AreMoved D low next lows news bs (Some j) fall → IsLong top n D low lows f line → Stand D (raised_line j (whole fall) line) (numbers_of n D next news f)
 other_raised top n D low next lows news bs f line j fall j_in m l =
     let first = entry_is top n D low lows f line 0 l (omega arith) in
     let there = entry_is top n D low lows f line (suc j) l (omega (arith, j_in)) in

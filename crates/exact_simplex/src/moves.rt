@@ -1,15 +1,18 @@
 //! The move of a table to another box, bound by bound.
 ghost use Rattle.std.specs.Prelude.{◌≡◌, ℕ, suc, ◌^◌, ◌<◌, length, map, nat_abs, slice_set, IfErr, IfSome, OnOk};
-ghost use Rattle.exact_simplex.specs.Moves.{HasShape, IsColumnOf, IsRaiseStep, IsShifted, IsShiftedWide, RaisesWide, ShiftsWide, put_at, raised_line, shifted_lines};
+ghost use Rattle.exact_simplex.specs.Moves.{HasShape, IsColumnOf, IsMoved, IsRaiseStep, IsShifted, IsShiftedWide, IsUnboxedTable, IsWideShift, KeepsRows, RaisesWide, ShiftsWide, high_shift_of, low_shift_of, put_at, raised_line, shifted_lines};
 ghost use Rattle.exact_simplex.specs.Pivots.{KeepsForms};
 ghost use Rattle.exact_simplex.specs.TableRows.{AreNumbers, IsNumber, IsWideStep};
 ghost use Rattle.exact_simplex.specs.Entries.{IsPassing};
 ghost use Rattle.cost_base.specs.declared.StepName.TheVariants.{Sub};
 ghost use Rattle.whole_numbers.specs.Fractions.{minus};
 ghost use Rattle.exact_simplex.specs.Turns.{AreRows};
+ghost use Rattle.exact_simplex.specs.Wholes.{HasRoom};
 ghost use Rattle.path_rows.specs.Basis.{entry};
+ghost use Rattle.path_rows.specs.Boxes.{with_high, with_low};
 
 use crate::row::TableRow;
+use crate::start::range_of;
 use crate::table::Table;
 use path_rows::Member;
 use wide_fraction::{Frac, Top, Wide, add, mul, sub};
@@ -158,6 +161,61 @@ impl Table {
         let fall = Frac::whole(fall);
         shift_lines(self.lines.as_mut_slice(), own, column, fall, self.top)?;
         put_member(&mut self.basis, column, after);
+        Ok(())
+    }
+}
+
+impl Table {
+    /// Moves the lower bound of a variable. A bound that stays needs no step.
+    ///
+    /// # Errors
+    ///
+    /// `Wide` where a step makes a whole number that passes `top`.
+    fn move_low(&mut self, var: u32, bound: u16) -> Result<(), Wide>
+        requires unboxed { IsUnboxedTable self.old }
+        requires room { HasRoom self.old }
+        requires var { var < length self.old.costs.low }
+        ensures unboxed { OnOk result (IsUnboxedTable self.new) }
+        ensures moved { OnOk result (IsMoved self.old (with_low self.old.costs var bound) self.new) }
+        ensures shape { HasShape self.new }
+        ensures keeps { KeepsRows self.old self.new }
+        ensures wide { IfErr result (λ wide. IsWideShift self.old (low_shift_of self.old var bound) wide) }
+    {
+        let place = var as usize;
+        let low = self.costs.low.as_slice()[place];
+        if bound == low {
+            return Ok(());
+        }
+        let fall = range_of(low, bound);
+        self.shift(place, Member::Low(var, low), Member::Low(var, bound), fall)?;
+        self.costs.low.set(place, bound);
+        Ok(())
+    }
+
+    /// Moves the upper bound of a variable. A bound that stays needs no step.
+    ///
+    /// # Errors
+    ///
+    /// `Wide` where a step makes a whole number that passes `top`.
+    fn move_high(&mut self, var: u32, bound: u16) -> Result<(), Wide>
+        requires unboxed { IsUnboxedTable self.old }
+        requires room { HasRoom self.old }
+        requires var { var < length self.old.costs.low }
+        ensures unboxed { OnOk result (IsUnboxedTable self.new) }
+        ensures moved { OnOk result (IsMoved self.old (with_high self.old.costs var bound) self.new) }
+        ensures shape { HasShape self.new }
+        ensures keeps { KeepsRows self.old self.new }
+        ensures wide { IfErr result (λ wide. IsWideShift self.old (high_shift_of self.old var bound) wide) }
+    {
+        let place = var as usize;
+        let high = self.costs.high.as_slice()[place];
+        if bound == high {
+            return Ok(());
+        }
+        let line = self.costs.low.as_slice().len() + place;
+        let fall = range_of(bound, high);
+        self.shift(line, Member::High(var, high), Member::High(var, bound), fall)?;
+        self.costs.high.set(place, bound);
         Ok(())
     }
 }
