@@ -1,8 +1,9 @@
 -- A bound of a table moves.
-use Rattle.std.proofs.Common.{◌≡◌, ◌≢◌, ℕ, zero, suc, ◌+◌, ◌<◌, ◌≤◌, refl, sym, ◌∙◌, ap, subst, List, [], ◌∷◌, map, length, arith}
-use Rattle.std.specs.Prelude.{ℤ, pos, ◌-ℤ◌, ◌*ℤ◌, Option, None, Some, slice_get, slice_index, slice_index_or, All, Any}
+use Rattle.std.proofs.Common.{◌≡◌, ◌≢◌, ℕ, zero, suc, ◌+◌, ◌^◌, ◌<◌, ◌≤◌, refl, sym, ◌∙◌, ap, subst, List, [], ◌∷◌, map, length, arith, w64, to_z, of_z}
+use Rattle.std.specs.Prelude.{ℤ, pos, ◌-ℤ◌, ◌*ℤ◌, nat_abs, Option, None, Some, slice_get, slice_index, slice_index_or, slice_set, All, Any}
 use Rattle.std.specs.List.{AllZip}
-use Rattle.std.proofs.lemmas.List.{length-map}
+use Rattle.std.proofs.lemmas.Int.{fits_signed_from_abs, to_z-of_z}
+use Rattle.std.proofs.lemmas.List.{length-map, set-get_or}
 use Rattle.std.proofs.lemmas.Option.{slice_get-get_or}
 use Rattle.cost_base.specs.declared.StepName.{StepName}
 use Rattle.whole_numbers.specs.Fractions.{Fraction, listed, whole}
@@ -20,7 +21,7 @@ use Rattle.exact_simplex.specs.Tableaus.{IsShiftStep, Shift, moved, moved_member
 use Rattle.exact_simplex.specs.Tableaus.IsShiftStep.{constant, product, sum}
 use Rattle.exact_simplex.specs.Turns.{AreRows}
 use Rattle.exact_simplex.specs.Wholes.{HasRoom, IsLine, low_forms, members_of, numbers_of}
-use Rattle.exact_simplex.specs.Moves.{HasShape, IsColumnOf, IsRaiseStep, IsShifted, IsShiftedWide, IsUnboxed, IsUnboxedTable, IsWideShift, ShiftsWide, shifted_lines}
+use Rattle.exact_simplex.specs.Moves.{HasShape, IsColumnOf, IsRaiseStep, IsShifted, IsShiftedWide, IsUnboxed, IsUnboxedTable, IsWideShift, ShiftsWide, high_shift_of, low_shift_of, shifted_lines}
 use Rattle.exact_simplex.specs.Moves.IsRaiseStep.{product as raise_product, sum as raise_sum}
 use Rattle.exact_simplex.proofs.Bases.{low_forms_long, members_begin}
 use Rattle.exact_simplex.proofs.Filled.{length-mapped}
@@ -196,3 +197,63 @@ unboxed_shape t u room =
 pub lines_many : (t : Table) → IsUnboxedTable t → length t.lines.items ≡ length t.costs.low + length t.costs.low + length t.rows.items
 lines_many t u =
     sym (zip_long (IsLine t.top u.common t.costs t.rows.items u.lows) (members_of t.costs (length t.rows.items)) t.lines.items u.lines) ∙ members_long t.costs (length t.rows.items)
+
+-- a small number, as 64 bits hold it
+pub kept_number : (z : ℤ) → nat_abs z < 2 ^ 27 → to_z w64 (of_z w64 z) ≡ z
+kept_number z small = to_z-of_z w64 z (fits_signed_from_abs w64 z (omega (arith, small)))
+
+-- a lower bound that was set, after its lines moved
+pub low_after : (t s : Table) (u : IsUnboxedTable t) (v bound low : ℕ) (fall : ℤ) (now : List ℕ) → v < length t.costs.low → KeepsForms t s → HasShape s → low ≡ slice_index t.costs.low v → fall ≡ (pos bound -ℤ pos low) → IsShifted t s v (Low v low) (Low v bound) fall → now ≡ slice_set s.costs.low v bound →
+    ((record { low = now; high = s.costs.high } ≡ with_low t.costs v bound) × (s.basis.items ≡ moved (with_low t.costs v bound) t.basis.items)) × IsUnboxed s.top (record { low = now; high = s.costs.high }) s.rows.items s.basis.items s.lines.items
+low_after t s u v bound low fall now v_in k shape low_is fall_is is now_is =
+    let fall_at : fall ≡ (pos bound -ℤ pos (slice_index t.costs.low v)) = fall_is ∙ ap (λ (l : ℕ). pos bound -ℤ pos l) low_is in
+    let shifted = subst (λ (l : ℕ). IsShifted t s v (Low v l) (Low v bound) (pos bound -ℤ pos (slice_index t.costs.low v))) low_is (subst (λ z. IsShifted t s v (Low v low) (Low v bound) z) fall_at is) in
+    let after = low_unboxed t s u v bound v_in k shape shifted in
+    let costs_are : record { low = now; high = s.costs.high } ≡ with_low t.costs v bound =
+    ap (λ (bs : List ℕ). record { low = bs; high = s.costs.high }) now_is ∙ ap (λ (costs : CostBox). with_low costs v bound) k.costs in
+    (
+      (costs_are, after.0),
+      subst (λ (top : ℕ). IsUnboxed top (record { low = now; high = s.costs.high }) s.rows.items s.basis.items s.lines.items) (sym k.top)
+          (subst (λ (costs : CostBox). IsUnboxed t.top costs s.rows.items s.basis.items s.lines.items) (sym costs_are)
+          (subst (λ (rows : List Form). IsUnboxed t.top (with_low t.costs v bound) rows s.basis.items s.lines.items) (sym k.rows) after.1)),
+    )
+
+-- and an upper one
+pub high_after : (t s : Table) (u : IsUnboxedTable t) (v bound high own : ℕ) (fall : ℤ) (now : List ℕ) → v < length t.costs.low → KeepsForms t s → HasShape s → own ≡ length t.costs.low + v → high ≡ slice_index t.costs.high v → fall ≡ (pos high -ℤ pos bound) → IsShifted t s own (High v high) (High v bound) fall → now ≡ slice_set s.costs.high v bound →
+    ((record { low = s.costs.low; high = now } ≡ with_high t.costs v bound) × (s.basis.items ≡ moved (with_high t.costs v bound) t.basis.items)) × IsUnboxed s.top (record { low = s.costs.low; high = now }) s.rows.items s.basis.items s.lines.items
+high_after t s u v bound high own fall now v_in k shape own_is high_is fall_is is now_is =
+    let fall_at : fall ≡ (pos (slice_index t.costs.high v) -ℤ pos bound) = fall_is ∙ ap (λ (h : ℕ). pos h -ℤ pos bound) high_is in
+    let shifted = subst (λ (place : ℕ). IsShifted t s place (High v (slice_index t.costs.high v)) (High v bound) (pos (slice_index t.costs.high v) -ℤ pos bound)) own_is (subst (λ (h : ℕ). IsShifted t s own (High v h) (High v bound) (pos (slice_index t.costs.high v) -ℤ pos bound)) high_is (subst (λ z. IsShifted t s own (High v high) (High v bound) z) fall_at is)) in
+    let after = high_unboxed t s u v bound v_in k shape shifted in
+    let costs_are : record { low = s.costs.low; high = now } ≡ with_high t.costs v bound =
+    ap (λ (bs : List ℕ). record { low = s.costs.low; high = bs }) now_is ∙ ap (λ (costs : CostBox). with_high costs v bound) k.costs in
+    (
+      (costs_are, after.0),
+      subst (λ (top : ℕ). IsUnboxed top (record { low = s.costs.low; high = now }) s.rows.items s.basis.items s.lines.items) (sym k.top)
+          (subst (λ (costs : CostBox). IsUnboxed t.top costs s.rows.items s.basis.items s.lines.items) (sym costs_are)
+          (subst (λ (rows : List Form). IsUnboxed t.top (with_high t.costs v bound) rows s.basis.items s.lines.items) (sym k.rows) after.1)),
+    )
+
+-- a bound that stays
+pub low_stays : (t : Table) (u : IsUnboxedTable t) (v bound : ℕ) → bound ≡ slice_index t.costs.low v → (t.costs ≡ with_low t.costs v bound) × (t.basis.items ≡ moved (with_low t.costs v bound) t.basis.items)
+low_stays t u v bound bound_is =
+    let same : t.costs ≡ with_low t.costs v bound = sym (ap (with_low t.costs v) bound_is ∙ ap (λ (bs : List ℕ). record { low = bs; high = t.costs.high }) (set-get_or t.costs.low v 0)) in
+    (same, sym (ap (λ (costs : CostBox). moved costs t.basis.items) (sym same) ∙ moved_same t.costs t.rows.items t.basis.items u.members))
+
+pub high_stays : (t : Table) (u : IsUnboxedTable t) (v bound : ℕ) → bound ≡ slice_index t.costs.high v → (t.costs ≡ with_high t.costs v bound) × (t.basis.items ≡ moved (with_high t.costs v bound) t.basis.items)
+high_stays t u v bound bound_is =
+    let same : t.costs ≡ with_high t.costs v bound = sym (ap (with_high t.costs v) bound_is ∙ ap (λ (bs : List ℕ). record { low = t.costs.low; high = bs }) (set-get_or t.costs.high v 0)) in
+    (same, sym (ap (λ (costs : CostBox). moved costs t.basis.items) (sym same) ∙ moved_same t.costs t.rows.items t.basis.items u.members))
+
+-- a step that was too wide, by what the bound was read to be
+pub low_wide : (t : Table) (u : IsUnboxedTable t) (v bound low : ℕ) (fall : ℤ) (wide : Wide) → v < length t.costs.low → low ≡ slice_index t.costs.low v → fall ≡ (pos bound -ℤ pos low) → IsShiftedWide t v (Low v low) fall wide → IsWideShift t (low_shift_of t v bound) wide
+low_wide t u v bound low fall wide v_in low_is fall_is is =
+    let fall_at : fall ≡ (pos bound -ℤ pos (slice_index t.costs.low v)) = fall_is ∙ ap (λ (l : ℕ). pos bound -ℤ pos l) low_is in
+    shift_wide t u v (Low v (slice_index t.costs.low v)) (pos bound -ℤ pos (slice_index t.costs.low v)) wide (omega (arith, lines_many t u, v_in)) (members_begin t.costs (length t.rows.items) v (Low 0 0) v_in)
+    (subst (λ (l : ℕ). IsShiftedWide t v (Low v l) (pos bound -ℤ pos (slice_index t.costs.low v)) wide) low_is (subst (λ z. IsShiftedWide t v (Low v low) z wide) fall_at is))
+
+pub high_wide : (t : Table) (u : IsUnboxedTable t) (v bound high own : ℕ) (fall : ℤ) (wide : Wide) → v < length t.costs.low → own ≡ length t.costs.low + v → high ≡ slice_index t.costs.high v → fall ≡ (pos high -ℤ pos bound) → IsShiftedWide t own (High v high) fall wide → IsWideShift t (high_shift_of t v bound) wide
+high_wide t u v bound high own fall wide v_in own_is high_is fall_is is =
+    let fall_at : fall ≡ (pos (slice_index t.costs.high v) -ℤ pos bound) = fall_is ∙ ap (λ (h : ℕ). pos h -ℤ pos bound) high_is in
+    shift_wide t u (length t.costs.low + v) (High v (slice_index t.costs.high v)) (pos (slice_index t.costs.high v) -ℤ pos bound) wide (omega (arith, lines_many t u, v_in)) (high_place t.costs (length t.rows.items) v (Low 0 0) v_in)
+    (subst (λ (place : ℕ). IsShiftedWide t place (High v (slice_index t.costs.high v)) (pos (slice_index t.costs.high v) -ℤ pos bound) wide) own_is (subst (λ (h : ℕ). IsShiftedWide t own (High v h) (pos (slice_index t.costs.high v) -ℤ pos bound) wide) high_is (subst (λ z. IsShiftedWide t own (High v high) z wide) fall_at is)))
