@@ -1,5 +1,5 @@
 //! The move of a table to another box, bound by bound.
-ghost use Rattle.std.specs.Prelude.{◌≡◌, ℕ, suc, ◌^◌, ◌<◌, length, map, nat_abs, slice_set, IfErr, IfSome, OnOk};
+ghost use Rattle.std.specs.Prelude.{◌≡◌, ℕ, suc, ◌^◌, ◌<◌, length, map, nat_abs, slice_set, IfErr, IfSome, OnErr, OnOk};
 ghost use Rattle.exact_simplex.specs.Moves.{HasShape, IsColumnOf, IsMoved, IsRaiseStep, IsShifted, IsShiftedWide, IsUnboxedTable, IsWideShift, KeepsRows, RaisesWide, ShiftsWide, high_shift_of, low_shift_of, put_at, raised_line, shifted_lines};
 ghost use Rattle.exact_simplex.specs.Pivots.{KeepsForms};
 ghost use Rattle.exact_simplex.specs.TableRows.{AreNumbers, IsNumber, IsWideStep};
@@ -7,14 +7,16 @@ ghost use Rattle.exact_simplex.specs.Entries.{IsPassing};
 ghost use Rattle.cost_base.specs.declared.StepName.TheVariants.{Sub};
 ghost use Rattle.whole_numbers.specs.Fractions.{minus};
 ghost use Rattle.exact_simplex.specs.Turns.{AreRows};
-ghost use Rattle.exact_simplex.specs.Wholes.{HasRoom};
+ghost use Rattle.exact_simplex.specs.Wholes.{HasRoom, held_of};
+ghost use Rattle.exact_simplex.specs.Tableaus.{IsWideMove};
+ghost use Rattle.exact_simplex.specs.declared.stage.Stage.TheVariants.{Open};
 ghost use Rattle.path_rows.specs.Basis.{entry};
 ghost use Rattle.path_rows.specs.Boxes.{with_high, with_low};
 
 use crate::row::TableRow;
 use crate::start::range_of;
 use crate::table::Table;
-use path_rows::Member;
+use path_rows::{CostBox, Member};
 use wide_fraction::{Frac, Top, Wide, add, mul, sub};
 
 /// Puts a line's entry in the column, times the fall, to its constant. No step is taken where the entry is 0.
@@ -216,6 +218,33 @@ impl Table {
         let fall = range_of(bound, high);
         self.shift(line, Member::High(var, high), Member::High(var, bound), fall)?;
         self.costs.high.set(place, bound);
+        Ok(())
+    }
+
+    /// Moves all bounds to those of another box: for each variable, in order, the lower one and then the upper one. The
+    /// boxes between may be empty, and rows may not fit them.
+    ///
+    /// # Errors
+    ///
+    /// `Wide` where a step makes a whole number that passes `top`. Then some bounds have moved.
+    pub fn move_bounds(&mut self, costs: &CostBox) -> Result<(), Wide>
+        requires unboxed { IsUnboxedTable self.old }
+        requires room { HasRoom self.old }
+        requires low { length costs.now.low ≡ length self.old.costs.low }
+        requires high { length costs.now.high ≡ length self.old.costs.low }
+        ensures unboxed { OnOk result (IsUnboxedTable self.new) }
+        ensures moved { OnOk result (IsMoved self.old costs.now self.new) }
+        ensures shape { HasShape self.new }
+        ensures keeps { KeepsRows self.old self.new }
+        ensures wide { OnErr result (IsWideMove (held_of self.old Open) costs.now) }
+    {
+        let low = costs.low.as_slice();
+        let high = costs.high.as_slice();
+        let width = low.len() as u32;
+        for var in 0..width {
+            self.move_low(var, low[var as usize])?;
+            self.move_high(var, high[var as usize])?;
+        }
         Ok(())
     }
 }
