@@ -1,21 +1,31 @@
 -- The lines of the starting basis, as they are made again.
-use Rattle.std.proofs.Common.{◌≡◌, ℕ, zero, suc, ◌+◌, ◌-◌, ◌<◌, ◌≤◌, refl, sym, ◌∙◌, ap, subst, List, [], ◌∷◌, ◌++◌, map, take, drop, length, arith}
-use Rattle.std.specs.Prelude.{ℤ, pos, negsuc, ◌+ℤ◌, ◌-ℤ◌, ◌*ℤ◌, slice_index, slice_index_or, slice_set}
+use Rattle.std.proofs.Common.{◌≡◌, ℕ, zero, suc, ◌+◌, ◌-◌, ◌^◌, ◌<◌, ◌≤◌, refl, sym, ◌∙◌, ap, subst, List, [], ◌∷◌, ◌++◌, map, take, drop, length, arith, zero-add}
+use Rattle.std.specs.Prelude.{ℤ, pos, negsuc, ◌+ℤ◌, ◌-ℤ◌, ◌*ℤ◌, nat_abs, slice_index, slice_index_or, slice_set, All}
 use Rattle.std.proofs.lemmas.List.{get_or-map, length-map}
 use Rattle.cost_base.specs.Lists.{numbers_from}
 use Rattle.whole_numbers.specs.Fractions.{Fraction, whole}
 use Rattle.whole_numbers.proofs.Ring.{var, num, ◌⊕◌, ◌⊗◌, ring}
 use Rattle.path_rows.specs.declared.form.Form.{Form}
 use Rattle.path_rows.specs.declared.form.CostBox.{CostBox}
+use Rattle.wide_fraction.specs.Widths.{IsTop}
+use Rattle.path_rows.specs.declared.tree.Member.{Member}
 use Rattle.path_rows.specs.declared.tree.Member.TheVariants.{Low, High, Row}
 use Rattle.path_rows.specs.Forms.{dot, form_at, value}
-use Rattle.path_rows.specs.Basis.{IsFormOf, entry, unit}
-use Rattle.exact_simplex.specs.TableRows.{nothing}
-use Rattle.exact_simplex.specs.Wholes.{starting_line}
-use Rattle.exact_simplex.proofs.Between.{length-written, unwritten, written_next}
-use Rattle.exact_simplex.proofs.Filled.{length-mapped}
-use Rattle.exact_simplex.proofs.StartLines.{blank_at}
+use Rattle.path_rows.specs.Basis.{IsFormOf, entry, low_member, member_form, unit}
+use Rattle.exact_simplex.specs.TableRows.{AreNumbers, nothing}
+use Rattle.exact_simplex.specs.Tableaus.{FitsBox, starting}
+use Rattle.exact_simplex.specs.Wholes.{IsWhole, IsWholeTable, members_of, starting_line}
+use Rattle.exact_simplex.specs.Moves.{HasShape, IsUnboxedTable, KeepsAllButLines}
+use Rattle.exact_simplex.specs.Pivots.{member_at}
+use Rattle.exact_simplex.specs.Turns.{AreRows}
+use Rattle.exact_simplex.specs.declared.table.Table.{Table}
+use Rattle.path_rows.specs.Boxes.{IsBox}
+use Rattle.exact_simplex.proofs.Starts.{whole_start}
+use Rattle.exact_simplex.proofs.Between.{all_written, length-written, unwritten, written_next}
+use Rattle.exact_simplex.proofs.Filled.{length-mapped, mapped_at}
+use Rattle.exact_simplex.proofs.StartLines.{blank_at, whole_number}
 use Rattle.exact_simplex.proofs.Units.{high_value, low_value}
+use Rattle.exact_simplex.proofs.WholeTurns.{coefficients_long}
 
 dot_next : (cs : List ℤ) (xs : List ℕ) (i : ℕ) → i < length cs → length cs ≡ length xs → dot (take (suc i) cs) (take (suc i) xs) ≡ (dot (take i cs) (take i xs) +ℤ (slice_index_or cs i (pos 0) *ℤ pos (slice_index_or xs i 0)))
 dot_next [] xs i i_in same = absurd (omega arith)
@@ -74,3 +84,118 @@ pub high_starts : (costs : CostBox) (rows : List Form) (v bound low : ℕ) (rang
 high_starts costs rows v bound low range now is low_is range_is now_is =
     now_is ∙ ap (λ z. whole z ∷ map whole (unit (length costs.low) v (negsuc 0)))
     (range_is ∙ ap (λ (l : ℕ). pos bound -ℤ pos l) low_is ∙ sym (high_value costs.low rows v bound is.0))
+
+-- the numbers of a form that fits the box are ones of the table
+pub form_numbers : (top : ℕ) (costs : CostBox) (f : Form) (line : List Fraction) → IsTop top → FitsBox costs f → line ≡ whole (value f costs.low) ∷ map whole f.coefficients → AreNumbers top line
+form_numbers top costs f line is_top fits line_is =
+    subst (AreNumbers top) (sym line_is) (whole_number top (value f costs.low) is_top fits.corner, all f.coefficients fits.sizes)
+  where
+    all : (cs : List ℤ) → All (λ c. nat_abs c ≤ 2 ^ 26) cs → AreNumbers top (map whole cs)
+    all [] small = tt
+    all (c ∷ cs) small =
+        let first : nat_abs c ≤ 2 ^ 26 = small 0 (pos 0) (omega arith) in
+        let below : nat_abs c < 2 ^ 27 = omega (arith, first) in
+        (whole_number top c is_top below, all cs (λ k d k_in. small (suc k) d (omega (arith, k_in))))
+
+-- one more member of the starting basis
+pub start_next : (costs : CostBox) (initial basis : List Member) (low : List ℕ) (v : ℕ) → length initial ≡ length costs.low → low ≡ costs.low → v < length costs.low → basis ≡ take v (starting costs) ++ drop v initial → slice_set basis v (Low v (slice_index low v)) ≡ take (v + 1) (starting costs) ++ drop (v + 1) initial
+start_next costs initial basis low v long low_is v_in basis_is =
+    ap (λ (ms : List Member). slice_set ms v (Low v (slice_index low v))) basis_is
+    ∙ written_next initial (starting costs) v (Low 0 0) (Low v (slice_index low v)) (omega (arith, long, v_in)) (omega (arith, length-mapped (low_member costs) 0 (length costs.low), v_in))
+    (ap (λ (bs : List ℕ). Low v (slice_index bs v)) low_is ∙ sym (mapped_at (low_member costs) 0 (length costs.low) v (Low 0 0) v_in ∙ ap (low_member costs) (zero-add v)))
+
+pub start_all : (costs : CostBox) (initial basis : List Member) (v : ℕ) → length initial ≡ length costs.low → v ≡ length costs.low → basis ≡ take v (starting costs) ++ drop v initial → basis ≡ starting costs
+start_all costs initial basis v long v_is basis_is =
+    basis_is ∙ all_written initial (starting costs) v (long ∙ sym v_is) (length-mapped (low_member costs) 0 (length costs.low) ∙ sym v_is)
+
+pub filled_all : (constant : ℤ) (cs : List ℤ) (v : ℕ) (line : List Fraction) → v ≡ length cs → line ≡ filled_line constant cs v → line ≡ whole constant ∷ map whole cs
+filled_all constant cs v line v_is line_is =
+    line_is ∙ ap (λ (fs : List Fraction). whole constant ∷ fs) (all_written (map (λ column. nothing) (numbers_from 0 (length cs))) (map whole cs) v (blank_long (length cs) ∙ sym v_is) (length-map cs whole ∙ sym v_is))
+
+-- a line of zeros, as long as the old one
+pub cleared_is : (old cleared : List Fraction) (width : ℕ) → length old ≡ suc width → cleared ≡ nothing ∷ map (λ column. nothing) (numbers_from 0 (length old - 1)) → cleared ≡ nothing ∷ map (λ column. nothing) (numbers_from 0 width)
+cleared_is old cleared width long is =
+    let same : length old - 1 ≡ width = omega (arith, long) in
+    is ∙ ap (λ (n : ℕ). nothing ∷ map (λ column. nothing) (numbers_from 0 n)) same
+
+-- how long the starting line of a member is
+pub line_long : (costs : CostBox) (rows : List Form) (member : Member) → All (FitsBox costs) rows → IsFormOf costs rows member → length (starting_line costs rows member) ≡ suc (length costs.low)
+line_long costs rows member fit is =
+    ap suc (length-map (member_form (length costs.low) rows member).coefficients whole ∙ coefficients_long costs rows member fit is)
+
+-- one more line of a table is started
+pub started_next : (initial t : Table) (costs : CostBox) (line : ℕ) (now : List (List Fraction)) → KeepsAllButLines initial t → initial.costs ≡ costs → length initial.lines.items ≡ length (members_of costs (length initial.rows.items)) → line < length initial.lines.items → t.lines.items ≡ take line (map (starting_line costs initial.rows.items) (members_of costs (length initial.rows.items))) ++ drop line initial.lines.items → now ≡ slice_set t.lines.items line (starting_line costs t.rows.items (member_at t line)) → now ≡ take (line + 1) (map (starting_line costs initial.rows.items) (members_of costs (length initial.rows.items))) ++ drop (line + 1) initial.lines.items
+started_next initial t costs line now keeps costs_are many line_in lines_are now_is =
+    let rows = initial.rows.items in
+    let ms = members_of costs (length rows) in
+    let start = starting_line costs rows in
+    now_is ∙ ap (λ (ls : List (List Fraction)). slice_set ls line (starting_line costs t.rows.items (member_at t line))) lines_are
+    ∙ written_next initial.lines.items (map start ms) line [] (starting_line costs t.rows.items (member_at t line)) line_in (omega (arith, length-map ms start, many, line_in))
+    (ap (λ (vec : List Form). starting_line costs vec (slice_index_or (members_of t.costs (length vec)) line (Low 0 0))) (ap (λ v. v.items) keeps.rows)
+    ∙ ap (λ (box : CostBox). start (slice_index_or (members_of box (length rows)) line (Low 0 0))) (keeps.costs ∙ costs_are)
+    ∙ sym (get_or-map start ms line (Low 0 0) [] (omega (arith, many, line_in))))
+
+-- and all are
+pub started_all : (initial : Table) (costs : CostBox) (line : ℕ) (lines : List (List Fraction)) → length initial.lines.items ≡ length (members_of costs (length initial.rows.items)) → line ≡ length initial.lines.items → lines ≡ take line (map (starting_line costs initial.rows.items) (members_of costs (length initial.rows.items))) ++ drop line initial.lines.items → lines ≡ map (starting_line costs initial.rows.items) (members_of costs (length initial.rows.items))
+started_all initial costs line lines many line_is lines_are =
+    let start = starting_line costs initial.rows.items in
+    let ms = members_of costs (length initial.rows.items) in
+    lines_are ∙ all_written initial.lines.items (map start ms) line (sym line_is) (length-map ms start ∙ sym many ∙ sym line_is)
+
+-- a table at the starting basis, by its lines
+pub restarted : (s : Table) (costs : CostBox) (rows : List Form) → s.costs ≡ costs → s.rows.items ≡ rows → s.basis.items ≡ starting costs → s.lines.items ≡ map (starting_line costs rows) (members_of costs (length rows)) → HasShape s → IsBox (length costs.low) costs → All (FitsBox costs) rows → IsWholeTable s
+restarted s costs rows costs_are rows_are basis_is lines_are shape box fit =
+    let numbers : AreRows s.top (suc (length costs.low)) (map (starting_line costs rows) (members_of costs (length rows))) =
+    subst (AreRows s.top (suc (length costs.low))) lines_are (subst (λ (c : CostBox). AreRows s.top (suc (length c.low)) s.lines.items) costs_are shape.lines) in
+    let start = whole_start s.top costs rows box fit numbers in
+    let whole : IsWhole s.top s.costs s.rows.items s.basis.items s.lines.items = rw (costs_are, rows_are, basis_is, lines_are) start in
+    whole
+
+-- the table whose bounds have moved is whole
+pub moved_whole : (s : Table) (u : IsUnboxedTable s) → IsBox (length s.costs.low) s.costs → All (FitsBox s.costs) s.rows.items → IsWholeTable s
+moved_whole s u box fit =
+    record {
+      box = box;
+      fit = fit;
+      count = u.count;
+      members = u.members;
+      common = u.common;
+      positive = u.positive;
+      lows = u.lows;
+      long = u.long;
+      mixtures = u.mixtures;
+      own = u.own;
+      elsewhere = u.elsewhere;
+      lead = u.lead;
+      lines = u.lines;
+    }
+
+-- and a whole table's may move
+pub whole_unboxed : (t : Table) → IsWholeTable t → IsUnboxedTable t
+whole_unboxed t w =
+    record {
+      high_count = w.box.high_count;
+      counts = λ k d k_in. (w.fit k d k_in).count;
+      count = w.count;
+      members = w.members;
+      common = w.common;
+      positive = w.positive;
+      lows = w.lows;
+      long = w.long;
+      mixtures = w.mixtures;
+      own = w.own;
+      elsewhere = w.elsewhere;
+      lead = w.lead;
+      lines = w.lines;
+    }
+
+pub keeps_lines : (old t s : Table) → KeepsAllButLines old t → KeepsAllButLines t s → KeepsAllButLines old s
+keeps_lines old t s first second =
+    record {
+      top = second.top ∙ first.top;
+      costs = second.costs ∙ first.costs;
+      rows = second.rows ∙ first.rows;
+      basis = second.basis ∙ first.basis;
+      quotients = second.quotients ∙ first.quotients;
+      scratch = second.scratch ∙ first.scratch;
+    }

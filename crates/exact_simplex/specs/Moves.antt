@@ -125,3 +125,12 @@ low_shift_of t var bound =
 abbrev pub high_shift_of : Table → ℕ → ℕ → Shift
 high_shift_of t var bound =
     record { costs = t.costs; member = High var (slice_index t.costs.high var); fall = pos (slice_index t.costs.high var) -ℤ pos bound }
+
+-- the two tables differ in their lines alone
+pub record KeepsAllButLines (old new : Table) : Type 0 where
+  pub top : new.top ≡ old.top
+  pub costs : new.costs ≡ old.costs
+  pub rows : new.rows ≡ old.rows
+  pub basis : new.basis ≡ old.basis
+  pub quotients : new.quotients ≡ old.quotients
+  pub scratch : new.scratch ≡ old.scratch
