@@ -1,5 +1,5 @@
 -- The lines of the starting basis, as they are made again.
-use Rattle.std.proofs.Common.{◌≡◌, ℕ, zero, suc, ◌+◌, ◌-◌, ◌^◌, ◌<◌, ◌≤◌, refl, sym, ◌∙◌, ap, subst, List, [], ◌∷◌, ◌++◌, map, take, drop, length, arith, zero-add}
+use Rattle.std.proofs.Common.{◌≡◌, ℕ, zero, suc, ◌+◌, ◌-◌, ◌^◌, ◌<◌, ◌≤◌, refl, sym, ◌∙◌, ap, subst, List, [], ◌∷◌, ◌++◌, map, take, drop, length, arith, zero-add, inl, inr}
 use Rattle.std.specs.Prelude.{ℤ, pos, negsuc, ◌+ℤ◌, ◌-ℤ◌, ◌*ℤ◌, nat_abs, slice_index, slice_index_or, slice_set, All}
 use Rattle.std.proofs.lemmas.List.{get_or-map, length-map}
 use Rattle.cost_base.specs.Lists.{numbers_from}
@@ -13,9 +13,12 @@ use Rattle.path_rows.specs.declared.tree.Member.TheVariants.{Low, High, Row}
 use Rattle.path_rows.specs.Forms.{dot, form_at, value}
 use Rattle.path_rows.specs.Basis.{IsFormOf, entry, low_member, member_form, unit}
 use Rattle.exact_simplex.specs.TableRows.{AreNumbers, nothing}
-use Rattle.exact_simplex.specs.Tableaus.{FitsBox, starting}
-use Rattle.exact_simplex.specs.Wholes.{IsWhole, IsWholeTable, members_of, starting_line}
-use Rattle.exact_simplex.specs.Moves.{HasShape, IsUnboxedTable, KeepsAllButLines}
+use Rattle.exact_simplex.specs.Tableaus.{FitsBox, Held, IsRebased, moved, rebased, starting}
+use Rattle.exact_simplex.specs.declared.stage.Stage.{Stage}
+use Rattle.exact_simplex.specs.declared.stage.Stage.TheVariants.{Open}
+use Rattle.exact_simplex.proofs.Pivots.{members_long}
+use Rattle.exact_simplex.specs.Wholes.{IsWhole, IsWholeTable, held_of, members_of, starting_line}
+use Rattle.exact_simplex.specs.Moves.{HasShape, IsMoved, IsUnboxedTable, KeepsAllButLines, KeepsRows}
 use Rattle.exact_simplex.specs.Pivots.{member_at}
 use Rattle.exact_simplex.specs.Turns.{AreRows}
 use Rattle.exact_simplex.specs.declared.table.Table.{Table}
@@ -199,3 +202,31 @@ keeps_lines old t s first second =
       quotients = second.quotients ∙ first.quotients;
       scratch = second.scratch ∙ first.scratch;
     }
+
+-- a box by its bounds
+pub bounds_are : (costs : CostBox) (low high : List ℕ) → low ≡ costs.low → high ≡ costs.high → record { low = low; high = high } ≡ costs
+bounds_are costs low high low_is high_is =
+    ap (λ (bs : List ℕ). record { low = bs; high = high }) low_is ∙ ap (λ (bs : List ℕ). record { low = costs.low; high = bs }) high_is
+
+pub starting_many : (costs : CostBox) → length (starting costs) ≡ length costs.low
+starting_many costs = length-mapped (low_member costs) 0 (length costs.low)
+
+-- boxes of as many variables have as many members
+pub members_same : (costs next : CostBox) (rows : ℕ) → length costs.low ≡ length next.low → length (members_of costs rows) ≡ length (members_of next rows)
+members_same costs next rows width = omega (arith, members_long costs rows, members_long next rows, width)
+
+-- what is held of a table that has moved, or that was started anew
+pub held_is : (old new : Table) (costs : CostBox) (basis : List Member) → KeepsRows old new → new.costs ≡ costs → new.basis.items ≡ basis → held_of new Open ≡ rebased (held_of old Open) costs basis
+held_is old new costs basis keeps costs_are basis_is =
+    ap (λ (top : ℕ). record { top = top; costs = new.costs; rows = new.rows.items; basis = new.basis.items; stage = Open }) keeps.top
+    ∙ ap (λ (box : CostBox). record { top = old.top; costs = box; rows = new.rows.items; basis = new.basis.items; stage = Open }) costs_are
+    ∙ ap (λ (rows : List Form). record { top = old.top; costs = costs; rows = rows; basis = new.basis.items; stage = Open }) keeps.rows
+    ∙ ap (λ (ms : List Member). record { top = old.top; costs = costs; rows = old.rows.items; basis = ms; stage = Open }) basis_is
+
+pub moved_rebased : (old new : Table) (costs : CostBox) → KeepsRows old new → IsMoved old costs new → held_of new Open ≡ rebased (held_of old Open) costs (moved costs old.basis.items)
+moved_rebased old new costs keeps is = held_is old new costs (moved costs old.basis.items) keeps is.costs_are is.basis
+
+-- the stage plays no part in a move
+pub any_stage : (t : Table) (stage : Stage) (costs : CostBox) (new : Held) → IsRebased (held_of t Open) costs new → IsRebased (held_of t stage) costs new
+any_stage t stage costs new (inl is) = inl is
+any_stage t stage costs new (inr is) = inr (record { var = is.0.var; var_in = is.0.var_in; step = is.0.step; left = is.0.left; right = is.0.right; is_step = is.0.is_step; passes = is.0.passes }, is.1)

@@ -1,9 +1,9 @@
 //! The tableau: a table, and how far the work on it is.
-ghost use Rattle.std.specs.Prelude.{◌≡◌, ℕ, ◌^◌, ◌<◌, [], length, IfErr, IfOk, OnOk};
+ghost use Rattle.std.specs.Prelude.{◌≡◌, ℕ, ◌^◌, ◌<◌, [], length, All, IfErr, IfOk, OnOk};
 ghost use Rattle.path_rows.specs.Basis.{IsBasis};
 ghost use Rattle.path_rows.specs.Boxes.{IsBox};
 ghost use Rattle.exact_simplex.specs.declared.stage.Stage.TheVariants.{Ended, Stopped};
-ghost use Rattle.exact_simplex.specs.Tableaus.{IsGoing, IsSolved, IsStop, starting};
+ghost use Rattle.exact_simplex.specs.Tableaus.{FitsBox, IsGoing, IsRebased, IsSolved, IsStop, starting};
 
 use crate::start::starting_table;
 use crate::table::Table;
@@ -101,5 +101,26 @@ impl Tableau {
             Err(wide) => Stage::Stopped(*wide),
         };
         settled
+    }
+
+    /// Moves the tableau to another box: the same rows and basis members, with the new bounds. It takes no memory.
+    ///
+    /// Each bound moves in turn; where a step of that makes a whole number that passes the top, the table is started anew
+    /// at the basis of the forms x - low of the box.
+    ///
+    /// # Errors
+    ///
+    /// `Wide` where the tableau had stopped: the same step again.
+    pub fn rebase(&mut self, costs: &CostBox) -> Result<(), Wide>
+        requires ranges { IsBox (length self.old.costs.low) costs.now }
+        requires fits { All (FitsBox costs.now) self.old.rows }
+        ensures going { OnOk result (IsGoing self.old.stage) }
+        ensures moved { OnOk result (IsRebased self.old costs.now self.new) }
+        ensures stopped { IfErr result (λ wide. (self.old.stage ≡ Stopped wide) × (self.new ≡ self.old)) }
+    {
+        self.going()?;
+        self.table.rebase(costs);
+        self.stage = Stage::Open;
+        Ok(())
     }
 }

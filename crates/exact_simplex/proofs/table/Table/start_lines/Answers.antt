@@ -12,7 +12,7 @@ pub start_line-requires : goal.start_line-requires
 start_line-requires c =
     let t = c.args.self.now in
     let keeps = c.loop-line.invariant.keeps in
-    let counted : c.len-line-end.result ≡ length t.lines.items = c.len-line-end.ensures in
+    let counted : c.len-line-end.result ≡ length t.lines.items = omega (arith, c.len-line-end.ensures, t.lines.ok.0) in
     let many : length c.loop-line.self.lines.items ≡ length (members_of t.costs (length t.rows.items)) =
     c.loop-line.invariant.shape.many ∙ ap (λ (box : CostBox). length (members_of box (length c.loop-line.self.rows.items))) keeps.costs ∙ ap (λ rows. length (members_of t.costs (length rows.items))) keeps.rows in
     record {
@@ -27,7 +27,7 @@ pub loop-line-preserved : goal.loop-line-preserved
 loop-line-preserved c =
     let t = c.args.self.now in
     let s = c.loop-line.self in
-    let counted : c.len-line-end.result ≡ length t.lines.items = c.len-line-end.ensures in
+    let counted : c.len-line-end.result ≡ length t.lines.items = omega (arith, c.len-line-end.ensures, t.lines.ok.0) in
     let many = c.requires.shape.many ∙ ap (λ (box : CostBox). length (members_of box (length t.rows.items))) c.requires.costs in
     record {
       lines = started_next t s c.args.costs.now c.loop-line.line c.start_line.new.self.lines.items c.loop-line.invariant.keeps c.requires.costs many (omega (arith, c.loop-line-test.true, counted)) c.loop-line.invariant.lines c.start_line.ensures.lines;
@@ -38,6 +38,6 @@ loop-line-preserved c =
 pub returns-clause-lines : goal.returns-clause-lines
 returns-clause-lines c =
     let t = c.args.self.now in
-    let counted : c.len-line-end.result ≡ length t.lines.items = c.len-line-end.ensures in
+    let counted : c.len-line-end.result ≡ length t.lines.items = omega (arith, c.len-line-end.ensures, t.lines.ok.0) in
     let many = c.requires.shape.many ∙ ap (λ (box : CostBox). length (members_of box (length t.rows.items))) c.requires.costs in
     started_all t c.args.costs.now c.loop-line.line c.loop-line.self.lines.items many (omega (arith, c.loop-line-test.false, c.loop-line.auto.line-end, counted)) c.loop-line.invariant.lines
