@@ -17,12 +17,13 @@ use Rattle.exact_simplex.specs.Tableaus.{FitsBox, Held, IsRebased, moved, rebase
 use Rattle.exact_simplex.specs.declared.stage.Stage.{Stage}
 use Rattle.exact_simplex.specs.declared.stage.Stage.TheVariants.{Open}
 use Rattle.exact_simplex.proofs.Pivots.{members_long}
-use Rattle.exact_simplex.specs.Wholes.{IsWhole, IsWholeTable, held_of, members_of, starting_line}
+use Rattle.exact_simplex.specs.Wholes.{HasRoom, IsSound, IsWhole, IsWholeTable, held_of, members_of, starting_line}
 use Rattle.exact_simplex.specs.Moves.{HasShape, IsMoved, IsUnboxedTable, KeepsAllButLines, KeepsRows}
 use Rattle.exact_simplex.specs.Pivots.{member_at}
 use Rattle.exact_simplex.specs.Turns.{AreRows}
 use Rattle.exact_simplex.specs.declared.table.Table.{Table}
 use Rattle.path_rows.specs.Boxes.{IsBox}
+use Rattle.exact_simplex.proofs.Bases.{whole_basis}
 use Rattle.exact_simplex.proofs.Starts.{whole_start}
 use Rattle.exact_simplex.proofs.Between.{all_written, length-written, unwritten, written_next}
 use Rattle.exact_simplex.proofs.Filled.{length-mapped, mapped_at}
@@ -230,3 +231,8 @@ moved_rebased old new costs keeps is = held_is old new costs (moved costs old.ba
 pub any_stage : (t : Table) (stage : Stage) (costs : CostBox) (new : Held) → IsRebased (held_of t Open) costs new → IsRebased (held_of t stage) costs new
 any_stage t stage costs new (inl is) = inl is
 any_stage t stage costs new (inr is) = inr (record { var = is.0.var; var_in = is.0.var_in; step = is.0.step; left = is.0.left; right = is.0.right; is_step = is.0.is_step; passes = is.0.passes }, is.1)
+
+-- a whole table that wasn't solved yet
+pub reopened : (t : Table) → IsWholeTable t → HasRoom t → IsSound t Open
+reopened t w room =
+    record { whole = λ going. w; shown = tt; basis = whole_basis t.top t.costs t.rows.items t.basis.items t.lines.items w; room = room }
