@@ -1,6 +1,6 @@
 -- Boxes between two, of which some bounds have moved.
-use Rattle.std.proofs.Common.{◌≡◌, ℕ, zero, suc, ◌+◌, ◌<◌, ◌≤◌, refl, sym, ◌∙◌, ap, subst, List, [], ◌∷◌, ◌++◌, map, take, drop, length, arith, inl, inr}
-use Rattle.std.specs.Prelude.{ℤ, pos, ◌-ℤ◌, slice_get, slice_index, slice_index_or, slice_set, Any}
+use Rattle.std.proofs.Common.{◌≡◌, ℕ, zero, suc, ◌+◌, ◌<◌, ◌≤◌, refl, sym, ◌∙◌, ap, subst, List, [], ◌∷◌, ◌++◌, take, drop, length, arith, inl, inr}
+use Rattle.std.specs.Prelude.{pos, ◌-ℤ◌, slice_get, slice_index, slice_index_or, slice_set, Any}
 use Rattle.cost_base.specs.declared.StepName.{StepName}
 use Rattle.whole_numbers.specs.Fractions.{Fraction, listed}
 use Rattle.wide_fraction.specs.declared.steps.Wide.{Wide}
@@ -12,7 +12,7 @@ use Rattle.path_rows.specs.Boxes.{with_high, with_low}
 use Rattle.path_rows.specs.Basis.{HasEntries}
 use Rattle.exact_simplex.specs.declared.table.Table.{Table}
 use Rattle.exact_simplex.specs.declared.stage.Stage.TheVariants.{Open}
-use Rattle.exact_simplex.specs.Tableaus.{IsShiftStep, IsWideMove, Shift, between, high_shift, low_shift, moved, moved_member}
+use Rattle.exact_simplex.specs.Tableaus.{IsShiftStep, IsWideMove, Shift, between, high_shift, low_shift, moved}
 use Rattle.exact_simplex.specs.Tableaus.IsShiftStep.{constant, product, sum}
 use Rattle.exact_simplex.specs.Wholes.{held_of}
 use Rattle.exact_simplex.specs.Moves.{IsMoved, IsWideShift, KeepsRows, high_shift_of, low_shift_of}

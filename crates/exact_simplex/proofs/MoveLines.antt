@@ -1,9 +1,9 @@
 -- Lines whose constants are put anew.
-use Rattle.std.proofs.Common.{◌≡◌, ◌≢◌, ℕ, zero, suc, ◌*◌, ◌<◌, refl, sym, ◌∙◌, ap, subst, List, [], ◌∷◌, map, length, arith}
+use Rattle.std.proofs.Common.{◌≡◌, ℕ, suc, ◌*◌, ◌<◌, refl, sym, ◌∙◌, ap, subst, List, [], ◌∷◌, length, arith}
 use Rattle.std.specs.Prelude.{ℤ, pos, ◌+ℤ◌, ◌*ℤ◌, Option, None, Some, IfSome, slice_index_or, slice_set}
 use Rattle.std.proofs.lemmas.Int.{ints}
 use Rattle.std.proofs.lemmas.List.{length-set}
-use Rattle.whole_numbers.specs.Fractions.{Fraction, IsLowest, StandsFor, plus, times, whole}
+use Rattle.whole_numbers.specs.Fractions.{Fraction, IsLowest, StandsFor, plus, times}
 use Rattle.whole_numbers.proofs.Sums.{lowest_unique}
 use Rattle.whole_numbers.proofs.FractionLaws.{product_positive, reduced_lowest}
 use Rattle.whole_numbers.proofs.Multiples.{plus_stands_over}

@@ -1,11 +1,8 @@
 -- A table after one bound moved keeps what a table keeps.
-use Rattle.std.proofs.Common.{◌≡◌, ◌≢◌, ℕ, zero, suc, ◌+◌, ◌*◌, ◌<◌, ◌≤◌, refl, sym, ◌∙◌, ap, subst, List, [], ◌∷◌, ◌++◌, map, length, arith, inl, inr, get_or-set_same, get_or-set_other}
-use Rattle.std.specs.Prelude.{ℤ, pos, ◌+ℤ◌, ◌-ℤ◌, ◌*ℤ◌, Option, None, Some, slice_index, slice_index_or, slice_set, All}
-use Rattle.std.specs.List.{AllZip}
+use Rattle.std.proofs.Common.{◌≡◌, ◌≢◌, ℕ, zero, suc, ◌<◌, ◌≤◌, refl, sym, ◌∙◌, ap, subst, List, [], ◌∷◌, map, length, arith, inl, inr, get_or-set_same, get_or-set_other}
+use Rattle.std.specs.Prelude.{ℤ, pos, ◌+ℤ◌, ◌-ℤ◌, ◌*ℤ◌, Option, None, Some, slice_index, slice_index_or, slice_set}
 use Rattle.std.proofs.lemmas.Bool.{cases_eq}
-use Rattle.std.proofs.lemmas.Int.{ints}
-use Rattle.std.proofs.lemmas.List.{get_or-map, length-map, length-set, map-append, map-set}
-use Rattle.std.proofs.lemmas.Simd.{map-map}
+use Rattle.std.proofs.lemmas.List.{length-set}
 use Rattle.cost_base.specs.Lists.{numbers_from}
 use Rattle.whole_numbers.specs.Fractions.{Fraction, StandsFor, minus, plus, times, whole}
 use Rattle.whole_numbers.proofs.Ring.{var, num, ◌⊕◌, ◌⊖◌, ◌⊗◌, ring}
@@ -17,23 +14,17 @@ use Rattle.path_rows.specs.declared.tree.Member.{Member}
 use Rattle.path_rows.specs.declared.tree.Member.TheVariants.{Low, High, Row}
 use Rattle.path_rows.specs.Boxes.{with_high, with_low}
 use Rattle.path_rows.specs.Forms.{no_form}
-use Rattle.path_rows.specs.Basis.{IsFormOf, LeadsPositive, entry, forms_of, low_member, member_form}
+use Rattle.path_rows.specs.Basis.{IsFormOf, entry, member_form}
 use Rattle.exact_simplex.specs.TableRows.{AreNumbers, nothing}
-use Rattle.exact_simplex.specs.Tableaus.{moved, moved_member}
-use Rattle.exact_simplex.specs.Turns.{AreRows}
-use Rattle.exact_simplex.specs.Wholes.{AllLong, AreMixtures, IsLine, Stand, high_member, low_forms, members_of, number_at, number_of, numbers_of}
-use Rattle.exact_simplex.specs.Moves.{IsColumnOf, IsUnboxed, fallen, put_at, raised_line, shifted_lines}
-use Rattle.exact_simplex.proofs.Bases.{members_begin}
-use Rattle.exact_simplex.proofs.Filled.{length-mapped, mapped_same}
-use Rattle.exact_simplex.proofs.MoveLines.{length-put}
+use Rattle.exact_simplex.specs.Tableaus.{moved_member}
+use Rattle.exact_simplex.specs.Wholes.{Stand, number_of, numbers_of}
+use Rattle.exact_simplex.specs.Moves.{fallen, raised_line}
+use Rattle.exact_simplex.proofs.Filled.{mapped_same}
 use Rattle.exact_simplex.proofs.MovedNumbers.{IsNumbered, fallen_constant, high_falls, low_falls, lowered_number, lowered_numbered, lowered_rows, raised, raised_constant, raised_numbered, raised_other}
 use Rattle.exact_simplex.proofs.Numbers.{times_lowest}
-use Rattle.exact_simplex.proofs.Pivots.{high_place, members_long, row_place}
-use Rattle.exact_simplex.proofs.RowLaws.{number_at as number_there, rows_at}
-use Rattle.exact_simplex.proofs.Resolved.{stand_length}
+use Rattle.exact_simplex.proofs.RowLaws.{number_at as number_there}
 use Rattle.exact_simplex.proofs.TurnedNumbers.{numbers_at, numbers_long}
 use Rattle.exact_simplex.proofs.WholeTurns.{stand_at}
-use Rattle.exact_simplex.proofs.Zips.{zip_at, zip_from, zip_long}
 
 -- a list of which one thing changes, or none
 pub map_none : {X : Type 0} (f : X → X) (xs : List X) (d : X) → ((k : ℕ) → k < length xs → f (slice_index_or xs k d) ≡ slice_index_or xs k d) → map f xs ≡ xs
@@ -177,8 +168,7 @@ pub record IsLong (top n D : ℕ) (low : List ℕ) (lows : List (List ℤ)) (f :
 
 entry_is : (top n D : ℕ) (low : List ℕ) (lows : List (List ℤ)) (f : Form) (line : List Fraction) (k : ℕ) → IsLong top n D low lows f line → k < suc n → (0 < (entry line k).denominator) × StandsFor (entry line k) (number_of D low lows f k) D
 entry_is top n D low lows f line k l k_in =
-    let here = number_there top line k l.numbers (omega (arith, l.count, k_in)) in
-    (
+    let here = number_there top line k l.numbers (omega (arith, l.count, k_in)) in (
       here.lowest.positive,
       subst (λ z. StandsFor (entry line k) z D) (numbers_at n D low lows f k k_in) (stand_at D line (numbers_of n D low lows f) k l.stand (omega (arith, numbers_long n D low lows f, k_in))),
     )

@@ -1,6 +1,6 @@
 -- After one bound moved, the table over the next box keeps what a table keeps.
 use Rattle.std.proofs.Common.{◌≡◌, ◌≢◌, ℕ, zero, suc, ◌+◌, ◌-◌, ◌<◌, ◌≤◌, refl, sym, ◌∙◌, ap, subst, List, [], ◌∷◌, ◌++◌, map, length, arith, inl, inr, get_or-set_same, get_or-set_other}
-use Rattle.std.specs.Prelude.{ℤ, pos, ◌+ℤ◌, ◌-ℤ◌, ◌*ℤ◌, Option, None, Some, nat_abs, slice_index, slice_index_or, slice_set, All}
+use Rattle.std.specs.Prelude.{ℤ, pos, ◌+ℤ◌, ◌-ℤ◌, ◌*ℤ◌, Option, None, Some, nat_abs, slice_index_or, slice_set, All}
 use Rattle.std.specs.List.{AllZip}
 use Rattle.std.proofs.lemmas.Bool.{cases_eq, cases_lt}
 use Rattle.std.proofs.lemmas.List.{get_or-map, length-map, length-set, map-append, map-set}
@@ -13,15 +13,15 @@ use Rattle.path_rows.specs.declared.form.CostBox.{CostBox}
 use Rattle.path_rows.specs.declared.tree.Member.{Member}
 use Rattle.path_rows.specs.declared.tree.Member.TheVariants.{Low, High, Row}
 use Rattle.path_rows.specs.Forms.{no_form}
-use Rattle.path_rows.specs.Basis.{IsFormOf, LeadsPositive, entry, forms_of, low_member, member_form}
+use Rattle.path_rows.specs.Basis.{IsFormOf, forms_of, low_member, member_form}
 use Rattle.exact_simplex.specs.TableRows.{nothing}
 use Rattle.exact_simplex.specs.Tableaus.{moved, moved_member}
 use Rattle.exact_simplex.specs.Turns.{AreRows}
-use Rattle.exact_simplex.specs.Wholes.{AllLong, AreMixtures, IsLine, Stand, high_member, low_forms, members_of, number_at, number_of, numbers_of}
+use Rattle.exact_simplex.specs.Wholes.{AllLong, AreMixtures, IsLine, Stand, high_member, low_forms, members_of, number_of, numbers_of}
 use Rattle.exact_simplex.specs.Moves.{IsColumnOf, IsUnboxed, fallen, put_at, raised_line, shifted_lines}
 use Rattle.exact_simplex.proofs.Bases.{members_begin}
-use Rattle.exact_simplex.proofs.MovedNumbers.{IsNumbered, fallen_constant}
-use Rattle.exact_simplex.proofs.MovedTables.{AreMoved, IsFall, IsInside, IsLong, fallen_basis, map_none, map_one, other_kept, other_raised, own_lowered, own_zeroed, slope}
+use Rattle.exact_simplex.proofs.MovedNumbers.{fallen_constant}
+use Rattle.exact_simplex.proofs.MovedTables.{AreMoved, IsFall, IsInside, IsLong, fallen_basis, map_none, map_one, other_kept, other_raised, own_lowered, own_zeroed}
 use Rattle.exact_simplex.proofs.Pivots.{high_place, members_long, row_place}
 use Rattle.exact_simplex.proofs.RowLaws.{rows_at}
 use Rattle.exact_simplex.proofs.Resolved.{stand_length}
@@ -182,8 +182,7 @@ pub record IsMoveOf (top : ℕ) (costs next : CostBox) (rows : List Form) (basis
 -- the numbers of the form of a column
 column_own : (top : ℕ) (costs : CostBox) (rows : List Form) (basis : List Member) (table : List (List Fraction)) (u : IsUnboxed top costs rows basis table) (before : Member) (j : ℕ) → j < length basis → slice_index_or basis j (Low 0 0) ≡ before → (number_of u.common costs.low u.lows (member_form (length costs.low) rows before) 0 ≡ pos 0) × (number_of u.common costs.low u.lows (member_form (length costs.low) rows before) (suc j) ≡ pos u.common)
 column_own top costs rows basis table u before j j_in here =
-    let form_is = sym (column_form costs rows basis j before j_in here) in
-    (
+    let form_is = sym (column_form costs rows basis j before j_in here) in (
       ap (λ (f : Form). number_of u.common costs.low u.lows f 0) form_is ∙ u.elsewhere j 0 (omega (arith, j_in, u.count)) (omega arith) (λ h. omega (arith, h)),
       ap (λ (f : Form). number_of u.common costs.low u.lows f (suc j)) form_is ∙ u.own j (omega (arith, j_in, u.count)),
     )

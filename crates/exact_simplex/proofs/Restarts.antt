@@ -9,8 +9,8 @@ use Rattle.path_rows.specs.declared.form.Form.{Form}
 use Rattle.path_rows.specs.declared.form.CostBox.{CostBox}
 use Rattle.wide_fraction.specs.Widths.{IsTop}
 use Rattle.path_rows.specs.declared.tree.Member.{Member}
-use Rattle.path_rows.specs.declared.tree.Member.TheVariants.{Low, High, Row}
-use Rattle.path_rows.specs.Forms.{dot, form_at, value}
+use Rattle.path_rows.specs.declared.tree.Member.TheVariants.{Low, High}
+use Rattle.path_rows.specs.Forms.{dot, value}
 use Rattle.path_rows.specs.Basis.{IsFormOf, entry, low_member, member_form, unit}
 use Rattle.exact_simplex.specs.TableRows.{AreNumbers, nothing}
 use Rattle.exact_simplex.specs.Tableaus.{FitsBox, Held, IsRebased, moved, rebased, starting}

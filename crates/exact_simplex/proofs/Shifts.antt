@@ -1,12 +1,12 @@
 -- A bound of a table moves.
-use Rattle.std.proofs.Common.{◌≡◌, ◌≢◌, ℕ, zero, suc, ◌+◌, ◌^◌, ◌<◌, ◌≤◌, refl, sym, ◌∙◌, ap, subst, List, [], ◌∷◌, map, length, arith, w64, to_z, of_z}
-use Rattle.std.specs.Prelude.{ℤ, pos, ◌-ℤ◌, ◌*ℤ◌, nat_abs, Option, None, Some, slice_get, slice_index, slice_index_or, slice_set, All, Any}
+use Rattle.std.proofs.Common.{◌≡◌, ℕ, suc, ◌+◌, ◌^◌, ◌<◌, refl, sym, ◌∙◌, ap, subst, List, [], ◌∷◌, length, arith, w64, to_z, of_z}
+use Rattle.std.specs.Prelude.{ℤ, pos, ◌-ℤ◌, ◌*ℤ◌, nat_abs, Option, None, Some, slice_get, slice_index, slice_index_or, slice_set, All}
 use Rattle.std.specs.List.{AllZip}
 use Rattle.std.proofs.lemmas.Int.{fits_signed_from_abs, to_z-of_z}
 use Rattle.std.proofs.lemmas.List.{length-map, set-get_or}
 use Rattle.std.proofs.lemmas.Option.{slice_get-get_or}
 use Rattle.cost_base.specs.declared.StepName.{StepName}
-use Rattle.whole_numbers.specs.Fractions.{Fraction, listed, whole}
+use Rattle.whole_numbers.specs.Fractions.{Fraction, whole}
 use Rattle.wide_fraction.specs.declared.steps.Wide.{Wide}
 use Rattle.path_rows.specs.declared.form.Form.{Form}
 use Rattle.path_rows.specs.declared.form.CostBox.{CostBox}
@@ -14,10 +14,10 @@ use Rattle.path_rows.specs.declared.tree.Member.{Member}
 use Rattle.path_rows.specs.declared.tree.Member.TheVariants.{Low, High, Row}
 use Rattle.path_rows.specs.Boxes.{with_high, with_low}
 use Rattle.path_rows.specs.Forms.{no_form}
-use Rattle.path_rows.specs.Basis.{HasEntries, IsFormOf, entry, forms_of, member_form}
+use Rattle.path_rows.specs.Basis.{HasEntries, IsFormOf, forms_of, member_form}
 use Rattle.exact_simplex.specs.declared.table.Table.{Table}
 use Rattle.exact_simplex.specs.Pivots.{KeepsForms}
-use Rattle.exact_simplex.specs.Tableaus.{IsShiftStep, Shift, moved, moved_member}
+use Rattle.exact_simplex.specs.Tableaus.{IsShiftStep, moved, moved_member}
 use Rattle.exact_simplex.specs.Tableaus.IsShiftStep.{constant, product, sum}
 use Rattle.exact_simplex.specs.Turns.{AreRows}
 use Rattle.exact_simplex.specs.Wholes.{HasRoom, IsLine, low_forms, members_of, numbers_of}
@@ -26,7 +26,7 @@ use Rattle.exact_simplex.specs.Moves.IsRaiseStep.{product as raise_product, sum 
 use Rattle.exact_simplex.proofs.Bases.{low_forms_long, members_begin}
 use Rattle.exact_simplex.proofs.Filled.{length-mapped}
 use Rattle.exact_simplex.proofs.MovedNumbers.{IsNumbered, lowered_rows}
-use Rattle.exact_simplex.proofs.MovedTables.{AreMoved, IsFall, high_fall, high_moved, low_fall, low_moved, map_none, raised_rows}
+use Rattle.exact_simplex.proofs.MovedTables.{high_fall, high_moved, low_fall, low_moved, map_none, raised_rows}
 use Rattle.exact_simplex.proofs.MovedWholes.{IsMoveOf, column_inside, moved_put, unboxed_moved}
 use Rattle.exact_simplex.proofs.Pivots.{high_place, members_long}
 use Rattle.exact_simplex.proofs.Resolved.{are_entries, stand_length}
@@ -74,12 +74,11 @@ low_unboxed t s u v bound v_in k shape is =
       own_is = members_begin costs (length rows) v (Low 0 0) v_in;
       rows_are = shifted_rows t s k shape (shifted_lines column v (whole fall) t.lines.items) is.lines;
     } in
-    let basis_is : s.basis.items ≡ moved next basis = is.basis ∙ sym (moved_put t.top costs next rows basis t.lines.items u before after fall column falls is.found) in
-    (
+    let basis_is : s.basis.items ≡ moved next basis = is.basis ∙ sym (moved_put t.top costs next rows basis t.lines.items u before after fall column falls is.found) in (
       basis_is,
       subst (λ (ls : List (List Fraction)). IsUnboxed t.top next rows s.basis.items ls) (sym is.lines)
-      (subst (λ (ms : List Member). IsUnboxed t.top next rows ms (shifted_lines column v (whole fall) t.lines.items)) (sym basis_is)
-      (unboxed_moved t.top costs next rows basis t.lines.items u news before after fall column v m)),
+          (subst (λ (ms : List Member). IsUnboxed t.top next rows ms (shifted_lines column v (whole fall) t.lines.items)) (sym basis_is)
+          (unboxed_moved t.top costs next rows basis t.lines.items u news before after fall column v m)),
     )
 
 -- the table after an upper bound moved
@@ -106,12 +105,11 @@ high_unboxed t s u v bound v_in k shape is =
       own_is = high_place costs (length rows) v (Low 0 0) v_in;
       rows_are = shifted_rows t s k shape (shifted_lines column own (whole fall) t.lines.items) is.lines;
     } in
-    let basis_is : s.basis.items ≡ moved next basis = is.basis ∙ sym (moved_put t.top costs next rows basis t.lines.items u before after fall column falls is.found) in
-    (
+    let basis_is : s.basis.items ≡ moved next basis = is.basis ∙ sym (moved_put t.top costs next rows basis t.lines.items u before after fall column falls is.found) in (
       basis_is,
       subst (λ (ls : List (List Fraction)). IsUnboxed t.top next rows s.basis.items ls) (sym is.lines)
-      (subst (λ (ms : List Member). IsUnboxed t.top next rows ms (shifted_lines column own (whole fall) t.lines.items)) (sym basis_is)
-      (unboxed_moved t.top costs next rows basis t.lines.items u news before after fall column own m)),
+          (subst (λ (ms : List Member). IsUnboxed t.top next rows ms (shifted_lines column own (whole fall) t.lines.items)) (sym basis_is)
+          (unboxed_moved t.top costs next rows basis t.lines.items u news before after fall column own m)),
     )
 
 -- members of the box keep their bounds in it
@@ -210,8 +208,7 @@ low_after t s u v bound low fall now v_in k shape low_is fall_is is now_is =
     let shifted = subst (λ (l : ℕ). IsShifted t s v (Low v l) (Low v bound) (pos bound -ℤ pos (slice_index t.costs.low v))) low_is (subst (λ z. IsShifted t s v (Low v low) (Low v bound) z) fall_at is) in
     let after = low_unboxed t s u v bound v_in k shape shifted in
     let costs_are : record { low = now; high = s.costs.high } ≡ with_low t.costs v bound =
-    ap (λ (bs : List ℕ). record { low = bs; high = s.costs.high }) now_is ∙ ap (λ (costs : CostBox). with_low costs v bound) k.costs in
-    (
+    ap (λ (bs : List ℕ). record { low = bs; high = s.costs.high }) now_is ∙ ap (λ (costs : CostBox). with_low costs v bound) k.costs in (
       (costs_are, after.0),
       subst (λ (top : ℕ). IsUnboxed top (record { low = now; high = s.costs.high }) s.rows.items s.basis.items s.lines.items) (sym k.top)
           (subst (λ (costs : CostBox). IsUnboxed t.top costs s.rows.items s.basis.items s.lines.items) (sym costs_are)
@@ -226,8 +223,7 @@ high_after t s u v bound high own fall now v_in k shape own_is high_is fall_is i
     let shifted = subst (λ (place : ℕ). IsShifted t s place (High v (slice_index t.costs.high v)) (High v bound) (pos (slice_index t.costs.high v) -ℤ pos bound)) own_is (subst (λ (h : ℕ). IsShifted t s own (High v h) (High v bound) (pos (slice_index t.costs.high v) -ℤ pos bound)) high_is (subst (λ z. IsShifted t s own (High v high) (High v bound) z) fall_at is)) in
     let after = high_unboxed t s u v bound v_in k shape shifted in
     let costs_are : record { low = s.costs.low; high = now } ≡ with_high t.costs v bound =
-    ap (λ (bs : List ℕ). record { low = s.costs.low; high = bs }) now_is ∙ ap (λ (costs : CostBox). with_high costs v bound) k.costs in
-    (
+    ap (λ (bs : List ℕ). record { low = s.costs.low; high = bs }) now_is ∙ ap (λ (costs : CostBox). with_high costs v bound) k.costs in (
       (costs_are, after.0),
       subst (λ (top : ℕ). IsUnboxed top (record { low = s.costs.low; high = now }) s.rows.items s.basis.items s.lines.items) (sym k.top)
           (subst (λ (costs : CostBox). IsUnboxed t.top costs s.rows.items s.basis.items s.lines.items) (sym costs_are)

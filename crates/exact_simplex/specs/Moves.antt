@@ -1,5 +1,5 @@
 -- What a table keeps while its bounds move, and what a move makes of its lines.
-use Rattle.std.specs.Prelude.{◌≡◌, ◌≢◌, ℕ, suc, ◌<◌, ◌≤◌, List, [], ◌∷◌, ℤ, pos, ◌-ℤ◌, Option, None, Some, map, length, slice_index, slice_index_or, slice_set, All, Any}
+use Rattle.std.specs.Prelude.{◌≡◌, ◌≢◌, ℕ, suc, ◌<◌, ◌≤◌, List, [], ℤ, pos, ◌-ℤ◌, Option, None, Some, map, length, slice_index, slice_index_or, slice_set, All, Any}
 use Rattle.std.specs.List.{AllZip}
 use Rattle.cost_base.specs.declared.StepName.{StepName}
 use Rattle.cost_base.specs.declared.StepName.TheVariants.{Add, Mul, Sub}

@@ -48,12 +48,7 @@ fn raise_constant(line: &mut TableRow, column: u32, fall: Frac, top: Top) -> Res
 /// # Errors
 ///
 /// `Wide` where a step of some line makes a whole number that passes `top`.
-fn raise_constants(
-    lines: &mut [TableRow],
-    column: u32,
-    fall: Frac,
-    top: Top,
-) -> Result<(), Wide>
+fn raise_constants(lines: &mut [TableRow], column: u32, fall: Frac, top: Top) -> Result<(), Wide>
     requires lines { (count : ℕ) × (suc column < count) × AreRows top count lines.old }
     requires fall { IsNumber top fall }
     ensures raised { OnOk result (lines.new ≡ map (raised_line column fall) lines.old) }
@@ -87,8 +82,8 @@ fn lower_constant(line: &mut TableRow, fall: Frac, top: Top) -> Result<(), Wide>
     Ok(())
 }
 
-/// Moves the constants where a bound's form falls. `own` is the line of that form, and `column` its column in the basis.
-/// Where it isn't in the basis, its own constant falls; else those of all other lines rise, and its own stays 0.
+/// Moves the constants where a bound's form falls. `own` is the line of that form, and `column` its column in the
+/// basis. Where it isn't in the basis, its own constant falls; else those of all other lines rise, and its own stays 0.
 ///
 /// # Errors
 ///
@@ -165,9 +160,7 @@ impl Table {
         put_member(&mut self.basis, column, after);
         Ok(())
     }
-}
 
-impl Table {
     /// Moves the lower bound of a variable. A bound that stays needs no step.
     ///
     /// # Errors
@@ -216,7 +209,12 @@ impl Table {
         }
         let line = self.costs.low.as_slice().len() + place;
         let fall = range_of(bound, high);
-        self.shift(line, Member::High(var, high), Member::High(var, bound), fall)?;
+        self.shift(
+            line,
+            Member::High(var, high),
+            Member::High(var, bound),
+            fall,
+        )?;
         self.costs.high.set(place, bound);
         Ok(())
     }

@@ -42,7 +42,8 @@ fn corner_value(form: &Form, costs: &CostBox) -> i64
     sum as i64
 }
 
-/// Makes the line the starting one of a form with one coefficient: its constant there, and the coefficient in its column.
+/// Makes the line the starting one of a form with one coefficient: its constant there, and the coefficient in its
+/// column.
 fn put_unit_line(
     line: &mut TableRow,
     width: u32,
@@ -176,8 +177,8 @@ impl Table {
         self.start_lines(costs);
     }
 
-    /// Moves the table to another box, bound by bound; where a step of that is too wide, it is started anew. It takes no
-    /// memory.
+    /// Moves the table to another box, bound by bound; where a step of that is too wide, it is started anew. It takes
+    /// no memory.
     pub fn rebase(&mut self, costs: &CostBox)
         requires whole { IsWholeTable self.old }
         requires room { HasRoom self.old }

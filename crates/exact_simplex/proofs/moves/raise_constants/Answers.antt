@@ -1,5 +1,5 @@
 -- One more line is raised.
-use Rattle.std.proofs.Common.{◌≡◌, suc, ◌∙◌, [], ap, sym, subst, List, length, arith}
+use Rattle.std.proofs.Common.{◌≡◌, ◌∙◌, [], ap, sym, subst, List, length, arith}
 use Rattle.std.specs.Prelude.{slice_index_or, slice_set}
 use Rattle.std.proofs.lemmas.List.Edits.{map_over_more}
 use Rattle.std.proofs.lemmas.List.{get_or_default}

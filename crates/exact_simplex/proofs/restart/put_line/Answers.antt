@@ -1,8 +1,7 @@
 -- Each form has its starting line.
-use Rattle.std.proofs.Common.{ℕ, suc, ◌∙◌, ap, sym, subst, List, ◌∷◌, length, map, arith}
+use Rattle.std.proofs.Common.{ℕ, ◌∙◌, ap, sym, subst, List, ◌∷◌, length, map}
 use Rattle.std.specs.Prelude.{pos, negsuc, slice_index}
 use Rattle.whole_numbers.specs.Fractions.{whole}
-use Rattle.path_rows.specs.declared.tree.Member.{Member}
 use Rattle.path_rows.specs.Basis.{IsFormOf, unit}
 use Rattle.exact_simplex.specs.Wholes.{starting_line}
 use Rattle.exact_simplex.proofs.Restarts.{high_starts, low_starts}

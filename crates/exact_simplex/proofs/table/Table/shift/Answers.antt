@@ -1,5 +1,5 @@
 -- The lines and the basis move together.
-use Rattle.std.proofs.Common.{◌≡◌, ℕ, suc, ◌<◌, ◌∙◌, ap, sym, subst, List, length, arith, w64}
+use Rattle.std.proofs.Common.{◌≡◌, suc, ◌∙◌, ap, sym, subst, List, length, arith, w64}
 use Rattle.std.proofs.lemmas.Int.{to_z-of_z}
 use Rattle.std.proofs.lemmas.List.{with_items_is}
 use Rattle.std.proofs.lemmas.Result.{err_from_is_err_and}
@@ -18,8 +18,7 @@ shift_lines-requires-clause-own c = omega (arith, ap length c.as_mut_slice.ensur
 pub shift_lines-requires-clause-lines : goal.shift_lines-requires-clause-lines
 shift_lines-requires-clause-lines c =
     let t = c.args.self.now in
-    let n = length t.costs.low in
-    (
+    let n = length t.costs.low in (
       suc n,
       omega arith,
       column_in c.as_slice.result.now c.args.before c.column_of-column.result n c.column_of-column.ensures (ap length c.as_slice.ensures.value ∙ c.requires.shape.basis),
