@@ -38,8 +38,8 @@ fn raise_constant(line: &mut TableRow, column: u32, fall: Frac, top: Top) -> Res
         return Ok(());
     }
     let product = mul(entry, fall, top)?;
-    let constant = add(line.constant(), product, top)?;
-    line.set_constant(constant);
+    let raised = add(line.constant(), product, top)?;
+    line.set_constant(raised);
     Ok(())
 }
 

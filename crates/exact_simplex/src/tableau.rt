@@ -105,8 +105,8 @@ impl Tableau {
 
     /// Moves the tableau to another box: the same rows and basis members, with the new bounds. It takes no memory.
     ///
-    /// Each bound moves in turn; where a step of that makes a whole number that passes the top, the table is started anew
-    /// at the basis of the forms x - low of the box.
+    /// Each bound moves in turn; where a step of that makes a whole number that passes the top, the table is started
+    /// anew, at the basis of the forms x - low of the box.
     ///
     /// # Errors
     ///

@@ -38,28 +38,28 @@ returns-in_err-product-clause-wide c =
       named_passes {X = Fraction} (Err wide) c.args.top Mul c.entry-entry.result c.args.fall named c.in_err-product.ensures.passes,
     )
 
-pub returns-in_err-constant-clause-wide : goal.returns-in_err-constant-clause-wide
-returns-in_err-constant-clause-wide c =
-    let p = err_from_is_err_and c.from_residual-in_err-constant.result c.from_residual-in_err-constant.ensures.1 in
-    let wide = c.in_err-constant.field-0.0 in
-    let named = c.in_err-constant.ensures.named in
+pub returns-in_err-raised-clause-wide : goal.returns-in_err-raised-clause-wide
+returns-in_err-raised-clause-wide c =
+    let p = err_from_is_err_and c.from_residual-in_err-raised.result c.from_residual-in_err-raised.ensures.1 in
+    let wide = c.in_err-raised.field-0.0 in
+    let named = c.in_err-raised.ensures.named in
     let product_is : c.in_ok-product.product ≡ times (entry c.args.line.now (suc c.args.column)) c.args.fall =
     c.in_ok-product.ensures.exact ∙ ap (λ (q : Fraction). times q c.args.fall) c.entry-entry.ensures in
     rw (p.1, p.2) (
       subst (λ (w : Wide). IsRaiseStep c.args.line.now c.args.column c.args.fall w.step w.left w.right) (sym named)
           (subst (λ (q : Fraction). IsRaiseStep c.args.line.now c.args.column c.args.fall Add q c.in_ok-product.product) (sym c.constant.ensures)
           (subst (λ (q : Fraction). IsRaiseStep c.args.line.now c.args.column c.args.fall Add (entry c.args.line.now 0) q) (sym product_is) sum)),
-      named_passes {X = Fraction} (Err wide) c.args.top Add c.constant.result c.in_ok-product.product named c.in_err-constant.ensures.passes,
+      named_passes {X = Fraction} (Err wide) c.args.top Add c.constant.result c.in_ok-product.product named c.in_err-raised.ensures.passes,
     )
 
 pub returns-clause-raised : goal.returns-clause-raised
 returns-clause-raised c =
-    raised_is c.args.line.now c.set_constant.new.self c.args.column c.args.fall c.entry-entry.result c.constant.result c.in_ok-product.product c.in_ok-constant.constant
-    c.entry-entry.ensures c.constant.ensures c.in_ok-product.ensures.exact c.in_ok-constant.ensures.exact c.set_constant.ensures
+    raised_is c.args.line.now c.set_constant.new.self c.args.column c.args.fall c.entry-entry.result c.constant.result c.in_ok-product.product c.in_ok-raised.raised
+    c.entry-entry.ensures c.constant.ensures c.in_ok-product.ensures.exact c.in_ok-raised.ensures.exact c.set_constant.ensures
 
 pub returns-clause-numbers : goal.returns-clause-numbers
 returns-clause-numbers c =
     let here = subst (IsNumber c.args.top) (sym c.entry-entry.ensures) (number_at c.args.top c.args.line.now (suc c.args.column) c.requires.numbers c.requires.column) in
     let first = subst (IsNumber c.args.top) (sym c.constant.ensures) (number_at c.args.top c.args.line.now 0 c.requires.numbers (omega (arith, c.requires.column))) in
-    raised_numbers c.args.top c.args.line.now c.set_constant.new.self c.args.fall c.entry-entry.result c.constant.result c.in_ok-product.product c.in_ok-constant.constant
-    c.requires.numbers first here c.requires.fall c.in_ok-product.ensures.exact c.in_ok-constant.ensures.exact c.in_ok-constant.ensures.within c.set_constant.ensures
+    raised_numbers c.args.top c.args.line.now c.set_constant.new.self c.args.fall c.entry-entry.result c.constant.result c.in_ok-product.product c.in_ok-raised.raised
+    c.requires.numbers first here c.requires.fall c.in_ok-product.ensures.exact c.in_ok-raised.ensures.exact c.in_ok-raised.ensures.within c.set_constant.ensures
