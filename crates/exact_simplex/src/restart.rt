@@ -161,7 +161,7 @@ impl Table {
 
     /// Starts the table anew for another box: at the basis of the forms x - low, with the rows that it has. It takes no
     /// memory.
-    pub fn restart(&mut self, costs: &CostBox)
+    fn restart(&mut self, costs: &CostBox)
         requires shape { HasShape self.old }
         requires ranges { IsBox (length self.old.costs.low) costs.now }
         requires fits { All (FitsBox costs.now) self.old.rows.items }
