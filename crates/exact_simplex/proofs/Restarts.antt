@@ -1,16 +1,16 @@
 -- The lines of the starting basis, as they are made again.
-use Rattle.std.proofs.Common.{◌≡◌, ℕ, zero, suc, ◌+◌, ◌-◌, ◌^◌, ◌<◌, ◌≤◌, refl, sym, ◌∙◌, ap, subst, List, [], ◌∷◌, ◌++◌, map, take, drop, length, arith, zero-add, inl, inr}
-use Rattle.std.specs.Prelude.{ℤ, pos, negsuc, ◌+ℤ◌, ◌-ℤ◌, ◌*ℤ◌, nat_abs, slice_index, slice_index_or, slice_set, All}
+use Rattle.std.proofs.Common.{◌≡◌, ℕ, suc, ◌+◌, ◌-◌, ◌^◌, ◌<◌, ◌≤◌, sym, ◌∙◌, ap, subst, List, [], ◌∷◌, ◌++◌, map, take, drop, length, arith, zero-add, inl, inr}
+use Rattle.std.specs.Prelude.{ℤ, pos, negsuc, ◌-ℤ◌, nat_abs, slice_index, slice_index_or, slice_set, All}
 use Rattle.std.proofs.lemmas.List.{get_or-map, length-map}
 use Rattle.cost_base.specs.Lists.{numbers_from}
 use Rattle.whole_numbers.specs.Fractions.{Fraction, whole}
-use Rattle.whole_numbers.proofs.Ring.{var, num, ◌⊕◌, ◌⊗◌, ring}
+use Rattle.whole_numbers.proofs.Ring.{var}
 use Rattle.path_rows.specs.declared.form.Form.{Form}
 use Rattle.path_rows.specs.declared.form.CostBox.{CostBox}
 use Rattle.wide_fraction.specs.Widths.{IsTop}
 use Rattle.path_rows.specs.declared.tree.Member.{Member}
 use Rattle.path_rows.specs.declared.tree.Member.TheVariants.{Low, High}
-use Rattle.path_rows.specs.Forms.{dot, value}
+use Rattle.path_rows.specs.Forms.{value}
 use Rattle.path_rows.specs.Basis.{IsFormOf, entry, low_member, member_form, unit}
 use Rattle.exact_simplex.specs.TableRows.{AreNumbers, nothing}
 use Rattle.exact_simplex.specs.Tableaus.{FitsBox, Held, IsRebased, moved, rebased, starting}

@@ -1,12 +1,12 @@
 //! The tableau: a table, and how far the work on it is.
-ghost use Rattle.std.specs.Prelude.{◌≡◌, ℕ, suc, ◌^◌, ◌<◌, ◌≤◌, ◌++◌, [], ◌∷◌, length, IfErr, IfOk, OnErr, OnOk, All};
+ghost use Rattle.std.specs.Prelude.{◌≡◌, ℕ, suc, ◌^◌, ◌<◌, ◌≤◌, ◌++◌, [], ◌∷◌, length, All, IfErr, IfOk, OnErr, OnOk};
 ghost use Rattle.path_rows.specs.Basis.{IsBasis};
 ghost use Rattle.path_rows.specs.Boxes.{IsBox, Refutes};
 ghost use Rattle.path_rows.specs.Steps.{IsTooWide};
 ghost use Rattle.exact_simplex.specs.declared.stage.Solved.TheVariants.{Feasible, Refuted};
 ghost use Rattle.exact_simplex.specs.declared.stage.Stage.TheVariants.{Ended, Stopped};
 ghost use Rattle.exact_simplex.specs.Corners.{IsLeastPoint};
-ghost use Rattle.exact_simplex.specs.Tableaus.{FitsBox, IsGoing, IsRefused, IsSolved, IsStop, IsTold, starting, wide_at, IsRebased};
+ghost use Rattle.exact_simplex.specs.Tableaus.{FitsBox, IsGoing, IsRebased, IsRefused, IsSolved, IsStop, IsTold, starting, wide_at};
 
 use crate::start::starting_table;
 use crate::table::Table;
@@ -164,6 +164,7 @@ impl Tableau {
         ensures told { IfErr result (IsTold self.now) }
     {
         *into = self.table.multipliers(alloc, form as usize)?;
+        Ok(())
     }
 
     /// Moves the tableau to another box: the same rows and basis members, with the new bounds. It takes no memory.
