@@ -3,6 +3,7 @@ pub mod Entries
 pub mod Tableaus
 pub mod Turns
 pub mod Wholes
+pub mod Moves
 pub mod Pivots
 pub mod Ranks
 pub mod Sums

@@ -35,7 +35,7 @@ fn corner_term(coefficient: i64, low: u16) -> i128
 }
 
 /// The form's value at the low corner of the box.
-fn corner_value(form: &Form, costs: &CostBox) -> i64
+pub fn corner_value(form: &Form, costs: &CostBox) -> i64
     requires { FitsBox costs.now form.now }
     ensures { result ≡ value form.now costs.now.low }
 {

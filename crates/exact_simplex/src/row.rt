@@ -99,6 +99,14 @@ impl TableRow {
         self.constant = constant;
     }
 
+    /// Makes all of it 0. It keeps its room.
+    pub fn clear(&mut self)
+        ensures { self.new ≡ nothing ∷ map (λ column. nothing) (numbers_from 0 (length self.old - 1)) }
+    {
+        self.constant = Frac::whole(0);
+        self.entries.clear();
+    }
+
     /// Puts the entry of a column from which on all entries are 0.
     pub fn push(&mut self, column: u32, value: Frac)
         requires within { suc column < length self.old }

@@ -101,7 +101,7 @@ fn push_low_rows(
 }
 
 /// How far the upper bound is above the lower one.
-fn range_of(low: u16, high: u16) -> i64
+pub fn range_of(low: u16, high: u16) -> i64
     ensures range { result ≡ (pos high -ℤ pos low) }
     ensures small { nat_abs result < 2 ^ 27 }
 {

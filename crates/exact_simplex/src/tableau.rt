@@ -1,12 +1,12 @@
 //! The tableau: a table, and how far the work on it is.
-ghost use Rattle.std.specs.Prelude.{◌≡◌, ℕ, suc, ◌^◌, ◌<◌, ◌≤◌, ◌++◌, [], ◌∷◌, length, IfErr, IfOk, OnErr, OnOk};
+ghost use Rattle.std.specs.Prelude.{◌≡◌, ℕ, suc, ◌^◌, ◌<◌, ◌≤◌, ◌++◌, [], ◌∷◌, length, All, IfErr, IfOk, OnErr, OnOk};
 ghost use Rattle.path_rows.specs.Basis.{IsBasis};
 ghost use Rattle.path_rows.specs.Boxes.{IsBox, Refutes};
 ghost use Rattle.path_rows.specs.Steps.{IsTooWide};
 ghost use Rattle.exact_simplex.specs.declared.stage.Solved.TheVariants.{Feasible, Refuted};
 ghost use Rattle.exact_simplex.specs.declared.stage.Stage.TheVariants.{Ended, Stopped};
 ghost use Rattle.exact_simplex.specs.Corners.{IsLeastPoint};
-ghost use Rattle.exact_simplex.specs.Tableaus.{FitsBox, IsGoing, IsRefused, IsSolved, IsStop, IsTold, starting, wide_at};
+ghost use Rattle.exact_simplex.specs.Tableaus.{FitsBox, IsGoing, IsRebased, IsRefused, IsSolved, IsStop, IsTold, starting, wide_at};
 
 use crate::start::starting_table;
 use crate::table::Table;
@@ -164,6 +164,27 @@ impl Tableau {
         ensures told { IfErr result (IsTold self.now) }
     {
         *into = self.table.multipliers(alloc, form as usize)?;
+        Ok(())
+    }
+
+    /// Moves the tableau to another box: the same rows and basis members, with the new bounds. It takes no memory.
+    ///
+    /// Each bound moves in turn; where a step of that makes a whole number that passes the top, the table is started
+    /// anew, at the basis of the forms x - low of the box.
+    ///
+    /// # Errors
+    ///
+    /// `Wide` where the tableau had stopped: the same step again.
+    pub fn rebase(&mut self, costs: &CostBox) -> Result<(), Wide>
+        requires ranges { IsBox (length self.old.costs.low) costs.now }
+        requires fits { All (FitsBox costs.now) self.old.rows }
+        ensures going { OnOk result (IsGoing self.old.stage) }
+        ensures moved { OnOk result (IsRebased self.old costs.now self.new) }
+        ensures stopped { IfErr result (λ wide. (self.old.stage ≡ Stopped wide) × (self.new ≡ self.old)) }
+    {
+        self.going()?;
+        self.table.rebase(costs);
+        self.stage = Stage::Open;
         Ok(())
     }
 }
