@@ -3,31 +3,13 @@ ghost use Rattle.std.specs.Prelude.{◌≡◌, ◌++◌, [], ◌∷◌, All, len
 ghost use Rattle.path_rows.specs.Boxes.{IsBox};
 ghost use Rattle.exact_simplex.specs.Tableaus.{FitsBox};
 
+use crate::tests::{form_of, three_costs, width};
 use crate::{Solved, Tableau};
 use area_graph::Point;
 use cost_base::Listed;
 use path_rows::{CostBox, Form, Member};
 use std::alloc::{AllocError, Global};
 use std::test::Fail;
-use wide_fraction::Top;
-
-/// The greatest top.
-fn greatest_top() -> Result<Top, &'static str> {
-    match Top::new(127) {
-        Some(top) => Ok(top),
-        None => Err("not a width"),
-    }
-}
-
-/// Three costs from 1 to 10.
-fn three_costs(alloc: Global) -> Result<CostBox, AllocError>
-    ensures { IfOk result (λ costs. costs ≡ record { low = 1 ∷ 1 ∷ 1 ∷ []; high = 10 ∷ 10 ∷ 10 ∷ [] }) }
-{
-    Ok(CostBox {
-        low: Listed::from_items(vec![in alloc; 1u16, 1, 1]?),
-        high: Listed::from_items(vec![in alloc; 10u16, 10, 10]?),
-    })
-}
 
 /// The first cost from 2 to 10, and the others from 1 to 2.
 fn moved_costs(alloc: Global) -> Result<CostBox, AllocError>
@@ -36,21 +18,6 @@ fn moved_costs(alloc: Global) -> Result<CostBox, AllocError>
     Ok(CostBox {
         low: Listed::from_items(vec![in alloc; 2u16, 1, 1]?),
         high: Listed::from_items(vec![in alloc; 10u16, 2, 2]?),
-    })
-}
-
-fn form_of(
-    alloc: Global,
-    constant: i64,
-    first: i64,
-    second: i64,
-    third: i64,
-) -> Result<Form, AllocError>
-    ensures { IfOk result (λ form. form ≡ record { constant = constant; coefficients = first ∷ second ∷ third ∷ [] }) }
-{
-    Ok(Form {
-        constant,
-        coefficients: Listed::from_items(vec![in alloc; first, second, third]?),
     })
 }
 
@@ -77,11 +44,11 @@ fn each_two(alloc: Global) -> Result<Tableau, Fail>
         ∷ []) }
 {
     let costs = three_costs(alloc)?;
-    let first = form_of(alloc, -3, 1, 1, 0)?;
-    let second = form_of(alloc, -3, 0, 1, 1)?;
-    let third = form_of(alloc, -3, 1, 0, 1)?;
-    let fourth = form_of(alloc, 3, 0, -1, -1)?;
-    let mut tableau = Tableau::start(alloc, &costs, greatest_top()?)?;
+    let first = form_of(alloc, -3, &[1, 1, 0])?;
+    let second = form_of(alloc, -3, &[0, 1, 1])?;
+    let third = form_of(alloc, -3, &[1, 0, 1])?;
+    let fourth = form_of(alloc, 3, &[0, -1, -1])?;
+    let mut tableau = Tableau::start(alloc, &costs, width(127)?)?;
     added(&mut tableau, alloc, &first)?;
     added(&mut tableau, alloc, &second)?;
     added(&mut tableau, alloc, &third)?;

@@ -4,14 +4,15 @@ ghost use Rattle.exact_simplex.specs.Tableaus.{FitsBox};
 
 use crate::{SimplexStop, Solved, Tableau};
 use area_graph::Point;
-use cost_base::Listed;
+use cost_base::{Listed, StepName};
 use path_rows::{CostBox, Form, Member, Parts};
 use std::alloc::{AllocError, Global};
+use std::process::Abort;
 use std::test::Fail;
-use wide_fraction::Top;
+use wide_fraction::{Frac, Top, Wide};
 
 /// The width of `bits` bits.
-fn width(bits: u32) -> Result<Top, &'static str>
+pub(crate) fn width(bits: u32) -> Result<Top, &'static str>
     ensures { IfOk result (λ top. top ≡ 2 ^ bits - 1) }
 {
     match Top::new(bits) {
@@ -31,7 +32,7 @@ fn two_costs(alloc: Global) -> Result<CostBox, AllocError>
 }
 
 /// Three costs from 1 to 10.
-fn three_costs(alloc: Global) -> Result<CostBox, AllocError>
+pub(crate) fn three_costs(alloc: Global) -> Result<CostBox, AllocError>
     ensures { IfOk result (λ costs. costs ≡ record { low = 1 ∷ 1 ∷ 1 ∷ []; high = 10 ∷ 10 ∷ 10 ∷ [] }) }
 {
     Ok(CostBox {
@@ -59,7 +60,11 @@ fn with_three(alloc: Global, bits: u32) -> Result<Tableau, Fail>
 }
 
 /// A form by its constant and its coefficients.
-fn form_of(alloc: Global, constant: i64, coefficients: &[i64]) -> Result<Form, AllocError>
+pub(crate) fn form_of(
+    alloc: Global,
+    constant: i64,
+    coefficients: &[i64],
+) -> Result<Form, AllocError>
     ensures { IfOk result (λ form. form ≡ record { constant = constant; coefficients = coefficients.now }) }
 {
     Ok(Form {
@@ -74,6 +79,68 @@ fn add(tableau: &mut Tableau, alloc: Global, form: &Form) -> Result<(), SimplexS
     ensures { tableau.new.costs ≡ tableau.old.costs }
 {
     tableau.add_row(alloc, form)
+}
+
+/// The step that needs 16385 times 16385, which is 268468225.
+fn wide_step() -> Result<Wide, &'static str> {
+    match Frac::new(-16385, 16384, width(28)?) {
+        Some(right) => Ok(Wide {
+            step: StepName::Mul,
+            left: Frac::whole(-16385),
+            right,
+        }),
+        None => Err("too wide"),
+    }
+}
+
+/// What a call of `add_row` answers there.
+fn too_wide() -> Result<Result<(), SimplexStop>, &'static str> {
+    let wide = wide_step()?;
+    Ok(Err(SimplexStop::TooWide(wide)))
+}
+
+/// A solved tableau of the row 16385 x0 + 16384 x1 - 32770, at numbers below 2^28.
+fn narrow(rt: &impl Abort, alloc: Global) -> Result<Tableau, Fail>
+    ensures { IfOk result (λ tableau. tableau.costs ≡ record { low = 1 ∷ 1 ∷ []; high = 10 ∷ 10 ∷ [] }) }
+{
+    let mut tableau = with_two(alloc, 28)?;
+    let row = form_of(alloc, -32770, &[16385, 16384])?;
+    add(&mut tableau, alloc, &row)?;
+    let solved = tableau.solve();
+    assert_eq!(rt; solved, Ok(Solved::Feasible));
+    Ok(tableau)
+}
+
+/// Whether a row is refused by that step.
+fn refuses(tableau: &mut Tableau, alloc: Global, form: &Form) -> Result<bool, Fail>
+    requires { FitsBox tableau.old.costs form.now }
+    ensures { IfOk result (λ _. tableau.new.costs ≡ tableau.old.costs) }
+{
+    let told = add(tableau, alloc, form);
+    Ok(told == too_wide()?)
+}
+
+/// Whether solving tells that step.
+fn is_stopped(tableau: &mut Tableau) -> Result<bool, Fail> {
+    let told = tableau.solve();
+    Ok(told == Err(wide_step()?))
+}
+
+/// The line of x0 - 16385 x1 + 16382 at the basis of the first row's form needs a number above 2^28. The tableau stops
+/// there, with the basis that it had.
+#[test]
+fn tableau_wide(rt: HostRuntime) -> Result<(), Fail> {
+    let mut tableau = narrow(&rt, rt.alloc())?;
+    let row = form_of(rt.alloc(), 16382, &[1, -16385])?;
+    assert!(rt; refuses(&mut tableau, rt.alloc(), &row)?);
+    let members = tableau.basis(rt.alloc())?;
+    assert_eq!(rt;
+        members.as_slice(),
+        [Member::Low(0, 1), Member::Row(0)].as_slice()
+    );
+    assert!(rt; refuses(&mut tableau, rt.alloc(), &row)?);
+    assert!(rt; is_stopped(&mut tableau)?);
+    Ok(())
 }
 
 /// Whole multipliers of rows by which the box is refuted.
