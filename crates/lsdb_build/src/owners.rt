@@ -1,5 +1,5 @@
 //! Which routers have ports in prefixes.
-ghost use Rattle.std.specs.Prelude.{◌≡◌, ℕ, OnOk};
+ghost use Rattle.std.specs.Prelude.{◌≡◌, ℕ, None, OnOk};
 ghost use Rattle.indexmap.specs.IndexMap.{get};
 ghost use Rattle.lsdb_build.specs.declared.port.Subnet.{Subnet as Key};
 ghost use Rattle.lsdb_build.specs.Tallies.{same_subnet};
@@ -47,7 +47,9 @@ pub struct Owners {
 
 impl Owners {
     /// No router.
-    pub fn new(alloc: Global) -> Owners {
+    pub fn new(alloc: Global) -> Owners
+        ensures { (key : Key) → get same_subnet result.by_prefix key ≡ None }
+    {
         Owners {
             by_prefix: IndexMap::new(alloc),
         }
