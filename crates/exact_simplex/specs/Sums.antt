@@ -1,21 +1,26 @@
 -- The sum of a row's terms at a place.
-use Rattle.std.specs.Prelude.{◌≡◌, ◌≢◌, ◌⊎◌, ℕ, zero, suc, ◌<◌, List, [], ◌∷◌, ℤ, pos, negsuc, length, take, slice_get, slice_index_or, fold, Some}
+use Rattle.std.specs.Prelude.{◌≡◌, ◌⊎◌, ℕ, zero, suc, ◌<◌, List, [], ◌∷◌, ◌++◌, ℤ, pos, negsuc, length, take, slice_get, slice_index_or, fold, Some}
 use Rattle.cost_base.specs.declared.StepName.TheVariants.{Add, Mul}
 use Rattle.whole_numbers.specs.Fractions.{Fraction, plus, times, whole}
 use Rattle.wide_fraction.specs.declared.steps.Wide.{Wide}
 use Rattle.path_rows.specs.Basis.{entry}
 use Rattle.path_rows.specs.Steps.{terms}
 
--- the term of a coefficient, unless that is 0
-abbrev pub term_of : ℤ → Fraction → List Fraction
-term_of (pos zero) q = []
-term_of (pos (suc n)) q = times (whole (pos (suc n))) q ∷ []
-term_of (negsuc n) q = times (whole (negsuc n)) q ∷ []
+-- the variable of a coefficient, unless that is 0
+abbrev pub variable_of : ℤ → ℕ → List ℕ
+variable_of (pos zero) var = []
+variable_of (pos (suc n)) var = var ∷ []
+variable_of (negsuc n) var = var ∷ []
+
+-- the variables whose coefficients aren't 0, in rising order, where the first coefficient is that of `first`
+abbrev pub variables_from : ℕ → List ℤ → List ℕ
+variables_from first [] = []
+variables_from first (c ∷ cs) = variable_of c first ++ variables_from (suc first) cs
 
 -- the steps by which a coefficient's term is put to a sum
 abbrev pub IsTermSum : Fraction → ℤ → Fraction → Wide → Type 0
 IsTermSum sum c q wide =
-    (wide ≡ record { step = Mul; left = whole c; right = q }) ⊎ ((c ≢ pos 0) × (wide ≡ record { step = Add; left = sum; right = times (whole c) q }))
+    (wide ≡ record { step = Mul; left = whole c; right = q }) ⊎ (wide ≡ record { step = Add; left = sum; right = times (whole c) q })
 
 -- the sum of the terms of some coefficients, from a start on
 abbrev pub sum_from : Fraction → List ℤ → List (List Fraction) → ℕ → Fraction

@@ -4,23 +4,25 @@ ghost use Rattle.cost_base.specs.Lists.{numbers_from};
 ghost use Rattle.path_rows.specs.Forms.{value};
 ghost use Rattle.path_rows.specs.Steps.{IsTooWide, start_of_sum};
 ghost use Rattle.exact_simplex.specs.RowLines.{HasPlace, HoldsRow, HoldsSame, IsRowLine, IsRowStep, sum_at_place};
+ghost use Rattle.exact_simplex.specs.Sums.{variables_from};
 ghost use Rattle.exact_simplex.specs.TableRows.{IsNumber, nothing};
 ghost use Rattle.exact_simplex.specs.Tableaus.{FitsBox, wide_at};
 ghost use Rattle.exact_simplex.specs.Turns.{AreRows};
 ghost use Rattle.exact_simplex.specs.Wholes.{HasRoom, IsWholeTable};
 
 use crate::row::TableRow;
-use crate::sum::sum_at;
+use crate::sum::{sum_at, used_variables};
 use crate::table::Table;
 use cost_base::{Listed, OutOfMemory};
 use path_rows::{CostBox, Form};
 use std::alloc::Global;
 use wide_fraction::{Frac, Top, Wide};
 
-/// A form, and a line of zeros that is to become its line.
+/// A form, the variables whose coefficients in it aren't 0, and a line of zeros that is to become its line.
 #[derive(Drop)]
 pub struct BlankRow {
     form: Form,
+    variables: Vec<usize>,
     line: TableRow,
 }
 
@@ -65,12 +67,14 @@ fn start_at(form: &Form, costs: &CostBox, place: u32, top: Top) -> Frac
 /// What the form's line has at a place, by the lines of x - low for each variable.
 fn sum_of_form(
     form: &Form,
+    variables: &[usize],
     costs: &CostBox,
     lines: &[TableRow],
     place: u32,
     top: Top,
 ) -> Result<Frac, Wide>
     requires fits { FitsBox costs.now form.now }
+    requires variables { variables.now ≡ variables_from 0 form.now.coefficients }
     requires lines { AreRows top (suc (length costs.now.low)) lines.now }
     requires many { length costs.now.low ≤ length lines.now }
     requires place { place < suc (length costs.now.low) }
@@ -79,7 +83,14 @@ fn sum_of_form(
     ensures wide { IfErr result (IsRowStep top costs.now form.now lines.now) }
 {
     let start = start_at(form, costs, place, top);
-    sum_at(start, form.coefficients.as_slice(), lines, place, top)
+    sum_at(
+        start,
+        form.coefficients.as_slice(),
+        variables,
+        lines,
+        place,
+        top,
+    )
 }
 
 /// Puts the form's line in place of a line of zeros: first its constant, and then its columns in order.
@@ -90,11 +101,13 @@ fn sum_of_form(
 fn fill_line(
     line: &mut TableRow,
     form: &Form,
+    variables: &[usize],
     costs: &CostBox,
     lines: &[TableRow],
     top: Top,
 ) -> Result<(), Wide>
     requires fits { FitsBox costs.now form.now }
+    requires variables { variables.now ≡ variables_from 0 form.now.coefficients }
     requires few { length costs.now.low < 2 ^ 32 }
     requires lines { AreRows top (suc (length costs.now.low)) lines.now }
     requires many { length costs.now.low ≤ length lines.now }
@@ -102,10 +115,10 @@ fn fill_line(
     ensures line { OnOk result (IsRowLine top costs.now form.now lines.now line.new) }
     ensures wide { IfErr result (IsRowStep top costs.now form.now lines.now) }
 {
-    line.set_constant(sum_of_form(form, costs, lines, 0, top)?);
+    line.set_constant(sum_of_form(form, variables, costs, lines, 0, top)?);
     let width = costs.low.as_slice().len() as u32;
     for column in 0..width {
-        let entry = sum_of_form(form, costs, lines, column + 1, top)?;
+        let entry = sum_of_form(form, variables, costs, lines, column + 1, top)?;
         line.push(column, entry);
     }
     Ok(())
@@ -125,7 +138,8 @@ fn copy_form(alloc: Global, form: &Form) -> Result<Form, OutOfMemory>
 }
 
 impl Table {
-    /// Makes room for one more row, and the row's parts: a copy of the form, and a line of zeros.
+    /// Makes room for one more row, and the row's parts: a copy of the form, the variables whose coefficients aren't 0,
+    /// and a line of zeros.
     ///
     /// # Errors
     ///
@@ -135,9 +149,11 @@ impl Table {
         ensures same { HoldsSame self.old self.new }
         ensures place { OnOk result (HasPlace self.new) }
         ensures form { IfOk result (λ row. row.form ≡ form.now) }
+        ensures variables { IfOk result (λ row. row.variables.items ≡ variables_from 0 row.form.coefficients) }
         ensures blank { IfOk result (λ row. row.line ≡ nothing ∷ map (λ column. nothing) (numbers_from 0 (length self.old.costs.low))) }
     {
         let copy = copy_form(alloc, form)?;
+        let variables = used_variables(alloc, copy.coefficients.as_slice())?;
         let line = TableRow::zero(alloc, self.costs.low.as_slice().len() as u32)?;
         if self.rows.reserve(1).is_err() {
             return Err(OutOfMemory);
@@ -145,7 +161,11 @@ impl Table {
         if self.lines.reserve(1).is_err() {
             return Err(OutOfMemory);
         }
-        Ok(BlankRow { form: copy, line })
+        Ok(BlankRow {
+            form: copy,
+            variables,
+            line,
+        })
     }
 
     /// Adds a row for which there is room, with its line at the present basis.
@@ -158,15 +178,21 @@ impl Table {
         requires room { HasRoom self.old }
         requires place { HasPlace self.old }
         requires fits { FitsBox self.old.costs row.form }
+        requires variables { row.variables.items ≡ variables_from 0 row.form.coefficients }
         requires blank { row.line ≡ nothing ∷ map (λ column. nothing) (numbers_from 0 (length self.old.costs.low)) }
         ensures holds { HoldsRow self.old row.form self.new }
         ensures whole { OnOk result (IsWholeTable self.new) }
         ensures wide { IfErr result (λ wide. IsTooWide self.new.top self.new.costs self.new.rows.items (wide_at wide self.new.basis.items)) }
     {
-        let BlankRow { form, mut line } = row;
+        let BlankRow {
+            form,
+            variables,
+            mut line,
+        } = row;
         let filled = fill_line(
             &mut line,
             &form,
+            variables.as_slice(),
             &self.costs,
             self.lines.as_slice(),
             self.top,
