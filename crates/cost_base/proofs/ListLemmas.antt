@@ -1,0 +1,141 @@
+-- Lists: numbers in a row, maps and filters over them, tests of images, a list with one more element, and what a list lacks.
+use Rattle.std.proofs.Common.{◌≡◌, ◌≢◌, ℕ, zero, suc, ◌+◌, ◌<◌, ◌≤◌, refl, sym, ◌∙◌, ap, List, [], ◌∷◌, ◌++◌, All, Bool, true, false, cond, ◌||◌, filter, map, length, get_or, arith, Option, None, Some}
+use Rattle.std.specs.List.{list_any}
+use Rattle.std.specs.Option.{option_or}
+use Rattle.std.proofs.lemmas.List.{length-map}
+use Rattle.std.proofs.lemmas.List.Elements.{All-cons, All-head, All-nil, All-tail}
+use Rattle.cost_base.specs.Lists.{numbers_from, first_of, last_of, Lacks, NoneTwice}
+
+-- Numbers in a row.
+
+-- there are as many as are asked for
+pub length-numbers_from : (a n : ℕ) → length (numbers_from a n) ≡ n
+length-numbers_from a zero = refl
+length-numbers_from a (suc n) = ap suc (length-numbers_from (a + 1) n)
+
+-- one number more at the end
+pub numbers_from-more : (a n : ℕ) → numbers_from a (suc n) ≡ numbers_from a n ++ (a + n) ∷ []
+numbers_from-more a zero = ap (λ x. x ∷ []) (omega arith)
+numbers_from-more a (suc n) =
+    let next : a + 1 + n ≡ a + suc n = omega arith in
+    ap (λ xs. a ∷ xs) (numbers_from-more (a + 1) n ∙ ap (λ x. numbers_from (a + 1) n ++ x ∷ []) next)
+
+-- the number at a place
+pub get_or-numbers_from : (a n k d : ℕ) → k < n → get_or (numbers_from a n) k d ≡ a + k
+get_or-numbers_from a zero k d within = absurd (omega arith)
+get_or-numbers_from a (suc n) zero d within = omega arith
+get_or-numbers_from a (suc n) (suc k) d within = get_or-numbers_from (a + 1) n k d (omega arith) ∙ omega arith
+
+-- what a function gives of each: as many as the numbers
+pub length-map-numbers_from : {X : Type 0} (f : ℕ → X) (a n : ℕ) → length (map f (numbers_from a n)) ≡ n
+length-map-numbers_from f a n = length-map (numbers_from a n) f ∙ length-numbers_from a n
+
+-- what a function gives, at a place
+pub get_or-map-numbers_from : {X : Type 0} (f : ℕ → X) (a n k : ℕ) (d : X) → k < n → get_or (map f (numbers_from a n)) k d ≡ f (a + k)
+get_or-map-numbers_from f a zero k d within = absurd (omega arith)
+get_or-map-numbers_from f a (suc n) zero d within = ap f (omega arith)
+get_or-map-numbers_from f a (suc n) (suc k) d within = get_or-map-numbers_from f (a + 1) n k d (omega arith) ∙ ap f (omega arith)
+
+-- functions that agree on the numbers give one list
+pub map-numbers_from-agree : {X : Type 0} (f g : ℕ → X) (a n : ℕ) → ((k : ℕ) → a ≤ k → k < a + n → f k ≡ g k) → map f (numbers_from a n) ≡ map g (numbers_from a n)
+map-numbers_from-agree f g a zero agree = refl
+map-numbers_from-agree f g a (suc n) agree =
+    cc (agree a (omega arith) (omega arith), map-numbers_from-agree f g (a + 1) n (λ k above below. agree k (omega arith) (omega arith)))
+
+-- tests that agree on the numbers keep the same
+pub filter-numbers_from-agree : (f g : ℕ → Bool) (a n : ℕ) → ((k : ℕ) → a ≤ k → k < a + n → f k ≡ g k) → filter f (numbers_from a n) ≡ filter g (numbers_from a n)
+filter-numbers_from-agree f g a zero agree = refl
+filter-numbers_from-agree f g a (suc n) agree =
+    cc (agree a (omega arith) (omega arith), filter-numbers_from-agree f g (a + 1) n (λ k above below. agree k (omega arith) (omega arith)))
+
+-- what holds of each number that passes holds of those that are kept
+pub all-filter-numbers_from : (P : ℕ → Type 0) (test : ℕ → Bool) (a n : ℕ) → ((k : ℕ) → a ≤ k → k < a + n → test k ≡ true → P k) → All P (filter test (numbers_from a n))
+all-filter-numbers_from P test a zero each = All-nil P
+all-filter-numbers_from P test a (suc n) each =
+    by_test (test a) (λ passes. each a (omega arith) (omega arith) passes)
+    (all-filter-numbers_from P test (a + 1) n (λ k above below passes. each k (omega arith) (omega arith) passes))
+  where
+    by_test : (b : Bool) → (b ≡ true → P a) → All P (filter test (numbers_from (a + 1) n)) → All P (cond b (a ∷ filter test (numbers_from (a + 1) n)) (filter test (numbers_from (a + 1) n)))
+    by_test true here rest = All-cons P a (filter test (numbers_from (a + 1) n)) (here refl) rest
+    by_test false here rest = rest
+
+-- Maps and tests.
+
+-- functions that agree give one list
+pub map-agree : {X Y : Type 0} (f g : X → Y) (xs : List X) → ((x : X) → f x ≡ g x) → map f xs ≡ map g xs
+map-agree f g [] agree = refl
+map-agree f g (x ∷ xs) agree = cc (agree x, map-agree f g xs agree)
+
+-- a test of what a function gives
+pub list_any-map : {X Y : Type 0} (p : Y → Bool) (f : X → Y) (xs : List X) → list_any p (map f xs) ≡ list_any (λ x. p (f x)) xs
+list_any-map p f [] = refl
+list_any-map p f (x ∷ xs) = ap (λ later. p (f x) || later) (list_any-map p f xs)
+
+-- tests that agree on each element find alike
+pub list_any-agree : {X : Type 0} (p q : X → Bool) (xs : List X) → All (λ x. p x ≡ q x) xs → list_any p xs ≡ list_any q xs
+list_any-agree p q [] same = refl
+list_any-agree p q (x ∷ xs) same =
+    cc (All-head (λ y. p y ≡ q y) x xs same, list_any-agree p q xs (All-tail (λ y. p y ≡ q y) x xs same))
+
+-- two tests of which each holds where the other does
+pub same_test : (a b : Bool) → (a ≡ true → b ≡ true) → (b ≡ true → a ≡ true) → a ≡ b
+same_test true b there back = sym (there refl)
+same_test false true there back = back refl
+same_test false false there back = refl
+
+-- One more element, and none.
+
+pub length-push : {X : Type 0} (xs : List X) (x : X) → length (xs ++ x ∷ []) ≡ suc (length xs)
+length-push [] x = refl
+length-push (y ∷ xs) x = ap suc (length-push xs x)
+
+-- no element in two lists together
+pub append-none : {X : Type 0} (xs ys : List X) → xs ++ ys ≡ [] → (xs ≡ []) × (ys ≡ [])
+append-none [] ys none = (refl, none)
+append-none (x ∷ xs) ys none = absurd (cc)
+
+pub first_of-push : {X : Type 0} (xs : List X) (x : X) → first_of (xs ++ x ∷ []) ≡ option_or (first_of xs) (Some x)
+first_of-push [] x = refl
+first_of-push (y ∷ xs) x = refl
+
+pub last_of-push : {X : Type 0} (xs : List X) (x : X) → last_of (xs ++ x ∷ []) ≡ Some x
+last_of-push [] x = refl
+last_of-push (y ∷ []) x = refl
+last_of-push (y ∷ z ∷ xs) x = last_of-push (z ∷ xs) x
+
+-- the last of a list with one more in front
+pub last_of-cons : {X : Type 0} (x : X) (xs : List X) → last_of (x ∷ xs) ≡ option_or (last_of xs) (Some x)
+last_of-cons x [] = refl
+last_of-cons x (y ∷ []) = refl
+last_of-cons x (y ∷ z ∷ xs) = last_of-cons x (z ∷ xs)
+
+pub option_or-none : {X : Type 0} (o : Option X) → option_or o None ≡ o
+option_or-none None = refl
+option_or-none (Some x) = refl
+
+-- What a list lacks.
+
+-- a list lacks what another element is not, put at its end
+pub lacks_push : (xs : List ℕ) (y x : ℕ) → Lacks xs x → x ≢ y → Lacks (xs ++ y ∷ []) x
+lacks_push [] y x lacks other = (other, tt)
+lacks_push (z ∷ zs) y x lacks other = (lacks.0, lacks_push zs y x lacks.1 other)
+
+-- a longer list lacks no more
+pub lacks_first : (xs ys : List ℕ) (x : ℕ) → Lacks (xs ++ ys) x → Lacks xs x
+lacks_first [] ys x lacks = tt
+lacks_first (z ∷ zs) ys x lacks = (lacks.0, lacks_first zs ys x lacks.1)
+
+-- what a list lacks differs from each of its elements
+pub lacks_seam : (xs : List ℕ) (y : ℕ) (ys : List ℕ) (x : ℕ) → Lacks (xs ++ y ∷ ys) x → x ≢ y
+lacks_seam [] y ys x lacks = lacks.0
+lacks_seam (z ∷ zs) y ys x lacks = lacks_seam zs y ys x lacks.1
+
+-- an element that is new goes to the end
+pub none_twice_push : (xs : List ℕ) (x : ℕ) → NoneTwice xs → Lacks xs x → NoneTwice (xs ++ x ∷ [])
+none_twice_push [] x once lacks = (tt, tt)
+none_twice_push (z ∷ zs) x once lacks = (lacks_push zs x z once.0 (λ same. lacks.0 (sym same)), none_twice_push zs x once.1 lacks.1)
+
+-- an element differs from each before it
+pub none_twice_seam : (xs : List ℕ) (x : ℕ) (ys : List ℕ) → NoneTwice (xs ++ x ∷ ys) → Lacks xs x
+none_twice_seam [] x ys once = tt
+none_twice_seam (z ∷ zs) x ys once = (λ same. lacks_seam zs x ys z once.0 (sym same), none_twice_seam zs x ys once.1)
