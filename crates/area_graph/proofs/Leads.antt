@@ -8,7 +8,7 @@ use Rattle.area_graph.specs.Area.{Area, edge_at, no_edge, FitsGraph, FitsEdge}
 use Rattle.area_graph.specs.Paths.{Joins, Avoids, Ends, IsPathOf}
 use Rattle.area_graph.specs.Costs.{price_at, cost, FitsPoint, IsOnlyCheapest}
 use Rattle.area_graph.specs.Distances.{far, AreReached, through, SettledBelow, IsDearer, Leads}
-use Rattle.area_graph.proofs.Walks.{SimpleIn, simple_from_walk, simple_in_walk, potential-le}
+use Rattle.area_graph.proofs.Walks.{SimpleIn, simple_in_walk, simple_costs-le, potential-le}
 use Rattle.area_graph.proofs.Deviations.{Deviates, rival_deviates, deviation_joins, deviation_differs}
 use Rattle.area_graph.proofs.Numbers.{all_out, out_all}
 
@@ -31,15 +31,15 @@ deviation_dearer g p gone t d settled target u (e ∷ path) (i ∷ rest) joins l
     ]
 
 -- where each walk that leaves a path costs more, the path leads
-pub leads_from_dearer : (g : Area) (p : Point) (gone : List ℕ) (t : ℕ) (d : List ℕ) → FitsGraph g → length d ≡ length g.vertices → AreReached g p gone t d → (u : ℕ) (path : List ℕ) → Joins g u path t → cost g p path < far p → ((walk : List ℕ) → Deviates g gone t u path walk → cost g p path < cost g p walk) → Leads g p gone d path
-leads_from_dearer g p gone t d graph count are u [] joins near dearer = tt
-leads_from_dearer g p gone t d graph count are u (e ∷ path) joins near dearer = (
+pub leads_from_dearer : (g : Area) (p : Point) (gone : List ℕ) (t : ℕ) (d : List ℕ) → FitsGraph g → FitsPoint g p → length d ≡ length g.vertices → AreReached g p gone t d → (u : ℕ) (path : List ℕ) → Joins g u path t → cost g p path < far p → ((walk : List ℕ) → Deviates g gone t u path walk → cost g p path < cost g p walk) → Leads g p gone d path
+leads_from_dearer g p gone t d graph fits count are u [] joins near dearer = tt
+leads_from_dearer g p gone t d graph fits count are u (e ∷ path) joins near dearer = (
   all_out (IsDearer g p gone d e (cost g p (e ∷ path))) g (edge_at g e).from (λ i known from lacks other.
       elim (cases_lt (cost g p (e ∷ path)) (through p (edge_at g i) d)) [
         | inl more ↦ more
         | inr cheap ↦ absurd (rival i known (from ∙ joins.1) lacks other cheap)
       ]),
-  leads_from_dearer g p gone t d graph count are (edge_at g e).to path joins.2 (omega (arith, longer)) (λ walk deviates.
+  leads_from_dearer g p gone t d graph fits count are (edge_at g e).to path joins.2 (omega (arith, longer)) (λ walk deviates.
       let whole = dearer (e ∷ walk) (inr (refl, deviates)) in
       let longer_walk = sum_by-cons (λ k. price_at p (edge_at g k).price) e walk in
       omega (arith, whole, longer, longer_walk)),
@@ -52,10 +52,11 @@ leads_from_dearer g p gone t d graph count are u (e ∷ path) joins near dearer 
     rival i known from lacks other cheap =
         let edge : FitsEdge g (edge_at g i) = graph.edges i no_edge known in
         let walk = are.reached (edge_at g i).to (omega (arith, edge.to, count)) (omega (arith, cheap, near)) in
-        let simple = simple_from_walk g p gone (edge_at g i).to walk.edges t walk.joins walk.kept in
+        let simple = simple_in_walk g p gone (edge_at g i).to walk.edges t graph fits walk.joins walk.kept in
+        let most = simple_costs-le g p gone (edge_at g i).to t walk.edges simple in
         let more = dearer (i ∷ simple.edges) (inl (other, record { known = known; from_u = from; there = lacks; joins = simple.joins; none_twice = simple.none_twice; kept = simple.kept })) in
         let longer_walk = sum_by-cons (λ k. price_at p (edge_at g k).price) i simple.edges in
-        omega (arith, more, longer_walk, simple.within, walk.within, cheap)
+        omega (arith, more, longer_walk, most, walk.within, cheap)
 
 -- each walk that leaves an only cheapest path costs more
 only_dearer : (g : Area) (p : Point) (ends : Ends) (path walk : List ℕ) → FitsGraph g → FitsPoint g p → IsOnlyCheapest g p ends path → Deviates g ends.gone ends.end ends.start path walk → cost g p path < cost g p walk
@@ -98,5 +99,5 @@ leads_only g p ends d path graph fits count are settled near is_path = (
         deviation_dearer g p ends.gone ends.end d settled are.target ends.start path other is_path.simple.joins leads
         (rival_deviates g ends.gone ends.end ends.start path other is_path.simple.joins is_path.simple.none_twice is_other.simple.joins is_other.simple.none_twice is_other.kept differs);
   },
-  λ only. leads_from_dearer g p ends.gone ends.end d graph count are ends.start path is_path.simple.joins near (λ walk deviates. only_dearer g p ends path walk graph fits only deviates),
+  λ only. leads_from_dearer g p ends.gone ends.end d graph fits count are ends.start path is_path.simple.joins near (λ walk deviates. only_dearer g p ends path walk graph fits only deviates),
 )

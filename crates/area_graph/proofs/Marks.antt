@@ -3,7 +3,7 @@ use Rattle.std.proofs.Common.{◌≡◌, ℕ, ◌<◌, ◌≤◌, sym, ◌∙◌
 use Rattle.std.proofs.lemmas.List.{get_or-replicate, length-replicate}
 use native.Mathlib.Decide.{ℕ_discrete}
 use Rattle.area_graph.specs.Distances.{AreMarks}
-use Rattle.area_graph.proofs.Visits.{lacks_push, lacks_first, lacks_seam}
+use Rattle.cost_base.proofs.ListLemmas.{lacks_push, lacks_first, lacks_seam}
 
 -- no mark is set, and nothing is gone
 pub no_marks : (n : ℕ) → AreMarks [] (replicate n false)

@@ -1,9 +1,10 @@
 -- Paths cut at a place: what they visit, and that their edges are known.
-use Rattle.std.proofs.Common.{◌≡◌, ◌≢◌, ℕ, ◌+◌, ◌<◌, ap, sym, subst, ◌∙◌, List, [], ◌∷◌, ◌++◌, All, length, get_or, take, drop, map, add-one}
+use Rattle.std.proofs.Common.{◌≡◌, ℕ, ◌+◌, ◌<◌, ap, sym, subst, ◌∙◌, List, [], ◌∷◌, ◌++◌, All, length, get_or, take, drop, map, add-one}
 use Rattle.std.proofs.lemmas.List.Elements.{All-cons, All-nil}
 use Rattle.std.proofs.lemmas.List.{take_more, map-append, take-append-drop}
 use Rattle.std.proofs.Math.Seq.{drop-cons}
 use Rattle.cost_base.specs.Lists.{Lacks, NoneTwice}
+use Rattle.cost_base.proofs.ListLemmas.{none_twice_push, none_twice_seam}
 use Rattle.area_graph.specs.Area.{Area, edge_at}
 use Rattle.area_graph.specs.Paths.{Joins, visited}
 
@@ -11,31 +12,6 @@ use Rattle.area_graph.specs.Paths.{Joins, visited}
 pub joined_known : (g : Area) (s : ℕ) (es : List ℕ) (t : ℕ) → Joins g s es t → All (λ e. e < length g.edges) es
 joined_known g s [] t joins = All-nil (λ e. e < length g.edges)
 joined_known g s (e ∷ es) t joins = All-cons (λ i. i < length g.edges) e es joins.0 (joined_known g (edge_at g e).to es t joins.2)
-
--- a list lacks what another element is not, put at its end
-pub lacks_push : (xs : List ℕ) (y x : ℕ) → Lacks xs x → x ≢ y → Lacks (xs ++ y ∷ []) x
-lacks_push [] y x lacks other = (other, tt)
-lacks_push (z ∷ zs) y x lacks other = (lacks.0, lacks_push zs y x lacks.1 other)
-
--- a longer list lacks no more
-pub lacks_first : (xs ys : List ℕ) (x : ℕ) → Lacks (xs ++ ys) x → Lacks xs x
-lacks_first [] ys x lacks = tt
-lacks_first (z ∷ zs) ys x lacks = (lacks.0, lacks_first zs ys x lacks.1)
-
--- what a list lacks differs from each of its elements
-pub lacks_seam : (xs : List ℕ) (y : ℕ) (ys : List ℕ) (x : ℕ) → Lacks (xs ++ y ∷ ys) x → x ≢ y
-lacks_seam [] y ys x lacks = lacks.0
-lacks_seam (z ∷ zs) y ys x lacks = lacks_seam zs y ys x lacks.1
-
--- an element that is new goes to the end
-pub none_twice_push : (xs : List ℕ) (x : ℕ) → NoneTwice xs → Lacks xs x → NoneTwice (xs ++ x ∷ [])
-none_twice_push [] x once lacks = (tt, tt)
-none_twice_push (z ∷ zs) x once lacks = (lacks_push zs x z once.0 (λ same. lacks.0 (sym same)), none_twice_push zs x once.1 lacks.1)
-
--- an element differs from each before it
-pub none_twice_seam : (xs : List ℕ) (x : ℕ) (ys : List ℕ) → NoneTwice (xs ++ x ∷ ys) → Lacks xs x
-none_twice_seam [] x ys once = tt
-none_twice_seam (z ∷ zs) x ys once = (λ same. lacks_seam zs x ys z once.0 (sym same), none_twice_seam zs x ys once.1)
 
 -- the first vertices of a path are those of its first edges
 pub visited_more : (g : Area) (s : ℕ) (es : List ℕ) (i d : ℕ) → i < length es → visited g s (take (i + 1) es) ≡ visited g s (take i es) ++ (edge_at g (get_or es i d)).to ∷ []

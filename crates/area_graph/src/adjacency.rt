@@ -7,46 +7,6 @@ ghost use Rattle.area_graph.specs.Adjacency.{end_on, listed_below};
 use crate::{Edge, Graph, Price, Vertex};
 use cost_base::{Listed, OutOfMemory};
 use std::alloc::Global;
-use std::marker::Model;
-
-/// Numbers of edges. Contracts see the list of them.
-#[derive(Drop)]
-pub(crate) struct Numbers {
-    items: Vec<u32>,
-}
-
-impl Model for Numbers {
-    ghost use Rattle.std.specs.Prelude.{ℕ, List};
-
-    ghost Value = { List ℕ };
-
-    ghost view = { λ n. n.items.items };
-}
-
-impl Numbers {
-    fn new(alloc: Global) -> Numbers
-        ensures { result ≡ [] }
-    {
-        Numbers {
-            items: Vec::new(alloc),
-        }
-    }
-
-    fn push(&mut self, number: u32) -> Result<(), OutOfMemory>
-        ensures { OnOk result (self.new ≡ self.old ++ number ∷ []) }
-    {
-        match self.items.push(number) {
-            Ok(()) => Ok(()),
-            Err(_) => Err(OutOfMemory),
-        }
-    }
-
-    fn as_slice(&self) -> &[u32]
-        ensures { result.now ≡ self.now }
-    {
-        self.items.as_slice()
-    }
-}
 
 /// On which side of a vertex its edges are listed: those out of it, or those into it.
 #[derive(Clone, Copy)]
@@ -64,15 +24,12 @@ fn end_of(edge: Edge, side: Side) -> u32
     }
 }
 
-fn empty_lists(alloc: Global, count: usize) -> Result<Vec<Numbers>, OutOfMemory>
+fn empty_lists(alloc: Global, count: usize) -> Result<Vec<Listed<u32>>, OutOfMemory>
     ensures { IfOk result (λ lists. lists.items ≡ replicate count []) }
 {
     let mut lists = Vec::new(alloc);
     for _ in 0..count {
-        match lists.push(Numbers::new(alloc)) {
-            Ok(()) => {}
-            Err(_) => return Err(OutOfMemory),
-        }
+        lists.push(Listed::new(alloc))?;
     }
     Ok(lists)
 }
@@ -82,7 +39,7 @@ fn edges_on(
     vertices: &[Vertex],
     edges: &[Edge],
     side: Side,
-) -> Result<Vec<Numbers>, OutOfMemory>
+) -> Result<Vec<Listed<u32>>, OutOfMemory>
     requires ends { All (λ edge. end_on side edge < length vertices.now) edges.now }
     requires few { length edges.now < 2 ^ 32 }
     ensures count { IfOk result (λ lists. length lists.items ≡ length vertices.now) }
@@ -144,14 +101,8 @@ impl Graph {
     pub fn copy(&self, alloc: Global) -> Result<Graph, OutOfMemory>
         ensures { IfOk result (λ graph. graph ≡ self.now) }
     {
-        let vertices = match self.vertices.as_slice().to_vec(alloc) {
-            Ok(vertices) => vertices,
-            Err(_) => return Err(OutOfMemory),
-        };
-        let edges = match self.edges.as_slice().to_vec(alloc) {
-            Ok(edges) => edges,
-            Err(_) => return Err(OutOfMemory),
-        };
+        let vertices = Vec::from_slice(alloc, self.vertices.as_slice())?;
+        let edges = Vec::from_slice(alloc, self.edges.as_slice())?;
         Graph::new(alloc, vertices, edges)
     }
 

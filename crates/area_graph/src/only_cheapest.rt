@@ -95,10 +95,7 @@ fn distances_to(
     ensures reached { IfOk result (λ d. AreReached graph.now point.now removal.now target d.items) }
     ensures settled { IfOk result (λ d. SettledBelow (length graph.now.edges) graph.now point.now removal.now d.items) }
 {
-    let mut distances = match vec![in alloc; (1 << 26) * point.scale; graph.vertices().len()] {
-        Ok(distances) => distances,
-        Err(_) => return Err(OutOfMemory),
-    };
+    let mut distances = vec![in alloc; (1 << 26) * point.scale; graph.vertices().len()]?;
     distances[target as usize] = 0;
     loop {
         if !pass(graph, point, removal, &mut distances) {
@@ -198,10 +195,7 @@ pub fn is_only_cheapest(
         IsOnlyCheapest graph.now point.now (record { start = path.now.start; end = end; gone = gone.now }) path.now.edges) }
 {
     graph.keeps_conditions();
-    let mut marks = match vec![in alloc; false; graph.edges().len()] {
-        Ok(marks) => marks,
-        Err(_) => return Err(OutOfMemory),
-    };
+    let mut marks = vec![in alloc; false; graph.edges().len()]?;
     mark_gone(&mut marks, gone);
     let removal = Removal {
         gone,

@@ -1,9 +1,11 @@
 -- Lists: numbers in a row, maps and filters over them, tests of images, a list with one more element, and what a list lacks.
-use Rattle.std.proofs.Common.{◌≡◌, ◌≢◌, ℕ, zero, suc, ◌+◌, ◌<◌, ◌≤◌, refl, sym, ◌∙◌, ap, List, [], ◌∷◌, ◌++◌, All, Bool, true, false, cond, ◌||◌, filter, map, length, get_or, arith, Option, None, Some}
+use Rattle.std.proofs.Common.{◌≡◌, ◌≢◌, ℕ, zero, suc, ◌+◌, ◌<◌, ◌≤◌, refl, sym, ◌∙◌, ap, subst, List, [], ◌∷◌, ◌++◌, All, Bool, true, false, cond, ◌||◌, filter, map, length, get_or, arith, Option, None, Some}
 use Rattle.std.specs.List.{list_any}
 use Rattle.std.specs.Option.{option_or}
+use Rattle.std.proofs.lemmas.Bool.{false≢true}
 use Rattle.std.proofs.lemmas.List.{length-map}
 use Rattle.std.proofs.lemmas.List.Elements.{All-cons, All-head, All-nil, All-tail}
+use native.Mathlib.Decide.{ℕ_discrete}
 use Rattle.cost_base.specs.Lists.{numbers_from, first_of, last_of, Lacks, NoneTwice}
 
 -- Numbers in a row.
@@ -19,6 +21,9 @@ numbers_from-more a zero = ap (λ x. x ∷ []) (omega arith)
 numbers_from-more a (suc n) =
     let next : a + 1 + n ≡ a + suc n = omega arith in
     ap (λ xs. a ∷ xs) (numbers_from-more (a + 1) n ∙ ap (λ x. numbers_from (a + 1) n ++ x ∷ []) next)
+
+pub numbers_from-push : (a n : ℕ) → numbers_from a (n + 1) ≡ numbers_from a n ++ (a + n) ∷ []
+numbers_from-push a n = let next : n + 1 ≡ suc n = omega arith in ap (numbers_from a) next ∙ numbers_from-more a n
 
 -- the number at a place
 pub get_or-numbers_from : (a n k d : ℕ) → k < n → get_or (numbers_from a n) k d ≡ a + k
@@ -49,15 +54,29 @@ filter-numbers_from-agree f g a (suc n) agree =
     cc (agree a (omega arith) (omega arith), filter-numbers_from-agree f g (a + 1) n (λ k above below. agree k (omega arith) (omega arith)))
 
 -- what holds of each number that passes holds of those that are kept
-pub all-filter-numbers_from : (P : ℕ → Type 0) (test : ℕ → Bool) (a n : ℕ) → ((k : ℕ) → a ≤ k → k < a + n → test k ≡ true → P k) → All P (filter test (numbers_from a n))
-all-filter-numbers_from P test a zero each = All-nil P
-all-filter-numbers_from P test a (suc n) each =
+pub all_kept : (P : ℕ → Type 0) (test : ℕ → Bool) (a n : ℕ) → ((k : ℕ) → a ≤ k → k < a + n → test k ≡ true → P k) → All P (filter test (numbers_from a n))
+all_kept P test a zero each = All-nil P
+all_kept P test a (suc n) each =
     by_test (test a) (λ passes. each a (omega arith) (omega arith) passes)
-    (all-filter-numbers_from P test (a + 1) n (λ k above below passes. each k (omega arith) (omega arith) passes))
+    (all_kept P test (a + 1) n (λ k above below passes. each k (omega arith) (omega arith) passes))
   where
     by_test : (b : Bool) → (b ≡ true → P a) → All P (filter test (numbers_from (a + 1) n)) → All P (cond b (a ∷ filter test (numbers_from (a + 1) n)) (filter test (numbers_from (a + 1) n)))
     by_test true here rest = All-cons P a (filter test (numbers_from (a + 1) n)) (here refl) rest
     by_test false here rest = rest
+
+-- what holds of the numbers that are kept holds of each that passes
+pub kept_all : (P : ℕ → Type 0) (test : ℕ → Bool) (a n : ℕ) → All P (filter test (numbers_from a n)) → (k : ℕ) → a ≤ k → k < a + n → test k ≡ true → P k
+kept_all P test a zero all k above below passes = absurd (omega arith)
+kept_all P test a (suc n) all k above below passes =
+    let split = by_test (test a) all in
+    elim (ℕ_discrete k a) [
+      | yes same ↦ subst P (sym same) (split.0 (ap test (sym same) ∙ passes))
+      | no other ↦ kept_all P test (a + 1) n split.1 k (omega arith) (omega arith) passes
+    ]
+  where
+    by_test : (b : Bool) → All P (cond b (a ∷ filter test (numbers_from (a + 1) n)) (filter test (numbers_from (a + 1) n))) → (b ≡ true → P a) × All P (filter test (numbers_from (a + 1) n))
+    by_test true all = (λ passes. All-head P a (filter test (numbers_from (a + 1) n)) all, All-tail P a (filter test (numbers_from (a + 1) n)) all)
+    by_test false all = (λ passes. absurd (false≢true passes), all)
 
 -- Maps and tests.
 
@@ -114,6 +133,11 @@ option_or-none None = refl
 option_or-none (Some x) = refl
 
 -- What a list lacks.
+
+-- a number that a list lacks is none of its elements
+pub all_lacks : (xs : List ℕ) (x : ℕ) → Lacks xs x → All (λ y. x ≢ y) xs
+all_lacks [] x lacks = All-nil (λ y. x ≢ y)
+all_lacks (y ∷ ys) x lacks = All-cons (λ z. x ≢ z) y ys lacks.0 (all_lacks ys x lacks.1)
 
 -- a list lacks what another element is not, put at its end
 pub lacks_push : (xs : List ℕ) (y x : ℕ) → Lacks xs x → x ≢ y → Lacks (xs ++ y ∷ []) x

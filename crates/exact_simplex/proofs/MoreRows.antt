@@ -7,7 +7,7 @@ use Rattle.std.proofs.lemmas.List.{append_assoc, get_or_append_left, length-appe
 use Rattle.std.proofs.lemmas.List.Elements.{All-append}
 use Rattle.cost_base.specs.Lists.{numbers_from}
 use Rattle.whole_numbers.specs.Fractions.{Fraction}
-use Rattle.area_graph.proofs.Numbers.{numbers_from_more}
+use Rattle.cost_base.proofs.ListLemmas.{numbers_from-push}
 use Rattle.path_rows.specs.declared.form.Form.{Form}
 use Rattle.path_rows.specs.declared.form.CostBox.{CostBox}
 use Rattle.path_rows.specs.declared.tree.Member.{Member}
@@ -67,7 +67,7 @@ members_more costs rows =
     let lows = map (low_member costs) (numbers_from 0 (length costs.low)) in
     let highs = map (high_member costs) (numbers_from 0 (length costs.low)) in
     let own : List ℕ → List Member = map (λ row. Row row) in
-    ap (λ (ks : List ℕ). (lows ++ highs) ++ own ks) (numbers_from_more 0 rows)
+    ap (λ (ks : List ℕ). (lows ++ highs) ++ own ks) (numbers_from-push 0 rows)
     ∙ ap (λ (ms : List Member). (lows ++ highs) ++ ms) (map-append (λ row. Row row) (numbers_from 0 rows) ((0 + rows) ∷ []))
     ∙ ap (λ (k : ℕ). (lows ++ highs) ++ (own (numbers_from 0 rows) ++ Row k ∷ [])) (zero-add rows)
     ∙ sym (append_assoc (lows ++ highs) (own (numbers_from 0 rows)) (Row rows ∷ []))

@@ -8,7 +8,7 @@ use Rattle.cost_base.specs.Lists.{numbers_from}
 use Rattle.whole_numbers.specs.Fractions.{Fraction, whole}
 use Rattle.whole_numbers.proofs.Divisors.{gcd-one}
 use Rattle.wide_fraction.specs.Widths.{IsTop}
-use Rattle.area_graph.proofs.Numbers.{numbers_from_more}
+use Rattle.cost_base.proofs.ListLemmas.{numbers_from-push}
 use Rattle.path_rows.specs.declared.form.CostBox.{CostBox}
 use Rattle.path_rows.specs.Basis.{low_member, unit}
 use Rattle.exact_simplex.specs.TableRows.{AreNumbers, IsNumber, nothing}
@@ -25,7 +25,7 @@ put_more start olds news f k x news_are olds_are x_is =
     ∙ ap (λ xs. xs ++ x ∷ []) olds_are
     ∙ ap (λ y. (start ++ map f (numbers_from 0 k)) ++ y ∷ []) (x_is ∙ ap f (sym (zero-add k)))
     ∙ append_assoc start (map f (numbers_from 0 k)) (f (0 + k) ∷ [])
-    ∙ ap (λ xs. start ++ xs) (sym (ap (map f) (numbers_from_more 0 k) ∙ map-append f (numbers_from 0 k) ((0 + k) ∷ [])))
+    ∙ ap (λ xs. start ++ xs) (sym (ap (map f) (numbers_from-push 0 k) ∙ map-append f (numbers_from 0 k) ((0 + k) ∷ [])))
 
 pub rows_more : (top count : ℕ) (olds news : List (List Fraction)) (line : List Fraction) → news ≡ olds ++ line ∷ [] → AreRows top count olds → length line ≡ count → AreNumbers top line → AreRows top count news
 rows_more top count olds news line news_are olds_fit counted numbers =

@@ -1,8 +1,7 @@
 -- Lines of texts that are put together, and of texts that are read line by line.
-use Rattle.std.proofs.Common.{◌≡◌, ◌≢◌, ℕ, zero, suc, ◌+◌, ◌<◌, ◌≤◌, List, [], ◌∷◌, ◌++◌, All, length, map, get_or, take, drop, eqb, Bool, cond, true, false, refl, ap, subst, ◌∙◌, arith, add-one, append_assoc, append-nil}
+use Rattle.std.proofs.Common.{◌≡◌, ◌≢◌, ℕ, zero, suc, ◌+◌, ◌<◌, ◌≤◌, List, [], ◌∷◌, ◌++◌, All, length, map, get_or, take, drop, eqb, Bool, cond, true, false, refl, sym, ap, subst, ◌∙◌, arith, add-one, append_assoc, append-nil}
 use Rattle.std.proofs.lemmas.List.Elements.{All-nil, All-cons, All-head, All-tail}
-use Rattle.std.specs.List.{concat}
-use Rattle.text_lines.specs.Lines.{lines, grow, ends_line, IsOneLine}
+use Rattle.text_lines.specs.Lines.{lines, grow, with_ends, ended, ends_line, IsOneLine}
 
 -- a line with its LF, before a text, is that text's first line
 pub lines-cons : (line rest : List ℕ) → IsOneLine line → lines (line ++ 10 ∷ rest) ≡ line ∷ lines rest
@@ -70,17 +69,34 @@ ends_line-append (x ∷ []) (y ∷ ys) first second = second
 ends_line-append (x ∷ y ∷ ys) b first second = ends_line-append (y ∷ ys) b first second
 
 -- a text that is put together line by line ends with an LF
-pub ends_line-concat : (ls : List (List ℕ)) → ends_line (concat (map (λ line. line ++ 10 ∷ []) ls)) ≡ true
+pub ends_line-concat : (ls : List (List ℕ)) → ends_line (with_ends ls) ≡ true
 ends_line-concat [] = refl
-ends_line-concat (line ∷ ls) = ends_line-append (line ++ 10 ∷ []) (concat (map (λ l. l ++ 10 ∷ []) ls)) (ends_line-end line) (ends_line-concat ls)
+ends_line-concat (line ∷ ls) = ends_line-append (line ++ 10 ∷ []) (with_ends ls) (ends_line-end line) (ends_line-concat ls)
 
 -- a text that is put together line by line has these lines
-pub lines-concat : (ls : List (List ℕ)) → All IsOneLine ls → lines (concat (map (λ line. line ++ 10 ∷ []) ls)) ≡ ls
+pub lines-concat : (ls : List (List ℕ)) → All IsOneLine ls → lines (with_ends ls) ≡ ls
 lines-concat [] ones = refl
 lines-concat (line ∷ ls) ones =
-    ap lines (append_assoc line (10 ∷ []) (concat (map (λ l. l ++ 10 ∷ []) ls)))
-    ∙ lines-cons line (concat (map (λ l. l ++ 10 ∷ []) ls)) (All-head IsOneLine line ls ones)
+    ap lines (append_assoc line (10 ∷ []) (with_ends ls))
+    ∙ lines-cons line (with_ends ls) (All-head IsOneLine line ls ones)
     ∙ ap (λ rest. line ∷ rest) (lines-concat ls (All-tail IsOneLine line ls ones))
+
+-- the texts of two lists of lines, one after the other
+pub with_ends-append : (xs ys : List (List ℕ)) → with_ends (xs ++ ys) ≡ with_ends xs ++ with_ends ys
+with_ends-append [] ys = refl
+with_ends-append (x ∷ xs) ys = ap (λ bytes. (x ++ 10 ∷ []) ++ bytes) (with_ends-append xs ys) ∙ sym (append_assoc (x ++ 10 ∷ []) (with_ends xs) (with_ends ys))
+
+-- the lines of a text that is ended, and then those of what follows
+pub lines-ended : (bytes rest : List ℕ) → lines (ended bytes ++ rest) ≡ lines bytes ++ lines rest
+lines-ended [] rest = refl
+lines-ended (c ∷ []) rest = cases (eqb c 10) refl
+  where
+    cases : (b : Bool) → eqb c 10 ≡ b → lines (cond b (c ∷ []) (c ∷ 10 ∷ []) ++ rest) ≡ cond b ([] ∷ []) (grow c []) ++ lines rest
+    cases true e = rw e
+    cases false e = rw e
+lines-ended (c ∷ d ∷ cs) rest =
+    ap (λ ls. cond (eqb c 10) ([] ∷ ls) (grow c ls)) (lines-ended (d ∷ cs) rest)
+    ∙ before_lines c (eqb c 10) (lines (d ∷ cs)) (lines rest) (lines-some d cs)
 
 -- no line holds an LF
 pub lines-whole : (s : List ℕ) → All IsOneLine (lines s)

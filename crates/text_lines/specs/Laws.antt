@@ -1,14 +1,14 @@
 -- The laws of this crate, each the contract of a function of `laws`.
-use Rattle.std.specs.Prelude.{◌≡◌, ℕ, ◌≤◌, ◌<◌, ◌^◌, List, [], ◌∷◌, ◌++◌, length, map, Some, true, false, All}
-use Rattle.std.specs.List.{concat, join_with_byte}
+use Rattle.std.specs.Prelude.{◌≡◌, ℕ, ◌≤◌, ◌<◌, ◌^◌, List, [], ◌∷◌, ◌++◌, length, Some, true, false, All}
+use Rattle.std.specs.List.{join_with_byte}
 use Rattle.cost_base.specs.Words.{IsOneWord}
 use Rattle.cost_base.specs.Decimal.{decimal}
-use Rattle.text_lines.specs.Lines.{lines, words, ends_line, IsOneLine}
+use Rattle.text_lines.specs.Lines.{lines, words, ends_line, with_ends, IsOneLine}
 use Rattle.text_lines.specs.Numbers.{number}
 
 -- a text of lines that each end with an LF has these lines
 abbrev pub LinesReadBack : Type 0
-LinesReadBack = (ls : List (List ℕ)) → All IsOneLine ls → lines (concat (map (λ line. line ++ 10 ∷ []) ls)) ≡ ls
+LinesReadBack = (ls : List (List ℕ)) → All IsOneLine ls → lines (with_ends ls) ≡ ls
 
 -- a text that follows a whole line, or an LF that ends the last one, adds its own lines
 abbrev pub LinesAdd : Type 0
