@@ -1,8 +1,8 @@
 -- The terms of a form: what they are, and sums over them.
-use Rattle.std.proofs.Common.{◌≡◌, ℕ, zero, suc, ◌+◌, ◌<◌, ◌≤◌, refl, sym, ◌∙◌, ap, List, [], ◌∷◌, ◌++◌, map, length, take, drop, get_or, cond, arith, add-one, add-zero, zero-add, drop-cons, Bool, ◌^◌, SFits, w64, to_z, of_z}
+use Rattle.std.proofs.Common.{◌≡◌, ℕ, zero, suc, ◌+◌, ◌<◌, ◌≤◌, refl, sym, ◌∙◌, ap, List, [], ◌∷◌, ◌++◌, map, length, take, drop, get_or, cond, arith, add-one, add-zero, zero-add, drop-cons, Bool, ◌^◌, inl, inr, SFits, w64, to_z, of_z}
 use native.Mathlib.Decide.{ℕ_discrete}
 use lib.IntN.{+ℤ_idl}
-use Rattle.std.specs.Prelude.{ℤ, pos, negsuc, ◌+ℤ◌, ◌*ℤ◌, nat_abs, All, AllPairs, sum_by, ◌≢◌}
+use Rattle.std.specs.Prelude.{ℤ, pos, negsuc, ◌+ℤ◌, ◌*ℤ◌, nat_abs, All, AllPairs, sum_by, ◌≢◌, ◌⊎◌}
 use Rattle.std.proofs.lemmas.Bool.{ne_eqb, eq-eqb}
 use Rattle.std.proofs.lemmas.Int.{ints, to_z-of_z}
 use Rattle.std.proofs.lemmas.List.{append_assoc, append-nil}
@@ -123,6 +123,65 @@ coefficient_from first (pos (suc n) ∷ cs) (suc v) =
 coefficient_from first (negsuc n ∷ cs) (suc v) =
     coefficient_after (record { var = first; coefficient = negsuc n }) (terms_from (suc first) cs) (first + suc v) (let e : first < first + suc v = omega arith in e)
     ∙ ap (coefficient_of (terms_from (suc first) cs)) (sym (moved first v)) ∙ coefficient_from (suc first) cs v
+
+-- what the first coefficient's term tells
+head_told : (first : ℕ) (c : ℤ) (cs : List ℤ) (v : ℕ) → first ≡ first + v → get_or (c ∷ cs) v (pos 0) ≡ c
+head_told first c cs zero same = refl
+head_told first c cs (suc v) same = absurd (omega arith)
+
+-- and what the terms of the later ones tell
+later_told : (first : ℕ) (c : ℤ) (cs : List ℤ) → All (λ t. (v : ℕ) → t.var ≡ suc first + v → get_or cs v (pos 0) ≡ t.coefficient) (terms_from (suc first) cs) → All (λ t. (v : ℕ) → t.var ≡ first + v → get_or (c ∷ cs) v (pos 0) ≡ t.coefficient) (terms_from (suc first) cs)
+later_told first c cs told k d k_in zero same = let within = within_from (suc first) cs k d k_in in absurd (omega (arith, within.0, same))
+later_told first c cs told k d k_in (suc v) same = told k d k_in v (same ∙ sym (moved first v))
+
+-- each term has the coefficient of its variable
+coefficients_told : (first : ℕ) (cs : List ℤ) → All (λ t. (v : ℕ) → t.var ≡ first + v → get_or cs v (pos 0) ≡ t.coefficient) (terms_from first cs)
+coefficients_told first [] = All-nil (λ (t : Term). (v : ℕ) → t.var ≡ first + v → pos 0 ≡ t.coefficient)
+coefficients_told first (pos zero ∷ cs) = later_told first (pos zero) cs (coefficients_told (suc first) cs)
+coefficients_told first (pos (suc n) ∷ cs) =
+    All-cons (λ (t : Term). (v : ℕ) → t.var ≡ first + v → get_or (pos (suc n) ∷ cs) v (pos 0) ≡ t.coefficient) (record { var = first; coefficient = pos (suc n) }) (terms_from (suc first) cs)
+    (head_told first (pos (suc n)) cs) (later_told first (pos (suc n)) cs (coefficients_told (suc first) cs))
+coefficients_told first (negsuc n ∷ cs) =
+    All-cons (λ (t : Term). (v : ℕ) → t.var ≡ first + v → get_or (negsuc n ∷ cs) v (pos 0) ≡ t.coefficient) (record { var = first; coefficient = negsuc n }) (terms_from (suc first) cs)
+    (head_told first (negsuc n) cs) (later_told first (negsuc n) cs (coefficients_told (suc first) cs))
+
+pub term_coefficient : (f : Form) (k : ℕ) (d : Term) → k < length (terms_of f) → get_or f.coefficients (get_or (terms_of f) k d).var (pos 0) ≡ (get_or (terms_of f) k d).coefficient
+term_coefficient f k d k_in = coefficients_told 0 f.coefficients k d k_in (get_or (terms_of f) k d).var (sym (zero-add (get_or (terms_of f) k d).var))
+
+-- a variable has coefficient 0, or a term
+abbrev pub HasTerm : List Term → ℕ → Term → Type 0
+HasTerm ts var d = (k : ℕ) × (k < length ts) × ((get_or ts k d).var ≡ var)
+
+skipped : (t : Term) (ts : List Term) (var : ℕ) (d : Term) → HasTerm ts var d → HasTerm (t ∷ ts) var d
+skipped t ts var d has = (suc has.0, omega (arith, has.1), has.2)
+
+term_or_zero_from : (first : ℕ) (cs : List ℤ) (v : ℕ) (d : Term) → (get_or cs v (pos 0) ≡ pos 0) ⊎ HasTerm (terms_from first cs) (first + v) d
+term_or_zero_from first [] v d = inl refl
+term_or_zero_from first (pos zero ∷ cs) zero d = inl refl
+term_or_zero_from first (pos (suc n) ∷ cs) zero d = inr (0, omega arith, sym (add-zero first))
+term_or_zero_from first (negsuc n ∷ cs) zero d = inr (0, omega arith, sym (add-zero first))
+term_or_zero_from first (pos zero ∷ cs) (suc v) d =
+    elim (term_or_zero_from (suc first) cs v d) [
+      | inl none ↦ inl none
+      | inr has ↦ inr (has.0, has.1, has.2 ∙ moved first v)
+    ]
+term_or_zero_from first (pos (suc n) ∷ cs) (suc v) d =
+    elim (term_or_zero_from (suc first) cs v d) [
+      | inl none ↦ inl none
+      | inr has ↦ inr (skipped (record { var = first; coefficient = pos (suc n) }) (terms_from (suc first) cs) (first + suc v) d (has.0, has.1, has.2 ∙ moved first v))
+    ]
+term_or_zero_from first (negsuc n ∷ cs) (suc v) d =
+    elim (term_or_zero_from (suc first) cs v d) [
+      | inl none ↦ inl none
+      | inr has ↦ inr (skipped (record { var = first; coefficient = negsuc n }) (terms_from (suc first) cs) (first + suc v) d (has.0, has.1, has.2 ∙ moved first v))
+    ]
+
+pub term_or_zero : (f : Form) (v : ℕ) (d : Term) → (get_or f.coefficients v (pos 0) ≡ pos 0) ⊎ HasTerm (terms_of f) v d
+term_or_zero f v d =
+    elim (term_or_zero_from 0 f.coefficients v d) [
+      | inl none ↦ inl none
+      | inr has ↦ inr (has.0, has.1, has.2 ∙ zero-add v)
+    ]
 
 -- a form is told by its terms
 pub form_by_terms : (n : ℕ) (constant : ℤ) (ts : List Term) (cs : List ℤ) → n ≡ length cs → ts ≡ terms_from 0 cs → form_by n constant ts ≡ (let f : Form = record { constant = constant; coefficients = cs } in f)
