@@ -1,18 +1,21 @@
 -- One variable's range, and the greatest value of the whole form.
-use Rattle.std.proofs.Common.{◌≡◌, ℕ, zero, suc, ◌+◌, ◌-◌, ◌<◌, refl, sym, ◌∙◌, ap, List, [], ◌∷◌, length, get_or, get_or-set_same, arith}
+use Rattle.std.proofs.Common.{◌≡◌, ℕ, zero, suc, ◌+◌, ◌-◌, ◌<◌, ◌≤◌, refl, sym, ◌∙◌, ap, subst, List, [], ◌∷◌, length, get_or, get_or-set_same, arith, inl, inr}
 use Rattle.std.specs.Prelude.{ℤ, pos, ◌+ℤ◌, ◌<ℤ◌, slice_set, slice_index}
 use Rattle.std.proofs.Math.ListN.{length-set}
 use Rattle.std.proofs.lemmas.Int.{ints}
-use Rattle.path_rows.specs.declared.form.Form.{Form}
 use Rattle.path_rows.specs.declared.form.CostBox.{CostBox}
+use Rattle.path_rows.specs.declared.form.Term.{Term}
 use Rattle.path_rows.specs.declared.tree.Side.{Side}
 use Rattle.path_rows.specs.declared.tree.Side.TheVariants.{Low, High}
-use Rattle.path_rows.specs.Forms.{form_at}
+use Rattle.path_rows.specs.Forms.{Form, form_at, terms_of}
 use Rattle.path_rows.specs.Boxes.{upper, upper_sum, greatest, with_low, with_high}
 use Rattle.path_rows.specs.Trees.{IsSmaller, removed, TightensAt}
 use Rattle.path_rows.specs.Earnest.{at_bound}
 use Rattle.bound_propagation.specs.Ranges.{IsExactBound, HasNoBound}
-use Rattle.bound_propagation.specs.Tightening.{IsExactTightening}
+use Rattle.bound_propagation.specs.Tightening.{IsExactTightening, NoneBefore}
+use Rattle.bound_propagation.proofs.Ranges.{no_bound}
+use Rattle.path_rows.proofs.TermLaws.{terms_known, term_coefficient, term_or_zero}
+use Rattle.std.proofs.lemmas.Bool.{cases_lt}
 
 -- another upper end of one place
 sum_high : (cs : List ℤ) (ls hs : List ℕ) (i v : ℕ) → i < length cs → length cs ≡ length ls → length cs ≡ length hs → (upper_sum cs ls (slice_set hs i v) +ℤ upper (get_or cs i (pos 0)) (slice_index ls i) (slice_index hs i)) ≡ (upper_sum cs ls hs +ℤ upper (get_or cs i (pos 0)) (slice_index ls i) v)
@@ -41,16 +44,19 @@ pub record IsPlace (f : Form) (box : CostBox) (var : ℕ) (c : ℤ) (l h : ℕ) 
   pub low : slice_index box.low var ≡ l
   pub high : slice_index box.high var ≡ h
 
--- a place of the lists that a box and a form lend
-pub place_of : (f : Form) (box : CostBox) (cs : List ℤ) (ls hs : List ℕ) (var : ℕ) (c : ℤ) → var < length cs → length f.coefficients ≡ length box.low → length f.coefficients ≡ length box.high → cs ≡ f.coefficients → ls ≡ box.low → hs ≡ box.high → get_or cs var (pos 0) ≡ c → IsPlace f box var c (get_or ls var 0) (get_or hs var 0)
-place_of f box cs ls hs var c inside low_count high_count coefficients lows highs here =
+-- the place of a term of the form, in lists that the box lends
+pub place_of : (f : Form) (box : CostBox) (ts : List Term) (ls hs : List ℕ) (k : ℕ) (d : Term) (c : ℤ) → ts ≡ terms_of f → k < length ts → length f.coefficients ≡ length box.low → length f.coefficients ≡ length box.high → ls ≡ box.low → hs ≡ box.high → c ≡ (get_or ts k d).coefficient → IsPlace f box (get_or ts k d).var c (get_or ls (get_or ts k d).var 0) (get_or hs (get_or ts k d).var 0)
+place_of f box ts ls hs k d c terms k_in low_count high_count lows highs here =
+    let t = get_or ts k d in
+    let term = ap (λ (us : List Term). get_or us k d) terms in
+    let inside : k < length (terms_of f) = omega (arith, k_in, ap length terms) in
     record {
-      inside = omega (arith, inside, ap length coefficients);
+      inside = subst (λ (u : Term). u.var < length f.coefficients) (sym term) (terms_known f k d inside);
       low_count = low_count;
       high_count = high_count;
-      coefficient = ap (λ (zs : List ℤ). get_or zs var (pos 0)) (sym coefficients) ∙ here;
-      low = ap (λ (xs : List ℕ). get_or xs var 0) (sym lows);
-      high = ap (λ (xs : List ℕ). get_or xs var 0) (sym highs);
+      coefficient = subst (λ (u : Term). get_or f.coefficients u.var (pos 0) ≡ u.coefficient) (sym term) (term_coefficient f k d inside) ∙ sym here;
+      low = ap (λ (xs : List ℕ). get_or xs t.var 0) (sym lows);
+      high = ap (λ (xs : List ℕ). get_or xs t.var 0) (sym highs);
     }
 
 -- the same term, at the same ends
@@ -125,3 +131,28 @@ tightens_at forms box side var value row known step =
       row_known = known;
       refuted = step.refuted;
     }
+
+-- of a variable the form refutes no part at an end that leaves something of its range
+abbrev pub NoneAt : Form → CostBox → ℕ → Type 0
+NoneAt f box var = (side : Side) (value : ℕ) → IsSmaller box side var value → greatest f (removed box side var value) <ℤ pos 0 → ⊥
+
+-- with coefficient 0 no part is refuted
+none_of_zero : (f : Form) (box : CostBox) (var slack : ℕ) → var < length f.coefficients → length f.coefficients ≡ length box.low → length f.coefficients ≡ length box.high → pos slack ≡ greatest f box → get_or f.coefficients var (pos 0) ≡ pos 0 → NoneAt f box var
+none_of_zero f box var slack inside low_count high_count all nought side value smaller refuted =
+    none_of_range f box var slack (pos 0) (slice_index box.low var) (slice_index box.high var) side value
+    (record { inside = inside; low_count = low_count; high_count = high_count; coefficient = nought; low = refl; high = refl })
+    all (no_bound (pos 0) slack (slice_index box.low var) (slice_index box.high var) (omega arith)) smaller refuted
+
+-- where the first terms have no bound, no variable before the next term has one
+pub none_before : (f : Form) (box : CostBox) (ts : List Term) (slack k limit : ℕ) (d : Term) → ts ≡ terms_of f → length f.coefficients ≡ length box.low → length f.coefficients ≡ length box.high → pos slack ≡ greatest f box → limit ≤ length f.coefficients → ((j : ℕ) → k ≤ j → j < length ts → limit ≤ (get_or ts j d).var) → ((j : ℕ) → j < k → NoneAt f box (get_or ts j d).var) → NoneBefore f box limit
+none_before f box ts slack k limit d terms low_count high_count all within behind none var var_in side value smaller refuted =
+    elim (term_or_zero f var d) [
+      | inl nought ↦ none_of_zero f box var slack (omega arith) low_count high_count all nought side value smaller refuted
+      | inr at ↦
+          let j = at.0 in
+          let here : (get_or ts j d).var ≡ var = ap (λ (us : List Term). (get_or us j d).var) terms ∙ at.2 in
+          elim (cases_lt j k) [
+            | inl before ↦ subst (λ (v : ℕ). NoneAt f box v) here (none j before) side value smaller refuted
+            | inr past ↦ let beyond = behind j past (omega (arith, at.1, ap length terms)) in absurd (omega (arith, beyond, here, var_in))
+          ]
+    ]

@@ -2,8 +2,6 @@
 #![tactic(auto)]
 
 mod range;
-#[cfg(test)]
-mod tests;
 mod tightening;
 
-pub use tightening::{Step, tighten};
+pub use tightening::{Step, tighten, tighten_within};

@@ -20,12 +20,11 @@ pub fn allowed_steps(weight: u64, slack: u128, low: u16, high: u16) -> Option<u1
     ensures most { IfSome result (λ steps. slack < weight * (steps + 1)) }
     ensures none { result ≡ None → weight * (high - low) ≤ slack }
 {
-    let steps = slack / u128::from(weight);
-    if steps < u128::from(high.saturating_sub(low)) {
-        Some(steps as u16)
-    } else {
-        None
+    let weight = u128::from(weight);
+    if weight * u128::from(high.saturating_sub(low)) <= slack {
+        return None;
     }
+    Some((slack / weight) as u16)
 }
 
 /// The new bound that the form gives the variable: with a positive coefficient at the low side, with a negative one at

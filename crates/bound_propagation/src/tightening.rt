@@ -14,42 +14,45 @@ pub struct Step {
     pub value: u16,
 }
 
-/// The form's greatest value over the box, which isn't negative: what the form can lose.
-fn slack(form: &Form, costs: &CostBox) -> u128
-    requires low { length form.now.coefficients ≡ length costs.now.low }
-    requires high { length form.now.coefficients ≡ length costs.now.high }
-    requires sizes { All (λ c. nat_abs c ≤ 2 ^ 26) form.now.coefficients }
-    requires unrefuted { pos 0 ≤ℤ greatest form.now costs.now }
-    ensures { pos result ≡ greatest form.now costs.now }
-{
-    greatest_over(form, costs).unsigned_abs()
-}
-
 /// The first variable whose range the form alone makes smaller, with its exact new bound: the form is negative over the
 /// part of the box that is removed, and not over the part at the new bound itself. None exactly where the form makes no
 /// range smaller. With a positive coefficient it is the lower bound that rises, with a negative one the upper bound that
 /// falls.
 ///
-/// There is a coefficient for each variable, each of size at most 2^26, variables have numbers of 32 bits, and the
-/// form's greatest value over the box isn't negative.
+/// There is a coefficient for each variable, each of size at most 2^26, and the form's greatest value over the box isn't
+/// negative.
 pub fn tighten(form: &Form, costs: &CostBox) -> Option<Step>
     requires low { length form.now.coefficients ≡ length costs.now.low }
     requires high { length form.now.coefficients ≡ length costs.now.high }
-    requires count { length form.now.coefficients ≤ 2 ^ 32 }
     requires sizes { All (λ c. nat_abs c ≤ 2 ^ 26) form.now.coefficients }
     requires unrefuted { pos 0 ≤ℤ greatest form.now costs.now }
     ensures exact { IfSome result (λ s. IsExactTightening form.now costs.now s.side s.var s.value) }
     ensures first { IfSome result (λ s. NoneBefore form.now costs.now s.var) }
     ensures none { result ≡ None → NoneBefore form.now costs.now (length costs.now.low) }
 {
-    let slack = slack(form, costs);
+    tighten_within(form, costs, greatest_over(form, costs))
+}
+
+/// As `tighten`, where the form's greatest value over the box is known: `most`. It is what the form can lose, so a range
+/// gets smaller only where the form's term loses more between its ends.
+pub fn tighten_within(form: &Form, costs: &CostBox, most: i128) -> Option<Step>
+    requires low { length form.now.coefficients ≡ length costs.now.low }
+    requires high { length form.now.coefficients ≡ length costs.now.high }
+    requires known { most ≡ greatest form.now costs.now }
+    requires unrefuted { pos 0 ≤ℤ most }
+    ensures exact { IfSome result (λ s. IsExactTightening form.now costs.now s.side s.var s.value) }
+    ensures first { IfSome result (λ s. NoneBefore form.now costs.now s.var) }
+    ensures none { result ≡ None → NoneBefore form.now costs.now (length costs.now.low) }
+{
+    let slack = most.unsigned_abs();
     let low = costs.low.as_slice();
     let high = costs.high.as_slice();
-    let coefficients = form.coefficients.as_slice();
-    for i in 0..coefficients.len() {
-        if let Some(bound) = exact_bound(coefficients[i], slack, low[i], high[i]) {
+    let terms = form.terms();
+    for term in terms {
+        let var = term.var as usize;
+        if let Some(bound) = exact_bound(term.coefficient, slack, low[var], high[var]) {
             return Some(Step {
-                var: i as u32,
+                var: term.var,
                 side: bound.side,
                 value: bound.value,
             });

@@ -1,5 +1,5 @@
 //! The form of a row.
-ghost use Rattle.std.specs.Prelude.{◌≡◌, ℕ, pos, ◌-ℤ◌, ◌^◌, ◌<◌, length, All, IfOk};
+ghost use Rattle.std.specs.Prelude.{◌≡◌, ℕ, pos, ◌-ℤ◌, ◌^◌, ◌<◌, ◌≤◌, length, All, IfOk};
 ghost use Rattle.area_graph.specs.Costs.{IsPriced};
 ghost use Rattle.path_rows.specs.Differences.{IsDifference};
 ghost use Rattle.path_rows.specs.Forms.{IsSmallForm};
@@ -8,7 +8,7 @@ ghost use Rattle.path_rows.specs.Rows.{HasRoute, fixed_cost, form_between, form_
 use crate::tally::{counts_of, fixed_sum};
 use crate::{Form, Problem, Row};
 use area_graph::Graph;
-use cost_base::{Listed, OutOfMemory};
+use cost_base::OutOfMemory;
 use std::alloc::Global;
 
 /// How much more often each variable is paid than saved.
@@ -51,16 +51,14 @@ fn form_of_paths(
     requires rival_known { All (λ e. e < length graph.now.edges) rival.now }
     requires rival_short { length rival.now < 2 ^ 32 }
     requires priced { All (λ edge. IsPriced variables edge.price) graph.now.edges }
+    requires count { variables ≤ 2 ^ 32 }
     ensures { IfOk result (λ form. form ≡ form_between graph.now variables wanted.now rival.now) }
 {
     let constant = constant_of(graph, wanted, rival);
     let paid = counts_of(alloc, graph, variables, rival)?;
     let saved = counts_of(alloc, graph, variables, wanted)?;
     let coefficients = differences(alloc, &paid, &saved)?;
-    Ok(Form {
-        constant,
-        coefficients: Listed::from_items(coefficients),
-    })
+    Form::from_coefficients(alloc, constant, &coefficients)
 }
 
 /// The form of a row: cost(rival) - cost(wanted path) - 1, in time in proportion to the two paths and the variables.
