@@ -1,7 +1,8 @@
 //! The files of the machine.
 
-ghost use Rattle.std.specs.Prelude.{◌≡◌, ℕ, List, [], ◌+◌, ◌^◌, ◌<◌, ◌≤◌, OnOk, OnErr, IsErrOf, Option, None, vec_len};
-ghost use Rattle.cost_base.specs.Outside.{IsFile, IsLonger, CountsFaults};
+ghost use Rattle.std.specs.Prelude.{◌≡◌, ℕ, List, [], ◌∷◌, ◌+◌, ◌^◌, ◌<◌, ◌≤◌, OnOk, OnErr, IsErrOf, Option, None, vec_len};
+ghost use Rattle.cost_base.specs.Outside.{IsFile, IsLonger, CountsFaults, HasGiven, came_of};
+ghost use Rattle.cost_base.specs.Histories.{given_none, given_more, given_counts};
 ghost use Rattle.cost_base.specs.Files.{times};
 
 use crate::failed_calls::FailedCalls;
@@ -36,6 +37,8 @@ impl<R: Files> Shelf for FileShelf<R> {
 
     ghost faults = { λ shelf name. times shelf.failed.names.items name };
 
+    ghost gave = { λ before now came. HasGiven (λ name. None) (λ name. None) before.failed.names.items now.failed.names.items came };
+
     #[tactic(auto, using(crate::proofs::Shelves::noted))]
     fn take(&mut self, name: &str, most: usize, into: &mut Vec<u8>) -> Result<(), ShelfStop>
         requires empty { into.old.items ≡ [] }
@@ -44,6 +47,7 @@ impl<R: Files> Shelf for FileShelf<R> {
         ensures cut { IsErrOf result ShelfStop.TooLong → vec_len into.new ≡ most + 1 }
         ensures refused { OnErr result (vec_len into.new ≤ most + 1) }
         ensures faults { CountsFaults (times self.old.failed.names.items) (times self.new.failed.names.items) name.now result }
+        ensures gave { HasGiven (λ other. None) (λ other. None) self.old.failed.names.items self.new.failed.names.items (record { name = name.now; most = most; came = came_of result into.new.items } ∷ []) }
     {
         let Ok(copy) = self.failed.make_room(name.as_bytes()) else {
             return Err(ShelfStop::OutOfMemory);
@@ -56,6 +60,16 @@ impl<R: Files> Shelf for FileShelf<R> {
             result => result,
         }
     }
+
+    ghost gave_none = { λ a. given_none (λ name. None) a.failed.names.items };
+
+    ghost gave_more = { λ a b c first later. given_more (λ name. None) (λ name. None) (λ name. None) a.failed.names.items b.failed.names.items c.failed.names.items first later };
+
+    ghost gave_held = { λ a b came given. given.held };
+
+    ghost gave_told = { λ a b came given. given.told };
+
+    ghost gave_counted = { λ a b came given. given_counts (λ name. None) (λ name. None) a.failed.names.items b.failed.names.items came given };
 }
 
 /// Reads the file at a path, or the first `most + 1` bytes of it where it has more than `most`.

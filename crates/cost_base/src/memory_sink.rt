@@ -1,7 +1,8 @@
 //! A sink in memory that fails where it is told to.
 
 ghost use Rattle.std.specs.Prelude.{◌≡◌, ◌<◌, ◌≤◌, ◌+◌, ◌-◌, ◌^◌, ◌++◌, [], min, length, take, IfOk, IsOk, OnOk, Some, None, vec_len, vec_capacity};
-ghost use Rattle.cost_base.specs.Outside.{HasCause};
+ghost use Rattle.cost_base.specs.Outside.{HasCause, GotWhole, Hands};
+ghost use Rattle.cost_base.specs.Histories.{handed_none, handed_more};
 ghost use Rattle.cost_base.specs.Fakes.{kept_at, kept_or_all};
 
 use crate::{OutOfMemory, PutFailed, Sink};
@@ -76,6 +77,8 @@ impl Sink for MemorySink {
 
     ghost faults = { λ sink. sink.faults };
 
+    ghost handed = { λ before now bytes. GotWhole (Some before.bytes.items) (Some now.bytes.items) bytes };
+
     fn put(&mut self, piece: &[u8]) -> Result<(), PutFailed>
         ensures whole { OnOk result (self.new.bytes.items ≡ self.old.bytes.items ++ piece.now) }
         ensures cause { HasCause self.old.faults self.new.faults result }
@@ -98,4 +101,10 @@ impl Sink for MemorySink {
         self.faults = self.faults.saturating_add(1);
         Err(PutFailed)
     }
+
+    ghost handed_none = { λ a. handed_none (Some a.bytes.items) };
+
+    ghost handed_more = { λ a b c first later. handed_more (Some a.bytes.items) (Some b.bytes.items) (Some c.bytes.items) first later };
+
+    ghost handed_got = { λ a b bytes handed. handed };
 }

@@ -2,7 +2,8 @@
 
 ghost use Rattle.std.specs.Prelude.{◌≡◌, ℕ, ◌<◌, ◌≤◌, ◌+◌, [], length, take, IfOk, OnOk, OnErr, Option, None};
 ghost use Rattle.std.specs.Io.KnownBytes.{Appends};
-ghost use Rattle.cost_base.specs.Outside.{HasCause};
+ghost use Rattle.cost_base.specs.Outside.{HasCause, Hands};
+ghost use Rattle.cost_base.specs.Histories.{appends_none, appends_both};
 
 use crate::{PutFailed, Sink};
 use std::io::{ErrorKind, Write};
@@ -31,6 +32,8 @@ impl<W: Write> Sink for OutSink<W> {
 
     ghost faults = { λ sink. sink.faults };
 
+    ghost handed = { λ before now bytes. Appends (W.contents before.output) (W.contents now.output) bytes };
+
     fn put(&mut self, piece: &[u8]) -> Result<(), PutFailed>
         ensures cause { HasCause self.old.faults self.new.faults result }
         ensures written { OnOk result (Appends (W.contents self.old.output) (W.contents self.new.output) piece.now) }
@@ -43,6 +46,12 @@ impl<W: Write> Sink for OutSink<W> {
         }
         result
     }
+
+    ghost handed_none = { λ a. appends_none (W.contents a.output) };
+
+    ghost handed_more = { λ a b c first later. appends_both (W.contents a.output) (W.contents b.output) (W.contents c.output) first later };
+
+    ghost handed_got = { λ a b bytes handed. tt };
 }
 
 /// Writes the whole piece, however many writes it takes.

@@ -1,7 +1,8 @@
 //! A shelf in memory that never fails.
 
 ghost use Rattle.std.specs.Prelude.{◌≡◌, ℕ, List, [], ◌+◌, ◌^◌, ◌<◌, ◌≤◌, OnOk, OnErr, IsErrOf, Option, Some, vec_len};
-ghost use Rattle.cost_base.specs.Outside.{IsFile, IsLonger, CountsFaults};
+ghost use Rattle.cost_base.specs.Outside.{IsFile, IsLonger, CountsFaults, HasGiven, came_of};
+ghost use Rattle.cost_base.specs.Histories.{given_none, given_more, given_surely};
 ghost use Rattle.cost_base.specs.Files.{first_file, or_empty};
 
 use crate::content::{copy_within, find_first};
@@ -30,8 +31,20 @@ impl Shelf for SureShelf {
 
     ghost faults = { λ shelf name. 0 };
 
+    ghost gave = { λ before now came. HasGiven (λ name. Some (or_empty (first_file before.files.items name))) (λ name. Some (or_empty (first_file now.files.items name))) [] [] came };
+
     fn take(&mut self, name: &str, most: usize, into: &mut Vec<u8>) -> Result<(), ShelfStop> {
         let bytes = find_first(self.files.as_slice(), name.as_bytes()).unwrap_or(&[]);
         copy_within(bytes, most, into)
     }
+
+    ghost gave_none = { λ a. given_none (λ name. Some (or_empty (first_file a.files.items name))) [] };
+
+    ghost gave_more = { λ a b c first later. given_more (λ name. Some (or_empty (first_file a.files.items name))) (λ name. Some (or_empty (first_file b.files.items name))) (λ name. Some (or_empty (first_file c.files.items name))) [] [] [] first later };
+
+    ghost gave_held = { λ a b came given. given.held };
+
+    ghost gave_told = { λ a b came given. given.told };
+
+    ghost gave_counted = { λ a b came given. given_surely (λ name. Some (or_empty (first_file a.files.items name))) (λ name. Some (or_empty (first_file b.files.items name))) came given };
 }

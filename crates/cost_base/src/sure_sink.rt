@@ -1,6 +1,8 @@
 //! A sink in memory that never fails.
 
 ghost use Rattle.std.specs.Prelude.{◌≡◌, ◌<◌, ◌≤◌, ◌+◌, ◌++◌, [], length, true, false, IfOk, IsOk, Some, None, if◌then◌else◌, vec_len, vec_capacity};
+ghost use Rattle.cost_base.specs.Outside.{GotWhole, Hands};
+ghost use Rattle.cost_base.specs.Histories.{handed_none, handed_more};
 
 use crate::{OutOfMemory, PutFailed, Sink};
 use std::alloc::Global;
@@ -60,6 +62,8 @@ impl Sink for SureSink {
 
     ghost faults = { λ sink. 0 };
 
+    ghost handed = { λ before now bytes. GotWhole (if before.lost then None else Some before.bytes.items) (if now.lost then None else Some now.bytes.items) bytes };
+
     fn put(&mut self, piece: &[u8]) -> Result<(), PutFailed>
         ensures sure { IsOk result }
         ensures taken { length piece.now ≤ self.old.room → (self.new.bytes.items ≡ self.old.bytes.items ++ piece.now) × (self.new.lost ≡ self.old.lost) }
@@ -74,4 +78,10 @@ impl Sink for SureSink {
         }
         Ok(())
     }
+
+    ghost handed_none = { λ a. handed_none (if a.lost then None else Some a.bytes.items) };
+
+    ghost handed_more = { λ a b c first later. handed_more (if a.lost then None else Some a.bytes.items) (if b.lost then None else Some b.bytes.items) (if c.lost then None else Some c.bytes.items) first later };
+
+    ghost handed_got = { λ a b bytes handed. handed };
 }
