@@ -1,0 +1,135 @@
+-- A tree of cases while it grows, entry by entry, and how it ends.
+use Rattle.std.proofs.Common.{◌≡◌, ℕ, zero, suc, ◌+◌, ◌<◌, ◌≤◌, refl, sym, ◌∙◌, ap, subst, List, [], ◌∷◌, ◌++◌, map, length, arith, replicate}
+use Rattle.std.specs.Prelude.{false}
+use Rattle.area_graph.specs.declared.Point.{Point}
+use Rattle.path_rows.specs.declared.form.Form.{Form}
+use Rattle.path_rows.specs.declared.form.CostBox.{CostBox}
+use Rattle.path_rows.specs.declared.tree.Side.{Side}
+use Rattle.path_rows.specs.declared.tree.Side.TheVariants.{Low, High}
+use Rattle.path_rows.specs.declared.tree.Entry.{Entry}
+use Rattle.path_rows.specs.declared.tree.Entry.TheVariants.{Tighten, Split, Halve, Refute, Undone}
+use Rattle.path_rows.specs.Trees.{Sound, SoundAt, IsSoundTree, IsClosed, entry_count, is_undone, subboxes}
+use Rattle.path_rows.specs.Earnest.{Place, Earnest, EarnestAt, IsEarnestTree, subplaces}
+use Rattle.path_rows.specs.OpenPlaces.{Opens, UndoneLast, undones}
+
+-- one more entry is one step
+pub opens_more : (accepts : Point → Type 0) (top : ℕ) (forms : List Form) (places : List Place) (entries : List Entry) (place : Place) (rest : List Place) (entry : Entry) → Opens accepts top forms places entries (place ∷ rest) → SoundAt forms place.box entry → EarnestAt accepts top forms place entry → Opens accepts top forms places (entries ++ entry ∷ []) (subplaces place entry ++ rest)
+opens_more accepts top forms places [] place rest entry opens sound earnest =
+    subst (λ (ps : List Place). Opens accepts top forms ps (entry ∷ []) (subplaces place entry ++ rest)) (sym opens) (sound, earnest, refl)
+opens_more accepts top forms [] (e ∷ entries) place rest entry opens sound earnest = absurd opens
+opens_more accepts top forms (p ∷ places) (e ∷ entries) place rest entry opens sound earnest =
+    (opens.0, opens.1, opens_more accepts top forms (subplaces p e ++ places) entries place rest entry opens.2 sound earnest)
+
+-- with no open place left the entries are an earnest tree over each place
+pub opens_ends : (accepts : Point → Type 0) (top : ℕ) (forms : List Form) (places : List Place) (entries : List Entry) → Opens accepts top forms places entries [] → Earnest accepts top forms places entries
+opens_ends accepts top forms places [] opens = subst (λ (ps : List Place). Earnest accepts top forms ps []) (sym opens) tt
+opens_ends accepts top forms [] (e ∷ entries) opens = absurd opens
+opens_ends accepts top forms (p ∷ places) (e ∷ entries) opens =
+    (opens.0, opens.1, opens_ends accepts top forms (subplaces p e ++ places) entries opens.2)
+
+earnest_undones : (accepts : Point → Type 0) (top : ℕ) (forms : List Form) (places : List Place) → Earnest accepts top forms places (undones (length places))
+earnest_undones accepts top forms [] = tt
+earnest_undones accepts top forms (p ∷ places) = (tt, tt, earnest_undones accepts top forms places)
+
+-- an Undone for each open place ends it
+pub opens_undone : (accepts : Point → Type 0) (top : ℕ) (forms : List Form) (places : List Place) (entries : List Entry) (left : List Place) → Opens accepts top forms places entries left → Earnest accepts top forms places (entries ++ undones (length left))
+opens_undone accepts top forms places [] left opens =
+    subst (λ (ps : List Place). Earnest accepts top forms ps (undones (length left))) (sym opens) (earnest_undones accepts top forms left)
+opens_undone accepts top forms [] (e ∷ entries) left opens = absurd opens
+opens_undone accepts top forms (p ∷ places) (e ∷ entries) left opens =
+    (opens.0, opens.1, opens_undone accepts top forms (subplaces p e ++ places) entries left opens.2)
+
+abbrev pub boxes_of : List Place → List CostBox
+boxes_of places = map (λ place. place.box) places
+
+-- what is earnest is sound
+pub earnest_sound : (accepts : Point → Type 0) (top : ℕ) (forms : List Form) (places : List Place) (entries : List Entry) → Earnest accepts top forms places entries → Sound forms (boxes_of places) entries
+earnest_sound accepts top forms [] [] earnest = tt
+earnest_sound accepts top forms (p ∷ places) [] earnest = absurd earnest
+earnest_sound accepts top forms [] (e ∷ entries) earnest = absurd earnest
+earnest_sound accepts top forms (p ∷ places) (Tighten var side value row ∷ entries) earnest =
+    (earnest.0, earnest_sound accepts top forms (subplaces p (Tighten var side value row) ++ places) entries earnest.2)
+earnest_sound accepts top forms (p ∷ places) (Split var value ∷ entries) earnest =
+    (earnest.0, earnest_sound accepts top forms (subplaces p (Split var value) ++ places) entries earnest.2)
+earnest_sound accepts top forms (p ∷ places) (Halve var value wide ∷ entries) earnest =
+    (earnest.0, earnest_sound accepts top forms (subplaces p (Halve var value wide) ++ places) entries earnest.2)
+earnest_sound accepts top forms (p ∷ places) (Refute parts ∷ entries) earnest =
+    (earnest.0, earnest_sound accepts top forms places entries earnest.2)
+earnest_sound accepts top forms (p ∷ places) (Undone ∷ entries) earnest =
+    (earnest.0, earnest_sound accepts top forms places entries earnest.2)
+
+pub earnest_tree_sound : (accepts : Point → Type 0) (top : ℕ) (forms : List Form) (box : CostBox) (tree : List Entry) → IsEarnestTree accepts top forms box tree → IsSoundTree forms box tree
+earnest_tree_sound accepts top forms box tree earnest = earnest_sound accepts top forms (record { box = box; since = [] } ∷ []) tree earnest
+
+-- a property of all boxes
+abbrev pub AllOf : (CostBox → Type 0) → List CostBox → Type 0
+AllOf Keeps [] = Unit {0}
+AllOf Keeps (box ∷ boxes) = Keeps box × AllOf Keeps boxes
+
+pub all_of_more : (Keeps : CostBox → Type 0) (boxes more : List CostBox) → AllOf Keeps boxes → AllOf Keeps more → AllOf Keeps (boxes ++ more)
+all_of_more Keeps [] more all rest = rest
+all_of_more Keeps (box ∷ boxes) more all rest = (all.0, all_of_more Keeps boxes more all.1 rest)
+
+same_boxes : (place : Place) (entry : Entry) (places : List Place) → boxes_of (subplaces place entry ++ places) ≡ subboxes place.box entry ++ boxes_of places
+same_boxes place (Tighten var side value row) places = refl
+same_boxes place (Split var value) places = refl
+same_boxes place (Halve var value wide) places = refl
+same_boxes place (Refute parts) places = refl
+same_boxes place Undone places = refl
+
+-- what each sound entry hands from its box to its subtrees' boxes holds of the open ones
+pub opens_all : (accepts : Point → Type 0) (top : ℕ) (forms : List Form) (Keeps : CostBox → Type 0) → ((box : CostBox) (entry : Entry) → Keeps box → SoundAt forms box entry → AllOf Keeps (subboxes box entry)) → (places : List Place) (entries : List Entry) (left : List Place) → AllOf Keeps (boxes_of places) → Opens accepts top forms places entries left → AllOf Keeps (boxes_of left)
+opens_all accepts top forms Keeps hands places [] left all opens = subst (λ (ps : List Place). AllOf Keeps (boxes_of ps)) opens all
+opens_all accepts top forms Keeps hands [] (e ∷ entries) left all opens = absurd opens
+opens_all accepts top forms Keeps hands (p ∷ places) (e ∷ entries) left all opens =
+    opens_all accepts top forms Keeps hands (subplaces p e ++ places) entries left
+    (subst (AllOf Keeps) (sym (same_boxes p e places)) (all_of_more Keeps (subboxes p.box e) (boxes_of places) (hands p.box e all.0 opens.0) all.1))
+    opens.2
+
+-- at places that wait nothing was tightened since the last cut
+abbrev pub AllFresh : List Place → Type 0
+AllFresh [] = Unit {0}
+AllFresh (place ∷ places) = (place.since ≡ []) × AllFresh places
+
+abbrev pub FreshBehind : List Place → Type 0
+FreshBehind [] = Unit {0}
+FreshBehind (place ∷ places) = AllFresh places
+
+fresh_behind : (places : List Place) → AllFresh places → FreshBehind places
+fresh_behind [] all = tt
+fresh_behind (p ∷ places) all = all.1
+
+fresh_after : (place : Place) (entry : Entry) (places : List Place) → AllFresh places → FreshBehind (subplaces place entry ++ places)
+fresh_after place (Tighten var side value row) places all = all
+fresh_after place (Split var value) places all = (refl, all)
+fresh_after place (Halve var value wide) places all = (refl, all)
+fresh_after place (Refute parts) places all = fresh_behind places all
+fresh_after place Undone places all = fresh_behind places all
+
+pub opens_fresh : (accepts : Point → Type 0) (top : ℕ) (forms : List Form) (places : List Place) (entries : List Entry) (left : List Place) → FreshBehind places → Opens accepts top forms places entries left → FreshBehind left
+opens_fresh accepts top forms places [] left all opens = subst FreshBehind opens all
+opens_fresh accepts top forms [] (e ∷ entries) left all opens = absurd opens
+opens_fresh accepts top forms (p ∷ places) (e ∷ entries) left all opens =
+    opens_fresh accepts top forms (subplaces p e ++ places) entries left (fresh_after p e places all) opens.2
+
+-- entries without an Undone are counted by their number
+pub closed_count : (entries : List Entry) → IsClosed entries → entry_count entries ≡ length entries
+closed_count [] closed = refl
+closed_count (e ∷ entries) closed = rw closed.0 (omega (arith, closed_count entries closed.1))
+
+undones_count : (n : ℕ) → entry_count (undones n) ≡ 0
+undones_count zero = refl
+undones_count (suc n) = let rest = undones_count n in omega arith
+
+-- Undones at the end don't count
+pub undone_count : (entries : List Entry) (n : ℕ) → IsClosed entries → entry_count (entries ++ undones n) ≡ length entries
+undone_count [] n closed = undones_count n
+undone_count (e ∷ entries) n closed = rw closed.0 (omega (arith, undone_count entries n closed.1))
+
+-- one more entry that isn't an Undone
+pub closed_more : (entries : List Entry) (entry : Entry) → IsClosed entries → is_undone entry ≡ false → IsClosed (entries ++ entry ∷ [])
+closed_more [] entry closed here = (here, tt)
+closed_more (e ∷ entries) entry closed here = (closed.0, closed_more entries entry closed.1 here)
+
+pub undone_last : (entries : List Entry) (n : ℕ) → IsClosed entries → UndoneLast (entries ++ undones n)
+undone_last entries n closed = record { done = entries; closed = closed; undone = n; same = refl }
