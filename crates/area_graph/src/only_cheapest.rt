@@ -23,7 +23,8 @@ fn shorten(edge: Edge, point: &Point, distances: &mut Vec<u128>) -> bool
     requires from { edge.from < length distances.old.items }
     requires to { edge.to < length distances.old.items }
     requires bounded { All (λ x. x ≤ far point.now) distances.old.items }
-    ensures { MatchBool result (ShorterBy point.now edge distances.old.items distances.new.items) (StaysBy point.now edge distances.old.items distances.new.items) }
+    ensures { MatchBool result (ShorterBy point.now edge distances.old.items distances.new.items)
+        (StaysBy point.now edge distances.old.items distances.new.items) }
 {
     let least = price_of(edge.price, point) + distances[edge.to as usize];
     if least < distances[edge.from as usize] {

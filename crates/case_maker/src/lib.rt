@@ -10,8 +10,6 @@ use std::alloc::Global;
 mod configs;
 mod pieces;
 mod request;
-#[cfg(test)]
-mod tests;
 
 /// A made case: the names of its configuration files, their texts in the same order, and the text of its request file.
 #[derive(Drop)]

@@ -12,8 +12,6 @@ use std::alloc::Global;
 mod job;
 mod reading;
 mod table;
-#[cfg(test)]
-mod tests;
 mod values;
 
 pub use job::{Job, WordsStop};

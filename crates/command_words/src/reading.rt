@@ -1,7 +1,8 @@
 //! The jobs of the commands, from the values that they find.
 ghost use Rattle.std.specs.Prelude.{◌≡◌, ◌≢◌, MatchResult, true, false};
 ghost use Rattle.clap.specs.Values.{kind_of};
-ghost use Rattle.command_words.specs.Commands.{takes_words, found_in, job_of_row, design_job, check_job, audit_job, rewrite_job, trial_job, conflict_job, spread_job, total_job, lsas_job, route_job};
+ghost use Rattle.command_words.specs.Commands.{takes_words, found_in, job_of_row, design_job, check_job, audit_job, rewrite_job};
+ghost use Rattle.command_words.specs.Commands.{trial_job, conflict_job, spread_job, total_job, lsas_job, route_job};
 ghost use Rattle.command_words.specs.Forms.{form_of, found, Answers};
 ghost use Rattle.command_words.specs.Jobs.{seen};
 ghost use Rattle.command_words.specs.Words.{texts};
@@ -27,7 +28,9 @@ fn find_values<'a>(
     name: CommandName,
     words: &'a [String],
 ) -> Result<ArgMatches<'a>, WordsStop>
-    ensures { MatchResult result (λ matches. (takes_words (form_of name) (texts words.now) ≡ true) × (found matches ≡ found_in (form_of name) (texts words.now))) (λ stop. stop ≡ WordsStop.Refused → takes_words (form_of name) (texts words.now) ≡ false) }
+    ensures { MatchResult result
+        (λ matches. (takes_words (form_of name) (texts words.now) ≡ true) × (found matches ≡ found_in (form_of name) (texts words.now)))
+        (λ stop. stop ≡ WordsStop.Refused → takes_words (form_of name) (texts words.now) ≡ false) }
 {
     let command = simple_command(alloc, name)?;
     match command.try_get_matches_from(words) {

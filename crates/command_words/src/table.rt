@@ -5,6 +5,7 @@ ghost use Rattle.clap.specs.Simple.{app_of};
 ghost use Rattle.command_words.specs.Commands.{option, config_word, config_words, files_rules, with_rules, command_of, app_of_row, row_of_word};
 ghost use Rattle.command_words.specs.Forms.{form_of, files_of, now_texts};
 
+use crate::table::ConfigWords::{Nothing, One, Several};
 use clap::{Arg, Command};
 use std::alloc::{AllocError, Global};
 
@@ -83,56 +84,25 @@ pub(crate) fn simple_command<'a>(
 ) -> Result<Command<'a>, AllocError>
     ensures { IfOk result (λ command. app_of command ≡ app_of_row (form_of name)) }
 {
+    let word = name.word();
     match name {
-        CommandName::Design | CommandName::Conflict | CommandName::Total => command(
-            alloc,
-            name.word(),
-            ["request"].as_slice(),
-            ["nodes", "bits"].as_slice(),
-            ConfigWords::Several,
-        ),
-        CommandName::Check => command(
-            alloc,
-            name.word(),
-            ["request", "answer"].as_slice(),
-            [].as_slice(),
-            ConfigWords::Several,
-        ),
-        CommandName::Audit | CommandName::Lsas => command(
-            alloc,
-            name.word(),
-            ["request"].as_slice(),
-            [].as_slice(),
-            ConfigWords::Several,
-        ),
-        CommandName::Rewrite => command(
-            alloc,
-            name.word(),
-            ["answer"].as_slice(),
-            [].as_slice(),
-            ConfigWords::One,
-        ),
-        CommandName::Trial => command(
-            alloc,
-            name.word(),
-            ["blocks"].as_slice(),
-            ["start"].as_slice(),
-            ConfigWords::Nothing,
-        ),
-        CommandName::Spread => command(
-            alloc,
-            name.word(),
-            ["request", "sets"].as_slice(),
-            ["nodes", "bits"].as_slice(),
-            ConfigWords::Several,
-        ),
-        CommandName::Route => command(
-            alloc,
-            name.word(),
-            ["lsas", "from", "to"].as_slice(),
-            [].as_slice(),
-            ConfigWords::Nothing,
-        ),
+        CommandName::Design | CommandName::Conflict | CommandName::Total => {
+            command(alloc, word, &["request"], &["nodes", "bits"], Several)
+        }
+        CommandName::Check => command(alloc, word, &["request", "answer"], &[], Several),
+        CommandName::Audit | CommandName::Lsas => command(alloc, word, &["request"], &[], Several),
+        CommandName::Rewrite => command(alloc, word, &["answer"], &[], One),
+        CommandName::Trial => command(alloc, word, &["blocks"], &["start"], Nothing),
+        CommandName::Spread => {
+            command(
+                alloc,
+                word,
+                &["request", "sets"],
+                &["nodes", "bits"],
+                Several,
+            )
+        }
+        CommandName::Route => command(alloc, word, &["lsas", "from", "to"], &[], Nothing),
     }
 }
 
@@ -176,9 +146,9 @@ fn with_configs<'a>(
     ensures { IfOk result (λ more. app_of more ≡ with_rules (app_of command.entry) (files_rules (files_of configs))) }
 {
     match configs {
-        ConfigWords::Nothing => Ok(command),
-        ConfigWords::One => command.arg(config_word(alloc)),
-        ConfigWords::Several => command.arg(config_words(alloc)),
+        Nothing => Ok(command),
+        One => command.arg(config_word(alloc)),
+        Several => command.arg(config_words(alloc)),
     }
 }
 

@@ -8,7 +8,8 @@ use Rattle.std.proofs.lemmas.List.Kept.{AllPairs-cons}
 use Rattle.cost_base.specs.Lists.{same_bytes}
 use Rattle.interface_model.specs.declared.Interface.{Interface}
 use Rattle.interface_model.specs.Records.{Router, IsInterface, IsRouter}
-use Rattle.lsdb_build.specs.Neighbours.{Port, port_of, ports_of, ports_from, is_in}
+use Rattle.interface_model.specs.Addresses.{takes_part}
+use Rattle.lsdb_build.specs.Neighbours.{Port, port_of, ports_of, ports_from}
 use Rattle.lsdb_build.specs.Topology.{TopologyFault, first_some, at_port, at_config, past, second_of_name}
 use Rattle.lsdb_build.proofs.Pairs.{pairs_nil, pairs_head, pairs_tail, pairs_append}
 
@@ -26,7 +27,7 @@ pub record InOrder (a b : Port) : Type 0 where
 -- what holds of the port of an interface
 port_all : (P : Port → Type 0) (area n : ℕ) (i : Interface) (address : Option ℕ) → ((a : ℕ) → P (record { router = n; interface = i; address = a })) → All P (port_of area n i address)
 port_all P area n i None each = All-nil P
-port_all P area n i (Some a) each = by_test (is_in i.area area && not i.passive && not i.down && nat_le i.length 31)
+port_all P area n i (Some a) each = by_test (takes_part i area && nat_le i.length 31)
   where
     by_test : (b : Bool) → All P (cond b (record { router = n; interface = i; address = a } ∷ []) [])
     by_test true = All-cons P (record { router = n; interface = i; address = a }) [] (each a) (All-nil P)
@@ -35,7 +36,7 @@ port_all P area n i (Some a) each = by_test (is_in i.area area && not i.passive 
 -- an interface has at most one port
 port_pairs : (R : Port → Port → Type 0) (area n : ℕ) (i : Interface) (address : Option ℕ) → AllPairs R (port_of area n i address)
 port_pairs R area n i None = pairs_nil R
-port_pairs R area n i (Some a) = by_test (is_in i.area area && not i.passive && not i.down && nat_le i.length 31)
+port_pairs R area n i (Some a) = by_test (takes_part i area && nat_le i.length 31)
   where
     by_test : (b : Bool) → AllPairs R (cond b (record { router = n; interface = i; address = a } ∷ []) [])
     by_test true = AllPairs-cons R (record { router = n; interface = i; address = a }) [] (All-nil (R (record { router = n; interface = i; address = a }))) (pairs_nil R)

@@ -19,14 +19,7 @@ fn room_of(alloc: Global, graph: &Graph) -> Result<Room, Fail>
 }
 
 /// Finds the distances to a vertex without the edges of `gone`.
-fn find(
-    rt: &impl Abort,
-    room: &mut Room,
-    graph: &Graph,
-    point: &Point,
-    target: u32,
-    gone: &[u32],
-)
+fn find(rt: &impl Abort, room: &mut Room, graph: &Graph, point: &Point, target: u32, gone: &[u32])
     requires room { IsRoomFor graph.now room.old }
     requires fits { FitsPoint graph.now point.now }
     ensures { IsRoomFor graph.now room.new }

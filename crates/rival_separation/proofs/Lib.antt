@@ -1,2 +1,2 @@
-pub mod Best
-pub mod Walking
+pub mod OfferLemmas
+pub mod RivalLemmas

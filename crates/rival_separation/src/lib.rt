@@ -3,7 +3,5 @@
 
 mod deviation;
 mod rival;
-#[cfg(test)]
-mod tests;
 
 pub use rival::{Rival, cheapest_rival, find_rival};

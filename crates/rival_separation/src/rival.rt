@@ -1,6 +1,7 @@
 //! The cheapest rival of a requested path.
 
-ghost use Rattle.std.specs.Prelude.{◌≡◌, ◌↔◌, ◌++◌, ◌∷◌, [], ◌+◌, ◌<◌, ◌≤◌, ℕ, All, List, IsTrue, MatchBool, MatchOption, Some, false, length, slice_index_or, take, true};
+ghost use Rattle.std.specs.Prelude.{◌≡◌, ◌↔◌, ◌++◌, ◌∷◌, [], ◌+◌, ◌<◌, ◌≤◌, ℕ, All, List, IsTrue, MatchBool, MatchOption, Some};
+ghost use Rattle.std.specs.Prelude.{false, length, slice_index_or, take, true};
 ghost use Rattle.area_graph.specs.Area.{edge_at, edges_out};
 ghost use Rattle.area_graph.specs.Costs.{FitsPoint, LeadsBy, cost};
 ghost use Rattle.area_graph.specs.Paths.{IsPathOf};

@@ -8,7 +8,7 @@ use Rattle.area_graph.specs.Area.{Area, FitsGraph, HasMetrics}
 use Rattle.area_graph.specs.Paths.{Ends, IsPathOf}
 use Rattle.area_graph.specs.Costs.{cost, FitsPoint}
 use Rattle.area_graph.specs.Distances.{far, AreReached, SettledBelow}
-use Rattle.area_graph.proofs.Walks.{simple_from_walk, potential-le}
+use Rattle.area_graph.proofs.Walks.{simple_in_walk, simple_costs-le, potential-le}
 use Rattle.area_graph.proofs.Bounds.{cost_below as bounded_cost}
 use Rattle.spf_ties.specs.Distances.{IsLeast, IsLeastCost, cost_below}
 
@@ -31,10 +31,11 @@ least_costs g p gone t v d graph metrics fits target count start reached settled
     known : get_or d v 0 < far p → IsLeast g p ends (get_or d v 0)
     known near =
         let walk = reached.reached v (omega (arith, start, count)) near in
-        let simple = simple_from_walk g p gone v walk.edges t walk.joins walk.kept in
+        let simple = simple_in_walk g p gone v walk.edges t graph fits walk.joins walk.kept in
+        let most = simple_costs-le g p gone v t walk.edges simple in
         let path : IsPathOf g ends simple.edges = record { simple = record { start = start; end = target; joins = simple.joins; none_twice = simple.none_twice }; kept = simple.kept } in
         let least = at_most g p gone t v d reached settled simple.edges path in
-        record { path = simple.edges; is_path = path; costs = omega (arith, least, simple.within, walk.within); none_less = λ other is. at_most g p gone t v d reached settled other is }
+        record { path = simple.edges; is_path = path; costs = omega (arith, least, most, walk.within); none_less = λ other is. at_most g p gone t v d reached settled other is }
 
     unknown : far p ≤ get_or d v 0 → (es : List ℕ) → IsPathOf g ends es → ⊥
     unknown more es path =

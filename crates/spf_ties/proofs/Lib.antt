@@ -1,4 +1,4 @@
 pub mod LeastCosts
-pub mod Nearest
-pub mod Searching
+pub mod WaitingLemmas
+pub mod SearchLemmas
 pub mod TightPaths

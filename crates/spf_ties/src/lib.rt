@@ -3,12 +3,8 @@
 
 mod heap;
 mod next_hops;
-#[cfg(test)]
-mod path_tests;
 mod room;
 mod search;
-#[cfg(test)]
-mod tests;
 
 pub use next_hops::NextHops;
 pub use room::Room;

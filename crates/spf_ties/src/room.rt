@@ -46,26 +46,15 @@ impl Room {
     ///
     /// `OutOfMemory` where the room got no memory.
     pub fn new(alloc: Global, graph: &Graph) -> Result<Room, OutOfMemory>
-        ensures { IfOk result (λ room. room ≡ record { costs = replicate (length graph.now.vertices) None; marks = replicate (length graph.now.edges) false; path = [] }) }
+        ensures { IfOk result (λ room. room ≡
+            record { costs = replicate (length graph.now.vertices) None; marks = replicate (length graph.now.edges) false; path = [] }) }
     {
         graph.keeps_conditions();
         let waiting = Heap::with_places(alloc, graph.edges().len() + 1)?;
-        let numbers = match vec![in alloc; 0; graph.vertices().len()] {
-            Ok(numbers) => numbers,
-            Err(_) => return Err(OutOfMemory),
-        };
-        let settled = match vec![in alloc; false; graph.vertices().len()] {
-            Ok(settled) => settled,
-            Err(_) => return Err(OutOfMemory),
-        };
-        let marks = match vec![in alloc; false; graph.edges().len()] {
-            Ok(marks) => marks,
-            Err(_) => return Err(OutOfMemory),
-        };
-        let path = match Vec::with_capacity(alloc, graph.vertices().len()) {
-            Ok(path) => path,
-            Err(_) => return Err(OutOfMemory),
-        };
+        let numbers = vec![in alloc; 0; graph.vertices().len()]?;
+        let settled = vec![in alloc; false; graph.vertices().len()]?;
+        let marks = vec![in alloc; false; graph.edges().len()]?;
+        let path = Vec::with_capacity(alloc, graph.vertices().len())?;
         Ok(Room {
             far: 0,
             front: Front {

@@ -61,7 +61,8 @@ fn settle(graph: &Graph, point: &Point, removal: &Removal, vertex: u32, front: &
     ensures fewer { length front.new.waiting.entries + open_edges graph.now front.new.settled.items ≤
         length front.old.waiting.entries + open_edges graph.now front.old.settled.items }
     ensures underway { (t least : ℕ) →
-        Underway graph.now point.now removal.now t least (edges_in graph.now vertex) front.old.numbers.items (slice_set front.old.settled.items vertex true) front.old.waiting.entries →
+        Underway graph.now point.now removal.now t least (edges_in graph.now vertex) front.old.numbers.items
+        (slice_set front.old.settled.items vertex true) front.old.waiting.entries →
         Underway graph.now point.now removal.now t least [] front.new.numbers.items front.new.settled.items front.new.waiting.entries }
 {
     front.settled[vertex as usize] = true;

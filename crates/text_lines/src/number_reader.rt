@@ -8,14 +8,14 @@ ghost use Rattle.text_lines.specs.Reads.{prefix_pair};
 
 use memchr::memchr;
 
-/// A number of 1 to 10 decimal digits, at most `greatest`; None exactly off that. Leading zeros count as digits.
+/// A number of 1 to 10 decimal digits, at most `greatest`; None for any other text. Leading zeros count as digits.
 pub fn number(text: &[u8], greatest: u64) -> Option<u64>
     ensures { result ≡ definition.number text.now greatest }
 {
     number_within(text, 10, greatest)
 }
 
-/// A number as texts are printed: decimal digits without leading zeros, at most `greatest`; None exactly off that.
+/// A number as texts are printed: decimal digits without leading zeros, at most `greatest`; None for any other text.
 pub fn printed_number(text: &[u8], greatest: u128) -> Option<u128>
     ensures { MatchOption result ((n : ℕ) → n ≤ greatest → text.now ≢ decimal n) (λ n. (text.now ≡ decimal n) × (n ≤ greatest)) }
 {
@@ -55,7 +55,8 @@ fn number_within(text: &[u8], most: usize, greatest: u64) -> Option<u64>
 
 /// The value of decimal digits; None where some byte is no digit, or the value is 2^128 or more.
 fn digits_value(text: &[u8]) -> Option<u128>
-    ensures { MatchOption result (list_all is_digit text.now ≡ true → 2 ^ 128 ≤ decimal_value text.now) (λ value. (list_all is_digit text.now ≡ true) × (value ≡ decimal_value text.now)) }
+    ensures { MatchOption result (list_all is_digit text.now ≡ true → 2 ^ 128 ≤ decimal_value text.now)
+        (λ value. (list_all is_digit text.now ≡ true) × (value ≡ decimal_value text.now)) }
 {
     let mut value: u128 = 0;
     for byte in text {
@@ -80,14 +81,15 @@ fn octet(text: &[u8]) -> Option<u8>
 
 /// A text before and behind the first of some byte; None where that byte doesn't stand in it.
 pub fn cut(text: &[u8], byte: u8) -> Option<(&[u8], &[u8])>
-    ensures pieces { MatchOption result (definition.split byte text.now ≡ text.now ∷ []) (λ p. definition.split byte text.now ≡ p.0.now ∷ definition.split byte p.1.now) }
+    ensures pieces { MatchOption result (definition.split byte text.now ≡ text.now ∷ [])
+        (λ p. definition.split byte text.now ≡ p.0.now ∷ definition.split byte p.1.now) }
     ensures parts { IfSome result (λ p. text.now ≡ p.0.now ++ byte ∷ p.1.now) }
 {
     let end = memchr(byte, text)?;
     Some((&text[..end], &text[end + 1..]))
 }
 
-/// An IPv4 address: four groups of 1 to 3 digits, each at most 255, joined by dots; None exactly off that.
+/// An IPv4 address: four groups of 1 to 3 digits, each at most 255, joined by dots; None for any other text.
 pub fn quad(text: &[u8]) -> Option<u32>
     ensures { result ≡ definition.quad text.now }
 {
@@ -101,7 +103,7 @@ pub fn quad(text: &[u8]) -> Option<u32>
     Some(u32::from_be_bytes(bytes))
 }
 
-/// An IPv4 address with its prefix length: a quad, `/` and 1 or 2 digits of value at most 32; None exactly off that.
+/// An IPv4 address with its prefix length: a quad, `/` and 1 or 2 digits of value at most 32; None for any other text.
 pub fn prefix(text: &[u8]) -> Option<(u32, u8)>
     ensures { result ≡ prefix_pair (definition.prefix text.now) }
 {
@@ -114,7 +116,7 @@ pub fn prefix(text: &[u8]) -> Option<(u32, u8)>
     Some((address, length as u8))
 }
 
-/// An OSPF area (RFC 2328, section 2): a quad, or a number at most 4294967295; None exactly off both.
+/// An OSPF area (RFC 2328, section 2): a quad, or a number at most 4294967295; None for any other text.
 pub fn area(text: &[u8]) -> Option<u32>
     ensures { result ≡ definition.area text.now }
 {

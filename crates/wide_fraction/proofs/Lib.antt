@@ -1,3 +1,3 @@
-pub mod Kept
-pub mod Exact
+pub mod WidthLemmas
+pub mod StepLemmas
 pub mod Quotients

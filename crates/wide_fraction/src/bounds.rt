@@ -72,7 +72,8 @@ pub struct Limits {
 impl Limits {
     /// The two limits together. None exactly where `nodes` isn't from 1 to 10,000,000.
     pub fn new(nodes: u64, top: Top) -> Option<Limits>
-        ensures { MatchOption result ((nodes < 1) ⊎ (10000000 < nodes)) (λ limits. (1 ≤ nodes) × (nodes ≤ 10000000) × (limits.nodes ≡ nodes) × (limits.top ≡ top)) }
+        ensures { MatchOption result ((nodes < 1) ⊎ (10000000 < nodes))
+            (λ limits. (1 ≤ nodes) × (nodes ≤ 10000000) × (limits.nodes ≡ nodes) × (limits.top ≡ top)) }
     {
         if nodes < 1 || 10_000_000 < nodes {
             None

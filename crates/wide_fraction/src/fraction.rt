@@ -32,7 +32,8 @@ impl Frac {
     pub fn new(numerator: i128, denominator: i128, top: Top) -> Option<Frac>
         requires positive { pos 0 <ℤ denominator }
         requires not_least { nat_abs numerator < 2 ^ 127 }
-        ensures { MatchOption result (IsTooWide top (reduced numerator (nat_abs denominator))) (λ q. (q ≡ reduced numerator (nat_abs denominator)) × IsWithin top q) }
+        ensures { MatchOption result (IsTooWide top (reduced numerator (nat_abs denominator)))
+            (λ q. (q ≡ reduced numerator (nat_abs denominator)) × IsWithin top q) }
     {
         let fraction = Frac::reduced(numerator, denominator as u128);
         if top.size() < fraction.numerator.unsigned_abs() {

@@ -203,7 +203,8 @@ pub(crate) fn bounded_cross_sum(
     requires left_fits { left_factor < 2 ^ 127 }
     requires right_fits { right_factor < 2 ^ 127 }
     requires most { most < 2 ^ 127 }
-    ensures { MatchOption result (IsCrossWide most (left *ℤ pos left_factor) (right *ℤ pos right_factor)) (λ s. (s ≡ ((left *ℤ pos left_factor) +ℤ (right *ℤ pos right_factor))) × IsCrossWithin most (left *ℤ pos left_factor) (right *ℤ pos right_factor)) }
+    ensures { MatchOption result (IsCrossWide most (left *ℤ pos left_factor) (right *ℤ pos right_factor))
+        (λ s. (s ≡ ((left *ℤ pos left_factor) +ℤ (right *ℤ pos right_factor))) × IsCrossWithin most (left *ℤ pos left_factor) (right *ℤ pos right_factor)) }
 {
     match bounded_signed_product(left, left_factor as i128, most) {
         Some(first) => match bounded_signed_product(right, right_factor as i128, most) {

@@ -8,7 +8,7 @@ use Rattle.path_rows.specs.Problems.{ends_of}
 use Rattle.path_rows.proofs.PathBounds.{path-known}
 use Rattle.rival_separation.specs.declared.deviation.Deviation.{Deviation}
 use Rattle.rival_separation.specs.Offers.{IsBest}
-use Rattle.rival_separation.proofs.Best.{SeenBut, best_begins, best_ends, best_with, best_without}
+use Rattle.rival_separation.proofs.OfferLemmas.{SeenBut, best_begins, best_ends, best_with, best_without}
 use Rattle.rival_separation.proofs.deviation.better_at.Goals.{in-Some, in-None}
 use Rattle.rival_separation.proofs.deviation.better_at.Goals as goal
 

@@ -1,7 +1,7 @@
 use Rattle.std.proofs.Common.{drop, get_or}
 use Rattle.area_graph.specs.Area.{edge_at, edges_out}
 use Rattle.rival_separation.specs.Offers.{IsBest}
-use Rattle.rival_separation.proofs.Best.{SeenBut}
+use Rattle.rival_separation.proofs.OfferLemmas.{SeenBut}
 use Rattle.rival_separation.proofs.deviation.better_at.Given as goal
 
 abbrev pub invariant-loop-number : goal.invariant-loop-number

@@ -6,7 +6,7 @@ use Rattle.area_graph.specs.Costs.{cost, price_at}
 use Rattle.area_graph.proofs.Bounds.{cost_below}
 use Rattle.path_rows.specs.Problems.{ends_of}
 use Rattle.path_rows.proofs.PathBounds.{path-known}
-use Rattle.rival_separation.proofs.Best.{best_of_fewer}
+use Rattle.rival_separation.proofs.OfferLemmas.{best_of_fewer}
 use Rattle.rival_separation.proofs.deviation.least_deviation.Goals as goal
 
 pub better_at-best-requires-clause-near : goal.better_at-best-requires-clause-near

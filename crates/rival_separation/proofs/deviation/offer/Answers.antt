@@ -4,7 +4,7 @@ use Rattle.area_graph.specs.Area.{edge_at, no_edge}
 use Rattle.area_graph.specs.Costs.{price_at}
 use Rattle.area_graph.proofs.Bounds.{price-le}
 use Rattle.spf_ties.specs.Distances.{distance_at}
-use Rattle.rival_separation.proofs.Walking.{least_below}
+use Rattle.rival_separation.proofs.RivalLemmas.{least_below}
 use Rattle.rival_separation.proofs.deviation.offer.Goals as goal
 
 pub overflow_add-result : goal.overflow_add-result

@@ -1,7 +1,7 @@
 use Rattle.std.proofs.Common.{rules, arith}
 use Rattle.path_rows.specs.Problems.{ends_of}
 use Rattle.rival_separation.specs.Rivals.{IsFound}
-use Rattle.rival_separation.proofs.Walking.{leads_by}
+use Rattle.rival_separation.proofs.RivalLemmas.{leads_by}
 use Rattle.rival_separation.proofs.rival.find_rival.Goals as goal
 
 pub returns-in-None-clause-rival : goal.returns-in-None-clause-rival

@@ -4,7 +4,7 @@ use Rattle.spf_ties.specs.Distances.{Findings}
 use Rattle.area_graph.specs.Area.{edge_at}
 use Rattle.area_graph.specs.declared.Edge.{Edge}
 use Rattle.rival_separation.specs.Rivals.{Completes, IsFound}
-use Rattle.rival_separation.proofs.Walking.{completed, completes_kept, completes_more, found_kept, short_walk, some_next}
+use Rattle.rival_separation.proofs.RivalLemmas.{completed, completes_kept, completes_more, found_kept, short_walk, some_next}
 use Rattle.rival_separation.proofs.rival.follow.Goals as goal
 
 pub add_to_path-requires : goal.add_to_path-requires

@@ -5,7 +5,7 @@ use Rattle.path_rows.specs.Problems.{ends_of}
 use Rattle.path_rows.proofs.PathBounds.{simple-short}
 use Rattle.spf_ties.specs.Distances.{Findings}
 use Rattle.rival_separation.specs.Rivals.{Completes, IsFound}
-use Rattle.rival_separation.proofs.Walking.{completes, completes_kept, found_kept, take_short}
+use Rattle.rival_separation.proofs.RivalLemmas.{completes, completes_kept, found_kept, take_short}
 use Rattle.rival_separation.proofs.rival.lay_out.Goals as goal
 
 pub put_front-requires : goal.put_front-requires

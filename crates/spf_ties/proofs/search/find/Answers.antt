@@ -4,7 +4,7 @@ use Rattle.std.proofs.lemmas.List.Sorted.{All-permutation, length_permutation}
 use Rattle.area_graph.specs.Distances.{far}
 use Rattle.spf_ties.specs.declared.heap.Entry.{Entry}
 use Rattle.spf_ties.specs.Searches.{IsFront, MayWait, Underway}
-use Rattle.spf_ties.proofs.Searching.{begun, entry_of, front_begun, open-le}
+use Rattle.spf_ties.proofs.SearchLemmas.{begun, entry_of, front_begun, open-le}
 use Rattle.spf_ties.proofs.search.find.Goals as goal
 
 pub loop-entry-init : goal.loop-entry-init

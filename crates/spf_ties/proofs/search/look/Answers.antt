@@ -7,7 +7,7 @@ use Rattle.area_graph.specs.Area.{edge_at}
 use Rattle.area_graph.specs.Costs.{price_at}
 use Rattle.area_graph.specs.Distances.{through}
 use Rattle.spf_ties.specs.Searches.{Underway}
-use Rattle.spf_ties.proofs.Searching.{entry_of, kept, lowered}
+use Rattle.spf_ties.proofs.SearchLemmas.{entry_of, kept, lowered}
 use Rattle.spf_ties.proofs.search.look.Goals as goal
 
 pub returns-then-not-leaves-clause-underway : goal.returns-then-not-leaves-clause-underway

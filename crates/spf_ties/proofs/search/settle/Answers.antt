@@ -3,7 +3,7 @@ use Rattle.std.proofs.Math.Seq.{drop-cons}
 use Rattle.std.proofs.Math.ListN.{drop_of_length-le}
 use Rattle.area_graph.specs.Area.{edges_in}
 use Rattle.spf_ties.specs.Searches.{Underway, open_edges}
-use Rattle.spf_ties.proofs.Searching.{in_known, open_settled}
+use Rattle.spf_ties.proofs.SearchLemmas.{in_known, open_settled}
 use Rattle.spf_ties.proofs.search.settle.Goals as goal
 
 pub look-requires-clause-known : goal.look-requires-clause-known

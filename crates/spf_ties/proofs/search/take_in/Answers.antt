@@ -1,7 +1,7 @@
 use Rattle.std.proofs.Common.{rules, ◌≡◌, ◌<◌, ◌∙◌, sym, arith, length, false, true}
 use Rattle.std.proofs.lemmas.List.{get_or_default}
 use Rattle.spf_ties.specs.Searches.{is_settled}
-use Rattle.spf_ties.proofs.Searching.{passed_over, settled_next}
+use Rattle.spf_ties.proofs.SearchLemmas.{passed_over, settled_next}
 use Rattle.spf_ties.proofs.search.take_in.Goals as goal
 
 pub returns-then-not-index-clause-underway : goal.returns-then-not-index-clause-underway

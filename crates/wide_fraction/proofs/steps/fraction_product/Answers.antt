@@ -5,7 +5,7 @@ use mir.Syntax.{w128}
 use mir.Val.{to_z, of_z}
 use Rattle.whole_numbers.specs.Fractions.{Fraction, gcd, times, listed_of_product}
 use Rattle.wide_fraction.specs.Widths.{IsAnswer}
-use Rattle.wide_fraction.proofs.Exact.{Crosses, Multiplies, moved, product_numerator_passes, product_denominator_passes, product_answer, product_kept}
+use Rattle.wide_fraction.proofs.StepLemmas.{Crosses, Multiplies, moved, product_numerator_passes, product_denominator_passes, product_answer, product_kept}
 use Rattle.wide_fraction.proofs.steps.fraction_product.Goals as goal
 
 pub returns-in-None : goal.returns-in-None

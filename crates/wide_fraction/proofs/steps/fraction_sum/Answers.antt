@@ -5,7 +5,7 @@ use mir.Syntax.{w128}
 use mir.Val.{to_z, of_z}
 use Rattle.whole_numbers.specs.Fractions.{Fraction, gcd, over, plus, listed_of_sum}
 use Rattle.wide_fraction.specs.Widths.{IsAnswer}
-use Rattle.wide_fraction.proofs.Exact.{Shares, Adds, moved, sum_crossed, sum_denominator_passes, sum_answer, sum_kept}
+use Rattle.wide_fraction.proofs.StepLemmas.{Shares, Adds, moved, sum_crossed, sum_denominator_passes, sum_answer, sum_kept}
 use Rattle.wide_fraction.proofs.steps.fraction_sum.Goals as goal
 
 pub returns-in-None : goal.returns-in-None

@@ -4,7 +4,7 @@ use Rattle.std.proofs.lemmas.Int.{to_z-of_z}
 use mir.Syntax.{w128}
 use Rattle.whole_numbers.specs.Fractions.{Fraction, whole, times, listed_of_product}
 use Rattle.wide_fraction.specs.Widths.{IsWithin, IsAnswer}
-use Rattle.wide_fraction.proofs.Exact.{whole_product_passes, whole_product_answer}
+use Rattle.wide_fraction.proofs.StepLemmas.{whole_product_passes, whole_product_answer}
 use Rattle.wide_fraction.proofs.steps.whole_product.Goals as goal
 
 pub returns-in-None : goal.returns-in-None

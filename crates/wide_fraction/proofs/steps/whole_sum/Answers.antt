@@ -4,7 +4,7 @@ use Rattle.std.proofs.lemmas.Int.{to_z-of_z}
 use mir.Syntax.{w128}
 use Rattle.whole_numbers.specs.Fractions.{Fraction, whole, plus, listed_of_sum}
 use Rattle.wide_fraction.specs.Widths.{IsWithin, IsAnswer}
-use Rattle.wide_fraction.proofs.Exact.{whole_sum_passes, whole_sum_answer}
+use Rattle.wide_fraction.proofs.StepLemmas.{whole_sum_passes, whole_sum_answer}
 use Rattle.wide_fraction.proofs.steps.whole_sum.Goals as goal
 
 pub returns-in-None : goal.returns-in-None

@@ -2,7 +2,7 @@ use Rattle.std.proofs.Common.{◌≡◌, ◌∷◌, [], ◌≤◌, List, All, ma
 use Rattle.std.specs.declared.collections.BinaryHeap.{BinaryHeap}
 use Rattle.std.proofs.lemmas.List.Sorted.{IsPermutation-map}
 use Rattle.spf_ties.specs.declared.heap.Entry.{Entry}
-use Rattle.spf_ties.proofs.Nearest.{nearest}
+use Rattle.spf_ties.proofs.WaitingLemmas.{nearest}
 use Rattle.spf_ties.proofs.heap.Heap.pop.Goals.{in-Some, in-None}
 use Rattle.spf_ties.proofs.heap.Heap.pop.Goals as goal
 

@@ -1,5 +1,5 @@
 use Rattle.std.proofs.Common.{arith, refl}
-use Rattle.wide_fraction.proofs.Kept.{shifted, shifted_below, top_view}
+use Rattle.wide_fraction.proofs.WidthLemmas.{shifted, shifted_below, top_view}
 use Rattle.wide_fraction.proofs.bounds.Top.new.Goals as goal
 
 pub overflow_cast-result-else-bits-gt127 : goal.overflow_cast-result-else-bits-gt127

@@ -4,7 +4,7 @@ use Rattle.std.proofs.lemmas.Int.{to_z-of_z}
 use Rattle.whole_numbers.specs.Fractions.{Fraction}
 use mir.Syntax.{w128}
 use Rattle.wide_fraction.specs.Laws.{signed_by}
-use Rattle.wide_fraction.proofs.Kept.{upside_down_kept}
+use Rattle.wide_fraction.proofs.WidthLemmas.{upside_down_kept}
 use Rattle.wide_fraction.proofs.fraction.Frac.inverted.Goals as goal
 
 pub invariant_of-result : goal.invariant_of-result

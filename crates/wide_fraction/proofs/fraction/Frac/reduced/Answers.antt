@@ -3,7 +3,7 @@ use Rattle.std.specs.Prelude.{ℤ, nat_abs}
 use Rattle.std.proofs.lemmas.Int.{to_z-of_z}
 use mir.Syntax.{w128}
 use Rattle.whole_numbers.specs.Fractions.{gcd, over}
-use Rattle.wide_fraction.proofs.Kept.{reduced_seen}
+use Rattle.wide_fraction.proofs.WidthLemmas.{reduced_seen}
 use Rattle.wide_fraction.proofs.fraction.Frac.reduced.Goals as goal
 
 pub invariant_of-result : goal.invariant_of-result

@@ -1,5 +1,5 @@
-//! Words on the table and off it.
-use crate::{WordsStop, read_words};
+//! Words on the table of commands, and off it.
+use command_words::{WordsStop, read_words};
 use std::alloc::Global;
 use std::process::Abort;
 use std::test::Fail;
@@ -30,16 +30,6 @@ fn expect_refused(rt: &impl Abort, words: &[String], alloc: Global) {
 }
 
 #[test]
-fn pair(rt: HostRuntime) -> Result<(), Fail> {
-    expect(
-        &rt,
-        rt.alloc(),
-        "design --request request.txt A.conf B.conf",
-        "Design { request: \"request.txt\", limits: Limits { nodes: 100000, top: Top { value: 170141183460469231731687303715884105727 } }, configs: [\"A.conf\", \"B.conf\"] }",
-    )
-}
-
-#[test]
 fn words_refused(rt: HostRuntime) -> Result<(), Fail> {
     let alloc = rt.alloc();
     let design = words_of(alloc, "design A.conf")?;
@@ -51,7 +41,12 @@ fn words_refused(rt: HostRuntime) -> Result<(), Fail> {
 }
 
 /// Words of each command, with options in any order, between the CONFIG words and behind `=`, and their jobs.
-static JOBS: [(&str, &str); 11] = [
+static JOBS: [(&str, &str); 12] = [
+    (
+        "design --request request.txt A.conf B.conf",
+        "Design { request: \"request.txt\", limits: Limits { nodes: 100000, top: Top { value: \
+         170141183460469231731687303715884105727 } }, configs: [\"A.conf\", \"B.conf\"] }",
+    ),
     (
         "design A --bits=28 --request F B --nodes 1",
         "Design { request: \"F\", limits: Limits { nodes: 1, top: Top { value: 268435455 } }, configs: [\"A\", \"B\"] }",

@@ -1,4 +1,5 @@
-use crate::{
+//! Names, lists and statuses, and the shelves and sinks.
+use cost_base::{
     FileShelf, Listed, MemoryShelf, MemorySink, Name, OutOfMemory, OutSink, Shelf, ShelfStop, Sink,
     Status, SureShelf, SureSink,
 };
@@ -28,10 +29,15 @@ fn three_files(alloc: Global) -> Result<Vec<(Name, Name)>, OutOfMemory> {
 fn names_and_lists_keep_what_they_are_made_of(rt: HostRuntime) -> Result<(), Fail> {
     let alloc = rt.alloc();
     assert_eq!(rt; name(alloc, "R1")?.as_bytes(), b"R1".as_slice());
-    let mut numbers = Listed::from_items([7u32, 9].to_vec(alloc)?);
+    let mut numbers = Listed::from_slice(alloc, &[7u32, 9])?;
     assert_eq!(rt; numbers.as_slice(), [7u32, 9].as_slice());
     numbers.set(1, 8);
     assert_eq!(rt; numbers.as_slice(), [7u32, 8].as_slice());
+    let copy = numbers.copy(alloc)?;
+    numbers.push(9)?;
+    assert_eq!(rt; numbers.as_slice(), [7u32, 8, 9].as_slice());
+    assert_eq!(rt; copy.as_slice(), [7u32, 8].as_slice());
+    assert!(rt; Listed::<u32>::new(alloc).as_slice().is_empty());
     Ok(())
 }
 

@@ -7,11 +7,11 @@ use Rattle.std.proofs.lemmas.List.Sorted.{All-permutation, Contains-permutation}
 use Rattle.std.proofs.lemmas.List.Sums.{sum_by-cons, count_by-le-length, length-filter}
 use native.Mathlib.Decide.{ℕ_discrete}
 use Rattle.cost_base.specs.Lists.{Lacks, numbers_from}
+use Rattle.cost_base.proofs.ListLemmas.{length-numbers_from, all_kept, kept_all, all_lacks}
 use Rattle.area_graph.specs.declared.Point.{Point}
 use Rattle.area_graph.specs.Area.{Area, edge_at, edges_in, no_edge, FitsGraph, FitsEdge}
 use Rattle.area_graph.specs.Costs.{price_at, FitsPoint}
 use Rattle.area_graph.specs.Distances.{far, WalkWithin, AreReached, through}
-use Rattle.area_graph.proofs.Numbers.{all_kept, kept_all}
 use Rattle.area_graph.proofs.Passes.{reached_by_walk}
 use Rattle.spf_ties.specs.declared.heap.Entry.{Entry}
 use Rattle.spf_ties.specs.Searches.{IsFront, is_settled, open_edges, MayWait, LeadsToLast, Underway}
@@ -37,11 +37,6 @@ contains_behind x y xs has = (suc has.0, (let within = has.1 in omega arith), ha
 
 contains_first : (x : Entry) (xs : List Entry) → Contains (x ∷ xs) x
 contains_first x xs = (zero, omega arith, refl)
-
--- a number that a list lacks is none of its elements
-pub all_lacks : (xs : List ℕ) (x : ℕ) → Lacks xs x → All (λ y. x ≢ y) xs
-all_lacks [] x lacks = All-nil (λ (y : ℕ). x ≢ y)
-all_lacks (y ∷ ys) x lacks = All-cons (λ (z : ℕ). x ≢ z) y ys lacks.0 (all_lacks ys x lacks.1)
 
 -- an edge into a vertex is among those into it
 not_lacked : (g : Area) (v e : ℕ) → e < length g.edges → (edge_at g e).to ≡ v → Lacks (edges_in g v) e → ⊥
@@ -337,12 +332,8 @@ open_settled g settled v within unsettled =
     let counted = length-filter (λ e. eqb (edge_at g e).to v) (numbers_from 0 (length g.edges)) in
     omega arith
 
-numbers_count : (a n : ℕ) → length (numbers_from a n) ≡ n
-numbers_count a zero = refl
-numbers_count a (suc n) = let rest = numbers_count (a + 1) n in omega arith
-
 pub open-le : (g : Area) (settled : List Bool) → open_edges g settled ≤ length g.edges
 open-le g settled =
     let most = count_by-le-length (λ e. not (is_settled settled (edge_at g e).to)) (numbers_from 0 (length g.edges)) in
-    let count = numbers_count 0 (length g.edges) in
+    let count = length-numbers_from 0 (length g.edges) in
     omega arith

@@ -1,11 +1,11 @@
-//! The worked calls, and each call at the ends of its range.
+//! Fractions: the worked steps, and each call at the ends of its range.
 ghost use Rattle.std.specs.Prelude.{◌≡◌, ◌-◌, ◌^◌, ◌<◌, ◌<ℤ◌, pos, nat_abs, IfOk};
 ghost use Rattle.wide_fraction.specs.Widths.{IsWithin};
 
-use crate::{Frac, Limits, Top, Wide, add, cmp, div, floor, lcm, mul, scale, sub};
 use cost_base::StepName;
 use std::cmp::Ordering;
 use std::test::Fail;
+use wide_fraction::{Frac, Limits, Top, Wide, add, cmp, div, floor, lcm, mul, scale, sub};
 
 /// The greatest number of 127 bits.
 const GREATEST: i128 = 170141183460469231731687303715884105727;

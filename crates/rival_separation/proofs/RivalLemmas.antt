@@ -16,7 +16,7 @@ use Rattle.spf_ties.specs.Distances.{AreTight, Findings, IsLeast, IsLeastCost, a
 use Rattle.path_rows.proofs.PathBounds.{simple-short}
 use Rattle.rival_separation.specs.Rivals.{Completes, IsCheapest, IsFound}
 use Rattle.rival_separation.specs.Offers.{Offers}
-use Rattle.rival_separation.proofs.Best.{some_same}
+use Rattle.std.proofs.lemmas.Option.{same_Some}
 
 -- the element at which two lists are joined
 get_seam : (xs : List ℕ) (y : ℕ) (ys : List ℕ) → get_or (xs ++ y ∷ ys) (length xs) 0 ≡ y
@@ -200,7 +200,7 @@ pub completes_more : (g : Area) (p : Point) (ends : Ends) (room : Findings) (wan
 completes_more g p ends room wanted walk v f graph fits found so_far known from tight left =
     let edge : FitsEdge g (edge_at g f) = graph.edges f no_edge known in
     let sums = sums_of (distance_at room (edge_at g f).from) (distance_at room (edge_at g f).to) (price_at p (edge_at g f).price) tight in
-    let here : so_far.least ≡ sums.x = some_same so_far.least sums.x (sym so_far.distance ∙ ap (distance_at room) (sym from) ∙ sums.from_is) in
+    let here : so_far.least ≡ sums.x = same_Some so_far.least sums.x (sym so_far.distance ∙ ap (distance_at room) (sym from) ∙ sums.from_is) in
     let adds = sums.adds in
     record {
       known = edge.to;

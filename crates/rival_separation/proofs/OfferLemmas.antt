@@ -1,12 +1,13 @@
 -- The best of the offers that were seen.
 use Rattle.std.proofs.Common.{◌≡◌, ◌≢◌, ℕ, ◌+◌, ◌<◌, ◌≤◌, refl, sym, ◌∙◌, ap, subst, List, [], ◌∷◌, Option, Some, None, inl, inr, ◌⊎◌, arith, MatchOption, get_or}
 use native.Mathlib.Decide.{ℕ_discrete}
+use Rattle.std.proofs.lemmas.Option.{same_Some}
 use Rattle.cost_base.specs.Lists.{Lacks}
+use Rattle.cost_base.proofs.ListLemmas.{all_lacks}
 use Rattle.area_graph.specs.declared.Point.{Point}
 use Rattle.area_graph.specs.Area.{Area, edge_at, edges_out}
 use Rattle.area_graph.proofs.Numbers.{out_all}
 use Rattle.spf_ties.specs.Distances.{Findings}
-use Rattle.spf_ties.proofs.Searching.{all_lacks}
 use Rattle.rival_separation.specs.declared.deviation.Deviation.{Deviation}
 use Rattle.rival_separation.specs.Offers.{IsBest, Offers}
 
@@ -14,13 +15,10 @@ use Rattle.rival_separation.specs.Offers.{IsBest, Offers}
 abbrev pub SeenBut : ℕ → List ℕ → ℕ → ℕ → Type 0
 SeenBut place todo earlier e = (earlier < place) ⊎ ((earlier ≡ place) × Lacks todo e)
 
-pub some_same : (x y : ℕ) → Some x ≡ Some y → x ≡ y
-some_same x y h = cc
-
 -- an edge at a place makes one offer
 same_total : (g : Area) (p : Point) (gone : List ℕ) (room : Findings) (path : List ℕ) (k e a b : ℕ) → Offers g p gone room path k e a → Offers g p gone room path k e b → a ≡ b
 same_total g p gone room path k e a b one two =
-    let rest = some_same one.rest two.rest (sym one.distance ∙ two.distance) in
+    let rest = same_Some one.rest two.rest (sym one.distance ∙ two.distance) in
     let first = one.sums in
     let second = two.sums in
     omega arith

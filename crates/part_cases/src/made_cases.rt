@@ -1,15 +1,28 @@
-//! A case of one block, compared with its texts.
-use crate::make_case;
+//! Made cases of one block and of five, compared with their texts.
+use case_maker::make_case;
 use std::process::Abort;
 use std::test::Fail;
 
 const NAMES: [&str; 4] = ["j0.conf", "u0.conf", "l0.conf", "j1.conf"];
 
-const FIRST: &str =
-    "interface e0\n ip address 10.0.0.0/31\n ip ospf area 0\n ip ospf network point-to-point\nexit\ninterface e1\n ip address 10.0.0.4/31\n ip ospf area 0\n ip ospf network point-to-point\nexit\n";
+const FIRST: &str = "interface e0
+ ip address 10.0.0.0/31
+ ip ospf area 0
+ ip ospf network point-to-point
+exit
+interface e1
+ ip address 10.0.0.4/31
+ ip ospf area 0
+ ip ospf network point-to-point
+exit
+";
 
-const REQUEST: &str =
-    "ospfcost request 1\narea 0\nfree all 1 65535\npath j0:e0 u0:e1 j1\npath j0:e0 u0:e1 j1\n";
+const REQUEST: &str = "ospfcost request 1
+area 0
+free all 1 65535
+path j0:e0 u0:e1 j1
+path j0:e0 u0:e1 j1
+";
 
 #[test]
 fn one_block(rt: HostRuntime) -> Result<(), Fail> {
@@ -26,11 +39,38 @@ fn one_block(rt: HostRuntime) -> Result<(), Fail> {
     Ok(())
 }
 
-const FIVE_REQUESTS: &str =
-    "ospfcost request 1\narea 0\nfree all 1 65535\npath j0:e0 u0:e1 j1\npath j1:e2 u1:e1 j2\npath j2:e3 l2:e1 j3\npath j3:e3 l3:e1 j4\npath j4:e3 l4:e1 j5\npath j0:e0 u0:e1 j1:e2 u1:e1 j2:e3 l2:e1 j3:e3 l3:e1 j4:e3 l4:e1 j5\n";
+const FIVE_REQUESTS: &str = "ospfcost request 1
+area 0
+free all 1 65535
+path j0:e0 u0:e1 j1
+path j1:e2 u1:e1 j2
+path j2:e3 l2:e1 j3
+path j3:e3 l3:e1 j4
+path j4:e3 l4:e1 j5
+path j0:e0 u0:e1 j1:e2 u1:e1 j2:e3 l2:e1 j3:e3 l3:e1 j4:e3 l4:e1 j5
+";
 
-const SECOND_JOINT: &str =
-    "interface e0\n ip address 10.0.0.3/31\n ip ospf area 0\n ip ospf network point-to-point\nexit\ninterface e1\n ip address 10.0.0.7/31\n ip ospf area 0\n ip ospf network point-to-point\nexit\ninterface e2\n ip address 10.0.0.8/31\n ip ospf area 0\n ip ospf network point-to-point\nexit\ninterface e3\n ip address 10.0.0.12/31\n ip ospf area 0\n ip ospf network point-to-point\nexit\n";
+const SECOND_JOINT: &str = "interface e0
+ ip address 10.0.0.3/31
+ ip ospf area 0
+ ip ospf network point-to-point
+exit
+interface e1
+ ip address 10.0.0.7/31
+ ip ospf area 0
+ ip ospf network point-to-point
+exit
+interface e2
+ ip address 10.0.0.8/31
+ ip ospf area 0
+ ip ospf network point-to-point
+exit
+interface e3
+ ip address 10.0.0.12/31
+ ip ospf area 0
+ ip ospf network point-to-point
+exit
+";
 
 /// Start 1 takes the sides upper, upper, lower, lower and lower.
 #[test]
