@@ -132,17 +132,34 @@ fn compare_edges(
     Ok(())
 }
 
+/// Does a search, and compares all that it finds.
+fn compare(
+    rt: &impl Abort,
+    alloc: Global,
+    graph: &Graph,
+    point: &Point,
+    room: &mut Room,
+    case: &Case,
+    search: &Search,
+) -> Result<(), Fail>
+    requires room { IsRoomFor graph.now room.old }
+    requires fits { FitsPoint graph.now point.now }
+    ensures { IsRoomFor graph.now room.new }
+{
+    let gone = if search.whole { &[] } else { case.gone };
+    assert_eq!(rt; search.costs.len(), graph.vertices().len());
+    find(rt, room, graph, point, search.target, gone);
+    compare_vertices(rt, alloc, graph, point, room, case, search)?;
+    compare_edges(rt, graph, point, room, case, search)
+}
+
 /// Does each search of a case, one after another in the same room.
-fn compare(rt: &impl Abort, alloc: Global, case: &Case) -> Result<(), Fail> {
+fn compare_case(rt: &impl Abort, alloc: Global, case: &Case) -> Result<(), Fail> {
     let graph = graph_of(rt, alloc, &case.network)?;
     let point = point_of(rt, alloc, &graph, case.scale, case.values)?;
     let mut room = room_of(alloc, &graph)?;
     for search in case.searches {
-        let gone = if search.whole { &[] } else { case.gone };
-        assert_eq!(rt; search.costs.len(), graph.vertices().len());
-        find(rt, &mut room, &graph, &point, search.target, gone);
-        compare_vertices(rt, alloc, &graph, &point, &room, case, search)?;
-        compare_edges(rt, &graph, &point, &room, case, search)?;
+        compare(rt, alloc, &graph, &point, &mut room, case, search)?;
     }
     Ok(())
 }
@@ -150,7 +167,7 @@ fn compare(rt: &impl Abort, alloc: Global, case: &Case) -> Result<(), Fail> {
 #[test]
 fn networks_answer_as_their_paths_do(rt: HostRuntime) -> Result<(), Fail> {
     for case in CASES {
-        compare(&rt, rt.alloc(), case)?;
+        compare_case(&rt, rt.alloc(), case)?;
     }
     Ok(())
 }
