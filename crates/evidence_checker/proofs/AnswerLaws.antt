@@ -1,12 +1,12 @@
 -- An answer that passes all tests is valid, and a valid answer meets none.
-use Rattle.std.proofs.Common.{◌≡◌, ℕ, ◌+◌, ◌<◌, ◌≤◌, refl, sym, ◌∙◌, ap, subst, List, [], ◌∷◌, ◌++◌, length, map, get_or, arith, inl, inr}
-use Rattle.std.specs.Prelude.{slice_index, Option, Some, None, All, ◌⊎◌}
+use Rattle.std.proofs.Common.{◌≡◌, ℕ, ◌+◌, ◌≤◌, refl, sym, ◌∙◌, ap, subst, List, [], ◌∷◌, ◌++◌, length, arith, inl, inr}
+use Rattle.std.specs.Prelude.{slice_index, Option, Some, None, All}
 use Rattle.std.specs.List.{AllZip}
 use native.Mathlib.Decide.{ℕ_discrete}
 use Rattle.std.proofs.lemmas.List.{get_or_default}
 use Rattle.std.proofs.lemmas.List.Elements.{All-tail}
 use Rattle.std.proofs.lemmas.Bool.{cases_lt}
-use Rattle.cost_base.specs.Order.{FirstOf, NoneOf}
+use Rattle.cost_base.specs.Order.{NoneOf}
 use Rattle.path_rows.specs.declared.answer.Verdict.{Verdict}
 use Rattle.path_rows.specs.declared.answer.Verdict.TheVariants.{Optimal, Impossible, Budget}
 use Rattle.path_rows.specs.declared.answer.Costs.{Costs}
@@ -14,7 +14,7 @@ use Rattle.path_rows.specs.declared.answer.CostLine.{CostLine}
 use Rattle.path_rows.specs.declared.answer.Floor.{Floor}
 use Rattle.path_rows.specs.declared.answer.Floor.TheVariants.{Absent, Empty, Var}
 use Rattle.path_rows.specs.declared.answer.CapTree.{CapTree}
-use Rattle.path_rows.specs.declared.form.Form.{Form}
+use Rattle.path_rows.specs.Forms.{Form}
 use Rattle.path_rows.specs.declared.form.CostBox.{CostBox}
 use Rattle.path_rows.specs.declared.form.Row.{Row}
 use Rattle.path_rows.specs.declared.problem.VarName.{VarName}
@@ -24,15 +24,13 @@ use Rattle.path_rows.specs.Boxes.{capped}
 use Rattle.path_rows.proofs.ProblemTrees.{le_greatest}
 use Rattle.path_rows.specs.Rows.{IsRow, box_of, forms_of_rows}
 use Rattle.path_rows.specs.Trees.{Sound, IsSoundTree, IsClosed, subboxes}
-use Rattle.path_rows.specs.Answers.{AnswerParts, Proves, ShowsLeast, GivesCosts, ClaimHolds, IsValid, greatest_bound}
+use Rattle.path_rows.specs.Answers.{AnswerParts, Proves, ShowsLeast, ClaimHolds, IsValid, greatest_bound}
 use Rattle.evidence_checker.specs.declared.stop.Accepted.{Accepted}
-use Rattle.evidence_checker.specs.declared.terms.Terms.{Terms}
-use Rattle.evidence_checker.specs.Terms.{dense}
 use Rattle.evidence_checker.specs.declared.stop.CheckStop.{CheckStop}
 use Rattle.evidence_checker.specs.declared.stop.CheckStop.TheVariants.{Refused, OutOfMemory}
 use Rattle.evidence_checker.specs.Refusals.{Fault, OnWhole, AtFirstItem, StopsBy}
 use Rattle.evidence_checker.specs.Laws.{IsAcceptedAs, RefusesInvalid, CostsHold, ProofHolds}
-use Rattle.evidence_checker.specs.Tests.{ClaimsNothing, ShapeOfLeast, ShapeOfClaim, HasWrongShape, NamesPlaces, IsFalseFloor, costs_given, cost_tests, row_tests, line_tests, AtFirstLine, proof_tests, tests}
+use Rattle.evidence_checker.specs.Tests.{ClaimsNothing, ShapeOfLeast, ShapeOfClaim, HasWrongShape, NamesPlaces, IsFalseFloor, cost_tests, row_tests, line_tests, AtFirstLine, proof_tests, tests}
 use Rattle.evidence_checker.proofs.CostLaws.{names_written}
 use Rattle.evidence_checker.proofs.CostTests.{TestsAt, passes}
 use Rattle.evidence_checker.proofs.LineLaws.{sound_meets_none}
@@ -202,7 +200,7 @@ valid_meets_none p a kept valid =
 
 -- so an answer that a test refuses isn't valid
 pub refuses : (p : DesignProblem) (a : AnswerParts) (s : CheckStop) → IsProblem p → StopsBy (tests p a) s → RefusesInvalid p a s
-refuses p a (Refused number place) kept stops = λ valid. none_refused (tests p a) number place (valid_meets_none p a kept valid) stops
+refuses p a (Refused fault place) kept stops = λ valid. none_refused (tests p a) fault place (valid_meets_none p a kept valid) stops
 refuses p a OutOfMemory kept stops = tt
 
 accepted_claims : (verdict : Verdict) (accepted : Accepted) → IsAcceptedAs verdict accepted → ClaimsNothing verdict → ⊥
@@ -226,9 +224,9 @@ stops_evidence p a accepted s kept is shape holds stops =
     (early_met p a kept (accepted_claims a.verdict accepted is) shape holds) stops
 
 -- a test of the proof, after those of the rows
-pub stops_proof : (p : DesignProblem) (rows : List Row) (stands : Option CapTree) (proof : CapTree) (forms given : List Terms) (low high : List ℕ) (s : CheckStop) → stands ≡ Some proof → given ≡ forms → low ≡ p.low → high ≡ p.high → map (dense (length p.low)) forms ≡ forms_of_rows p rows → All (IsRow p) rows → StopsBy (AtFirstLine (map (dense (length low)) given) (capped (record { low = low; high = high }) proof.cap ∷ []) 0 proof.tree ∷ []) s → StopsBy (AtFirstItem (row_tests p) 0 rows ∷ proof_tests p rows stands) s
+pub stops_proof : (p : DesignProblem) (rows : List Row) (stands : Option CapTree) (proof : CapTree) (forms given : List Form) (low high : List ℕ) (s : CheckStop) → stands ≡ Some proof → given ≡ forms → low ≡ p.low → high ≡ p.high → forms ≡ forms_of_rows p rows → All (IsRow p) rows → StopsBy (AtFirstLine given (capped (record { low = low; high = high }) proof.cap ∷ []) 0 proof.tree ∷ []) s → StopsBy (AtFirstItem (row_tests p) 0 rows ∷ proof_tests p rows stands) s
 stops_proof p rows stands proof forms given low high s is given_is low_is high_is forms_are true_rows stops =
-    let all_forms = ap (λ (xs : List ℕ). map (dense (length xs)) given) low_is ∙ ap (λ (ts : List Terms). map (dense (length p.low)) ts) given_is ∙ forms_are in
+    let all_forms = given_is ∙ forms_are in
     let at_forms = subst (λ (fs : List Form). StopsBy (AtFirstLine fs (capped (record { low = low; high = high }) proof.cap ∷ []) 0 proof.tree ∷ []) s) all_forms stops in
     let at_low = subst (λ (xs : List ℕ). StopsBy (AtFirstLine (forms_of_rows p rows) (capped (record { low = xs; high = high }) proof.cap ∷ []) 0 proof.tree ∷ []) s) low_is at_forms in
     let at_high = subst (λ (xs : List ℕ). StopsBy (AtFirstLine (forms_of_rows p rows) (capped (record { low = p.low; high = xs }) proof.cap ∷ []) 0 proof.tree ∷ []) s) high_is at_low in

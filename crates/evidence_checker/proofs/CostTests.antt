@@ -1,5 +1,5 @@
 -- The tests of an optimal answer's costs, in their order: those that are passed, and the first that is met.
-use Rattle.std.proofs.Common.{◌≡◌, ℕ, sym, subst, List, [], ◌∷◌, arith, inl, inr}
+use Rattle.std.proofs.Common.{◌≡◌, ℕ, subst, List, [], ◌∷◌, arith, inl, inr}
 use Rattle.std.specs.Prelude.{Some, All, Result, IfErr, IsErrAnd}
 use Rattle.cost_base.specs.Order.{NoneOf}
 use Rattle.path_rows.specs.declared.answer.Verdict.TheVariants.{Optimal}
@@ -10,6 +10,7 @@ use Rattle.path_rows.specs.Answers.{Names}
 use Rattle.path_rows.specs.Boxes.{IsInBox}
 use Rattle.path_rows.specs.Problems.{DesignProblem, no_request}
 use Rattle.path_rows.specs.Rows.{box_of, greatest_cost}
+use Rattle.evidence_checker.specs.Numbers.{number_of}
 use Rattle.evidence_checker.specs.declared.stop.CheckStop.{CheckStop}
 use Rattle.evidence_checker.specs.declared.stop.CheckStop.TheVariants.{Refused, OutOfMemory}
 use Rattle.evidence_checker.specs.Costs.{IsOnlyAt}
@@ -60,37 +61,37 @@ no_floor p k floor true_floor f met = true_floor met.2
 
 pub stops_ends : (p : DesignProblem) (k : ℕ) (costs : Costs) (floor : Floor) (lines : List CostLine) (w : List ℕ) (s : CheckStop) → lines ≡ costs.lines → w ≡ costs_given p lines → NamesPlaces p.vars lines → StopsBy (AtFirst 53 (HasUnequalEnds p.vars lines) ∷ []) s → StopsBy (cost_tests p (Optimal k) (Some costs) floor) s
 stops_ends p k costs floor lines w OutOfMemory lines_are given named stops = tt
-stops_ends p k costs floor lines w (Refused number place) lines_are given named stops =
-    let f : Fault = record { number = number; place = place } in
-    moved p k costs floor lines w (Refused number place) lines_are given
+stops_ends p k costs floor lines w (Refused fault place) lines_are given named stops =
+    let f : Fault = record { number = number_of fault; place = place } in
+    moved p k costs floor lines w (Refused fault place) lines_are given
     (inr (no_places p lines named, inl (only_test (AtFirst 53 (HasUnequalEnds p.vars lines)) f stops)))
 
 pub stops_bounds : (p : DesignProblem) (k : ℕ) (costs : Costs) (floor : Floor) (lines : List CostLine) (w : List ℕ) (s : CheckStop) → lines ≡ costs.lines → w ≡ costs_given p lines → NamesPlaces p.vars lines → Names p lines w → StopsBy (AtFirst 45 (IsOutside p.low p.high w) ∷ []) s → StopsBy (cost_tests p (Optimal k) (Some costs) floor) s
 stops_bounds p k costs floor lines w OutOfMemory lines_are given named names_lines stops = tt
-stops_bounds p k costs floor lines w (Refused number place) lines_are given named names_lines stops =
-    let f : Fault = record { number = number; place = place } in
-    moved p k costs floor lines w (Refused number place) lines_are given
+stops_bounds p k costs floor lines w (Refused fault place) lines_are given named names_lines stops =
+    let f : Fault = record { number = number_of fault; place = place } in
+    moved p k costs floor lines w (Refused fault place) lines_are given
     (inr (no_places p lines named, inr (no_ends p lines w names_lines, inl (only_test (AtFirst 45 (IsOutside p.low p.high w)) f stops))))
 
 pub stops_greatest : (p : DesignProblem) (k : ℕ) (costs : Costs) (floor : Floor) (lines : List CostLine) (w : List ℕ) (s : CheckStop) → lines ≡ costs.lines → w ≡ costs_given p lines → NamesPlaces p.vars lines → Names p lines w → IsInBox (box_of p) w → StopsBy (OnWhole 47 (HasWrongGreatest k costs.greatest w) ∷ []) s → StopsBy (cost_tests p (Optimal k) (Some costs) floor) s
 stops_greatest p k costs floor lines w OutOfMemory lines_are given named names_lines within stops = tt
-stops_greatest p k costs floor lines w (Refused number place) lines_are given named names_lines within stops =
-    let f : Fault = record { number = number; place = place } in
-    moved p k costs floor lines w (Refused number place) lines_are given
+stops_greatest p k costs floor lines w (Refused fault place) lines_are given named names_lines within stops =
+    let f : Fault = record { number = number_of fault; place = place } in
+    moved p k costs floor lines w (Refused fault place) lines_are given
     (inr (no_places p lines named, inr (no_ends p lines w names_lines, inr (no_bounds p w within, inl (only_test (OnWhole 47 (HasWrongGreatest k costs.greatest w)) f stops)))))
 
 pub stops_paths : (p : DesignProblem) (k : ℕ) (costs : Costs) (floor : Floor) (lines : List CostLine) (w : List ℕ) (s : CheckStop) → lines ≡ costs.lines → w ≡ costs_given p lines → NamesPlaces p.vars lines → Names p lines w → IsInBox (box_of p) w → (costs.greatest ≡ k) × (greatest_cost w ≡ k) → StopsBy (AtFirst 46 (IsNotOnly p w) ∷ []) s → StopsBy (cost_tests p (Optimal k) (Some costs) floor) s
 stops_paths p k costs floor lines w OutOfMemory lines_are given named names_lines within same stops = tt
-stops_paths p k costs floor lines w (Refused number place) lines_are given named names_lines within same stops =
-    let f : Fault = record { number = number; place = place } in
-    moved p k costs floor lines w (Refused number place) lines_are given
+stops_paths p k costs floor lines w (Refused fault place) lines_are given named names_lines within same stops =
+    let f : Fault = record { number = number_of fault; place = place } in
+    moved p k costs floor lines w (Refused fault place) lines_are given
     (inr (no_places p lines named, inr (no_ends p lines w names_lines, inr (no_bounds p w within, inr (no_greatest k costs.greatest w same, inl (only_test (AtFirst 46 (IsNotOnly p w)) f stops))))))
 
 pub stops_floor : (p : DesignProblem) (k : ℕ) (costs : Costs) (floor : Floor) (lines : List CostLine) (w : List ℕ) (s : CheckStop) → lines ≡ costs.lines → w ≡ costs_given p lines → NamesPlaces p.vars lines → Names p lines w → IsInBox (box_of p) w → (costs.greatest ≡ k) × (greatest_cost w ≡ k) → All (IsOnlyAt p.graph w) p.paths → StopsBy (OnWhole 52 (IsFalseFloor p k floor) ∷ []) s → StopsBy (cost_tests p (Optimal k) (Some costs) floor) s
 stops_floor p k costs floor lines w OutOfMemory lines_are given named names_lines within same only stops = tt
-stops_floor p k costs floor lines w (Refused number place) lines_are given named names_lines within same only stops =
-    let f : Fault = record { number = number; place = place } in
-    moved p k costs floor lines w (Refused number place) lines_are given
+stops_floor p k costs floor lines w (Refused fault place) lines_are given named names_lines within same only stops =
+    let f : Fault = record { number = number_of fault; place = place } in
+    moved p k costs floor lines w (Refused fault place) lines_are given
     (inr (no_places p lines named, inr (no_ends p lines w names_lines, inr (no_bounds p w within, inr (no_greatest k costs.greatest w same, inr (no_paths p w only, inl (only_test (OnWhole 52 (IsFalseFloor p k floor)) f stops)))))))
 
 -- none is met

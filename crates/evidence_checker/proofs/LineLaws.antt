@@ -1,44 +1,21 @@
 -- The tests of a line of a tree: the first that is met, and none at a sound line.
-use Rattle.std.proofs.Common.{◌≡◌, ℕ, ◌^◌, ◌<◌, ◌≤◌, refl, sym, ◌∙◌, ap, subst, List, [], ◌∷◌, length, map, arith, inl, inr, get_or}
-use Rattle.std.specs.Prelude.{IsTrue, Option, None, Some, MatchOption, ◌⊎◌, ℤ, pos, negsuc, ◌+ℤ◌, ◌*ℤ◌, ◌≤ℤ◌, All, Any, sum_by, false, true, slice_set}
+use Rattle.std.proofs.Common.{◌≡◌, ℕ, ◌^◌, ◌<◌, ◌≤◌, refl, sym, ap, subst, List, length, arith, inl, inr}
+use Rattle.std.specs.Prelude.{IsTrue, Option, None, Some, MatchOption, ◌⊎◌, ℤ, pos, ◌≤ℤ◌, ◌<ℤ◌, All, Any, sum_by, false, true}
 use Rattle.std.proofs.lemmas.Int.{ints}
-use Rattle.std.proofs.lemmas.List.{set-get_or, set-set}
 use Rattle.cost_base.specs.Order.{FirstOf, NoneOf}
-use Rattle.path_rows.specs.declared.form.Form.{Form}
+use Rattle.path_rows.specs.Forms.{Form}
 use Rattle.path_rows.specs.declared.form.CostBox.{CostBox}
 use Rattle.path_rows.specs.declared.tree.Entry.{Entry}
 use Rattle.path_rows.specs.declared.tree.Entry.TheVariants.{Tighten, Split, Halve, Refute, Undone}
-use Rattle.path_rows.specs.Boxes.{greatest, upper_sum, Refutes}
-use Rattle.path_rows.specs.Forms.{weighted, added, form_at}
-use Rattle.path_rows.specs.Trees.{SoundAt, is_undone}
-use Rattle.evidence_checker.specs.declared.terms.Terms.{Terms}
-use Rattle.evidence_checker.specs.Terms.{dense}
+use Rattle.path_rows.specs.Boxes.{greatest, Refutes}
+use Rattle.path_rows.specs.Forms.{weighted, form_at}
+use Rattle.path_rows.specs.declared.tree.Side.{Side}
+use Rattle.path_rows.specs.Trees.{IsSmaller, SoundAt, TightensAt, is_undone, removed}
+use lib.Signed.{lt_z}
+use Rattle.evidence_checker.proofs.Sizes.{negative_iff}
+use Rattle.evidence_checker.specs.declared.fault.CheckFault.{CheckFault}
+use Rattle.evidence_checker.specs.Numbers.{number_of}
 use Rattle.evidence_checker.specs.Tests.{line_tests}
-
-one_times : (c : ℤ) → (pos 1 *ℤ c) ≡ c
-one_times (pos n) = omega (arith, ints)
-one_times (negsuc n) = omega (arith, ints)
-
-all_once : (cs : List ℤ) → map (λ c. pos 1 *ℤ c) cs ≡ cs
-all_once [] = refl
-all_once (c ∷ cs) = ap (λ (z : ℤ). z ∷ map (λ d. pos 1 *ℤ d) cs) (one_times c) ∙ ap (λ (zs : List ℤ). c ∷ zs) (all_once cs)
-
-added_none : (cs : List ℤ) → added cs [] ≡ cs
-added_none [] = refl
-added_none (c ∷ cs) = refl
-
--- a row with multiplier 1 has its form's greatest value
-pub single_greatest : (forms : List Form) (row : ℕ) (box : CostBox) → greatest (weighted forms ((row, 1) ∷ [])) box ≡ greatest (form_at forms row) box
-single_greatest forms row box =
-    let f = form_at forms row in
-    let constant : ((pos 1 *ℤ f.constant) +ℤ pos 0) ≡ f.constant = omega (arith, ints, one_times f.constant) in
-    let coefficients = added_none (map (λ c. pos 1 *ℤ c) f.coefficients) ∙ all_once f.coefficients in
-    ap (λ (z : ℤ). z +ℤ upper_sum (added (map (λ c. pos 1 *ℤ c) f.coefficients) []) box.low box.high) constant
-    ∙ ap (λ (cs : List ℤ). f.constant +ℤ upper_sum cs box.low box.high) coefficients
-
--- an end that is put back
-pub put_back : (xs : List ℕ) (i v w : ℕ) → w ≡ get_or xs i 0 → slice_set (slice_set xs i v) i w ≡ xs
-put_back xs i v w e = set-set xs i v w ∙ ap (λ (n : ℕ). slice_set xs i n) e ∙ set-get_or xs i 0
 
 pub sum_is_great : (forms : List Form) (box : CostBox) (parts : List (ℕ × ℕ)) → 2 ^ 100 ≤ sum_by (λ part. part.1) parts → FirstOf (line_tests forms box (Refute parts)) 48
 sum_is_great forms box parts great = inl (refl, great)
@@ -86,22 +63,17 @@ sound_meets_none forms box (Refute parts) sound closed = (
 sound_meets_none forms box Undone sound closed = absurd (true_false closed)
 
 -- a Refute, as it stands among the lines
-pub refute_line : (forms : List Form) (box : CostBox) (entry : Entry) (parts : List (ℕ × ℕ)) (r : Option ℕ) → entry ≡ Refute parts → MatchOption r (Refutes forms parts box) (FirstOf (line_tests forms box (Refute parts))) → MatchOption r (SoundAt forms box entry × (is_undone entry ≡ false)) (FirstOf (line_tests forms box entry))
+pub refute_line : (forms : List Form) (box : CostBox) (entry : Entry) (parts : List (ℕ × ℕ)) (r : Option CheckFault) → entry ≡ Refute parts → MatchOption r (Refutes forms parts box) (λ f. FirstOf (line_tests forms box (Refute parts)) (number_of f)) → MatchOption r (SoundAt forms box entry × (is_undone entry ≡ false)) (λ f. FirstOf (line_tests forms box entry) (number_of f))
 refute_line forms box entry parts None e met = subst (λ (x : Entry). SoundAt forms box x × (is_undone x ≡ false)) (sym e) (met, refl)
-refute_line forms box entry parts (Some n) e met = subst (λ (x : Entry). FirstOf (line_tests forms box x) n) (sym e) met
-
--- what a line's first test says, at a box by its ends
-abbrev pub TellsFault : ℕ → List Terms → List ℕ → List ℕ → Entry → Option ℕ → Type 0
-TellsFault n forms ls hs entry r =
-    MatchOption r
-    (SoundAt (map (dense n) forms) (record { low = ls; high = hs }) entry × (is_undone entry ≡ false))
-    (FirstOf (line_tests (map (dense n) forms) (record { low = ls; high = hs }) entry))
-
-pub fault_moved : (forms : List Terms) (entry : Entry) (r : Option ℕ) (n m : ℕ) (ls hs low high : List ℕ) → n ≡ m → ls ≡ low → hs ≡ high → TellsFault n forms ls hs entry r → TellsFault m forms low high entry r
-fault_moved forms entry r n m ls hs low high counts lows highs tells =
-    subst (λ (xs : List ℕ). TellsFault m forms low xs entry r) highs
-    (subst (λ (xs : List ℕ). TellsFault m forms xs hs entry r) lows
-    (subst (λ (k : ℕ). TellsFault k forms ls hs entry r) counts tells))
+refute_line forms box entry parts (Some f) e met = subst (λ (x : Entry). FirstOf (line_tests forms box x) (number_of f)) (sym e) met
 
 pub false_true : IsTrue false → ⊥
 false_true e = cc
+
+-- whether a bound that makes the range smaller is a sound step, by the greatest value over the removed part
+pub tightens_iff : (forms : List Form) (box : CostBox) (side : Side) (var value row : ℕ) (form : Form) (x : ℤ) → var < length box.low → row < length forms → IsSmaller box side var value → form_at forms row ≡ form → x ≡ greatest form (removed box side var value) → (IsTrue (lt_z x (pos 0)) → TightensAt forms box side var value row) × (TightensAt forms box side var value row → IsTrue (lt_z x (pos 0)))
+tightens_iff forms box side var value row form x var_in row_in smaller form_is e =
+    let both = negative_iff x (greatest form (removed box side var value)) e in (
+      λ yes. record { var_known = var_in; smaller = smaller; row_known = row_in; refuted = subst (λ (f : Form). greatest f (removed box side var value) <ℤ pos 0) (sym form_is) (both.0 yes) },
+      λ step. both.1 (subst (λ (f : Form). greatest f (removed box side var value) <ℤ pos 0) form_is step.refuted),
+    )

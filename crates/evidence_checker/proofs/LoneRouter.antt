@@ -1,5 +1,5 @@
 -- The network of one router, and answers to it that have no line of costs, no row and no tree.
-use Rattle.std.proofs.Common.{◌≡◌, ◌<◌, ◌≤◌, ℕ, refl, sym, subst, List, [], ◌∷◌, length, get_or, arith, rules, Bool, leb-true}
+use Rattle.std.proofs.Common.{◌≡◌, ℕ, refl, sym, subst, List, [], ◌∷◌, length, get_or, arith, rules, Bool, leb-true}
 use Rattle.std.specs.Prelude.{Some, None, true, false, nat_le, IsTrue}
 use Rattle.std.specs.List.{list_all}
 use Rattle.std.proofs.lemmas.List.Elements.{All-nil}

@@ -3,16 +3,11 @@ use Rattle.std.proofs.Common.{◌≡◌, ℕ, zero, suc, ◌+◌, ◌*◌, ◌^�
 use Rattle.std.specs.Prelude.{ℤ, pos, ◌+ℤ◌, ◌*ℤ◌, nat_abs, sum_by, All}
 use Rattle.std.proofs.Math.Nat.{mul-le-mul_left}
 use Rattle.std.proofs.lemmas.Int.{ints}
-use Rattle.std.proofs.lemmas.List.{get_or-map, length-map}
+use Rattle.std.proofs.lemmas.List.{get_or_default, length-map}
 use Rattle.std.proofs.lemmas.List.Sums.{sum_by_more, sum_by_more_le, sum_by-cons}
-use Rattle.path_rows.specs.declared.form.Form.{Form}
-use Rattle.cost_base.specs.Lists.{numbers_from}
 use Rattle.path_rows.specs.Boxes.{upper, upper_sum}
-use Rattle.path_rows.specs.Forms.{added, weighted, form_at, no_form, size_of}
+use Rattle.path_rows.specs.Forms.{Form, IsSmallForm, added, weighted, form_at, no_form, size_of}
 use Rattle.path_rows.proofs.FormSizes.{weighted_fits}
-use Rattle.path_rows.proofs.Tallies.{get_or-tabulated_from, length-numbers_from}
-use Rattle.evidence_checker.specs.declared.terms.Terms.{Terms}
-use Rattle.evidence_checker.specs.Terms.{coefficient_at, dense, IsSmallTerms}
 use Rattle.evidence_checker.proofs.Sizes.{sum_size, product_size}
 
 pub get_or-added : (cs ds : List ℤ) (i : ℕ) → get_or (added cs ds) i (pos 0) ≡ (get_or cs i (pos 0) +ℤ get_or ds i (pos 0))
@@ -49,13 +44,6 @@ coefficient_more forms parts k i d a x k_in e =
     ∙ get_or-added (map (λ c. m *ℤ c) f.coefficients) rest.coefficients i
     ∙ ap (λ (z : ℤ). z +ℤ get_or rest.coefficients i (pos 0)) (get_or-scaled m f.coefficients i))
 
--- the form of a row, by its terms
-pub form_is : (n : ℕ) (forms : List Terms) (row : ℕ) (d : Terms) → row < length forms → form_at (map (dense n) forms) row ≡ dense n (get_or forms row d)
-form_is n forms row d row_in = get_or-map (dense n) forms row d no_form row_in
-
-pub coefficient_is : (n : ℕ) (terms : Terms) (i : ℕ) → i < n → get_or (dense n terms).coefficients i (pos 0) ≡ coefficient_at terms.items.items i
-coefficient_is n terms i i_in = get_or-tabulated_from (pos 0) (coefficient_at terms.items.items) 0 n i i_in ∙ ap (coefficient_at terms.items.items) (let e : 0 + i ≡ i = omega arith in e)
-
 -- what one part more adds is within its multiplier times 2^27
 pub size_of_part : (parts : List (ℕ × ℕ)) (k : ℕ) (d : ℕ × ℕ) (a x c : ℤ) → k < length parts → nat_abs a ≤ sum_by (λ p. p.1) (take k parts) * 2 ^ 27 → nat_abs c ≤ 2 ^ 27 → x ≡ (a +ℤ (pos (get_or parts k d).1 *ℤ c)) → nat_abs x ≤ sum_by (λ p. p.1) (take (k + 1) parts) * 2 ^ 27
 size_of_part parts k d a x c k_in before small e =
@@ -81,22 +69,24 @@ multiplier_small parts k d k_in sum =
     omega arith
 
 -- a form's constant and coefficients are within 2^27
-pub constant_small : (n : ℕ) (terms : Terms) → IsSmallTerms n terms → nat_abs terms.constant < 2 ^ 27
-constant_small n terms small = let size = small.form.size in omega arith
+pub constant_small : (n : ℕ) (f : Form) → IsSmallForm n f → nat_abs f.constant < 2 ^ 27
+constant_small n f small = let size = small.size in omega arith
 
-pub coefficient_small : (n : ℕ) (terms : Terms) (i : ℕ) → i < n → IsSmallTerms n terms → nat_abs (coefficient_at terms.items.items i) ≤ 2 ^ 27
-coefficient_small n terms i i_in small =
-    let counted = small.form.count in
-    let size = small.form.sizes i (pos 0) (omega arith) in
-    let is = ap nat_abs (coefficient_is n terms i i_in) in
+pub sizes_small : (n : ℕ) (f : Form) → IsSmallForm n f → sum_by nat_abs f.coefficients < 2 ^ 27
+sizes_small n f small = let size = small.size in omega arith
+
+pub coefficient_small : (n : ℕ) (f : Form) (i : ℕ) → i < n → IsSmallForm n f → nat_abs (get_or f.coefficients i (pos 0)) ≤ 2 ^ 27
+coefficient_small n f i i_in small =
+    let counted = small.count in
+    let size = small.sizes i (pos 0) (omega arith) in
     omega arith
 
-pub small_at : (n : ℕ) (forms : List Terms) (row : ℕ) (r : Terms) → All (IsSmallTerms n) forms → row < length forms → r ≡ get_or forms row r → IsSmallTerms n r
-small_at n forms row r small row_in e = subst (λ (t : Terms). IsSmallTerms n t) (sym e) (small row r row_in)
+pub small_at : (n : ℕ) (forms : List Form) (row : ℕ) (r : Form) → All (IsSmallForm n) forms → row < length forms → r ≡ get_or forms row r → IsSmallForm n r
+small_at n forms row r small row_in e = subst (λ (f : Form). IsSmallForm n f) (sym e) (small row r row_in)
 
--- the form of the row is the terms that were read
-pub form_read : (n : ℕ) (forms : List Terms) (row : ℕ) (r : Terms) → row < length forms → r ≡ get_or forms row r → form_at (map (dense n) forms) row ≡ dense n r
-form_read n forms row r row_in e = form_is n forms row r row_in ∙ ap (dense n) (sym e)
+-- the form of the row is the one that was read
+pub form_read : (forms : List Form) (row : ℕ) (r : Form) → row < length forms → r ≡ get_or forms row r → form_at forms row ≡ r
+form_read forms row r row_in e = get_or_default forms row no_form r row_in ∙ sym e
 
 -- a list that has the same numbers, and zeros behind them
 zero_terms : (ds : List ℤ) (ls hs : List ℕ) → ((i : ℕ) → i < length ds → get_or ds i (pos 0) ≡ pos 0) → upper_sum ds ls hs ≡ pos 0
@@ -139,39 +129,37 @@ length-added n (c ∷ cs) [] first second = first
 length-added zero (c ∷ cs) (d ∷ ds) first second = absurd (omega arith)
 length-added (suc n) (c ∷ cs) (d ∷ ds) first second = let rest = length-added n cs ds (omega arith) (omega arith) in omega arith
 
-form_length : (n : ℕ) (forms : List Terms) (row : ℕ) → length (form_at (map (dense n) forms) row).coefficients ≤ n
-form_length n [] row = omega arith
-form_length n (t ∷ ts) zero = let e = length-map (numbers_from 0 n) (coefficient_at t.items.items) in let count = length-numbers_from 0 n in omega arith
-form_length n (t ∷ ts) (suc row) = form_length n ts row
+form_length : (n : ℕ) (forms : List Form) (row : ℕ) → All (IsSmallForm n) forms → length (form_at forms row).coefficients ≤ n
+form_length n [] row small = omega arith
+form_length n (f ∷ fs) zero small = let e = (small 0 f (omega arith)).count in omega arith
+form_length n (f ∷ fs) (suc row) small = form_length n fs row (λ k d k_in. small (suc k) d (omega arith))
 
-pub weighted_length : (n : ℕ) (forms : List Terms) (parts : List (ℕ × ℕ)) → length (weighted (map (dense n) forms) parts).coefficients ≤ n
-weighted_length n forms [] = omega arith
-weighted_length n forms (part ∷ parts) =
-    let f = form_at (map (dense n) forms) part.0 in
+pub weighted_length : (n : ℕ) (forms : List Form) (parts : List (ℕ × ℕ)) → All (IsSmallForm n) forms → length (weighted forms parts).coefficients ≤ n
+weighted_length n forms [] small = omega arith
+weighted_length n forms (part ∷ parts) small =
+    let f = form_at forms part.0 in
     let e = length-map f.coefficients (λ c. pos part.1 *ℤ c) in
-    let here = form_length n forms part.0 in
-    length-added n (map (λ c. pos part.1 *ℤ c) f.coefficients) (weighted (map (dense n) forms) parts).coefficients (omega arith) (weighted_length n forms parts)
+    let here = form_length n forms part.0 small in
+    length-added n (map (λ c. pos part.1 *ℤ c) f.coefficients) (weighted forms parts).coefficients (omega arith) (weighted_length n forms parts small)
 
 -- what each form of the list keeps
-smalls : (n : ℕ) (forms : List Terms) → All (IsSmallTerms n) forms → All (λ f. size_of f < 2 ^ 27) (map (dense n) forms)
-smalls n [] small row d row_in = absurd (omega arith)
-smalls n (t ∷ ts) small zero d row_in = (small 0 t (omega arith)).form.size
-smalls n (t ∷ ts) small (suc row) d row_in = smalls n ts (λ k e k_in. small (suc k) e (omega arith)) row d (omega arith)
+smalls : (n : ℕ) (forms : List Form) → All (IsSmallForm n) forms → All (λ f. size_of f < 2 ^ 27) forms
+smalls n forms small row d row_in = (small row d row_in).size
 
 -- the sums that were made fit 127 bits, times the most that an end can be
-pub made_fits : (n : ℕ) (forms : List Terms) (parts : List (ℕ × ℕ)) (constant : ℤ) (sums : List ℤ) → All (IsSmallTerms n) forms → sum_by (λ p. p.1) parts < 2 ^ 100 → length sums ≡ n → constant ≡ (weighted (map (dense n) forms) parts).constant → ((i : ℕ) → i < n → get_or sums i (pos 0) ≡ get_or (weighted (map (dense n) forms) parts).coefficients i (pos 0)) → nat_abs constant + 65535 * sum_by nat_abs sums < 2 ^ 127
+pub made_fits : (n : ℕ) (forms : List Form) (parts : List (ℕ × ℕ)) (constant : ℤ) (sums : List ℤ) → All (IsSmallForm n) forms → sum_by (λ p. p.1) parts < 2 ^ 100 → length sums ≡ n → constant ≡ (weighted forms parts).constant → ((i : ℕ) → i < n → get_or sums i (pos 0) ≡ get_or (weighted forms parts).coefficients i (pos 0)) → nat_abs constant + 65535 * sum_by nat_abs sums < 2 ^ 127
 made_fits n forms parts constant sums small sum count constants each =
-    let whole = weighted (map (dense n) forms) parts in
-    let fits = weighted_fits (map (dense n) forms) parts (smalls n forms small) sum in
-    let short = weighted_length n forms parts in
+    let whole = weighted forms parts in
+    let fits = weighted_fits forms parts (smalls n forms small) sum in
+    let short = weighted_length n forms parts small in
     let sizes = padded_size whole.coefficients sums (omega arith) (λ i i_in. each i (omega arith)) in
     let constant_is = ap nat_abs constants in
     omega arith
 
 -- and their greatest value over a box is that of the weighted sum
-pub made_greatest : (n : ℕ) (forms : List Terms) (parts : List (ℕ × ℕ)) (constant : ℤ) (sums : List ℤ) (ls hs : List ℕ) → length sums ≡ n → constant ≡ (weighted (map (dense n) forms) parts).constant → ((i : ℕ) → i < n → get_or sums i (pos 0) ≡ get_or (weighted (map (dense n) forms) parts).coefficients i (pos 0)) → (constant +ℤ upper_sum sums ls hs) ≡ ((weighted (map (dense n) forms) parts).constant +ℤ upper_sum (weighted (map (dense n) forms) parts).coefficients ls hs)
-made_greatest n forms parts constant sums ls hs count constants each =
-    let whole = weighted (map (dense n) forms) parts in
-    let short = weighted_length n forms parts in
+pub made_greatest : (n : ℕ) (forms : List Form) (parts : List (ℕ × ℕ)) (constant : ℤ) (sums : List ℤ) (ls hs : List ℕ) → All (IsSmallForm n) forms → length sums ≡ n → constant ≡ (weighted forms parts).constant → ((i : ℕ) → i < n → get_or sums i (pos 0) ≡ get_or (weighted forms parts).coefficients i (pos 0)) → (constant +ℤ upper_sum sums ls hs) ≡ ((weighted forms parts).constant +ℤ upper_sum (weighted forms parts).coefficients ls hs)
+made_greatest n forms parts constant sums ls hs small count constants each =
+    let whole = weighted forms parts in
+    let short = weighted_length n forms parts small in
     ap (λ (z : ℤ). z +ℤ upper_sum sums ls hs) constants
     ∙ ap (λ (z : ℤ). whole.constant +ℤ z) (padded_upper whole.coefficients sums ls hs (omega arith) (λ i i_in. each i (omega arith)))

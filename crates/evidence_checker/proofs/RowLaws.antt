@@ -2,8 +2,7 @@
 use Rattle.std.proofs.Common.{◌≡◌, ℕ, ◌+◌, ◌<◌, refl, sym, ◌∙◌, ap, subst, List, [], ◌∷◌, length, drop, get_or, add-one, drop-cons, inl, inr, map, take, ◌++◌, below_more}
 use Rattle.std.specs.Prelude.{slice_get, Option, Some, None, MatchOption}
 use Rattle.std.proofs.lemmas.List.{take_more, map-append, get_or_default}
-use Rattle.path_rows.specs.declared.form.Form.{Form}
-use Rattle.evidence_checker.specs.declared.terms.Terms.{Terms}
+use Rattle.path_rows.specs.Forms.{Form}
 use Rattle.cost_base.specs.Order.{FirstOf, NoneOf}
 use Rattle.area_graph.specs.Area.{Area}
 use Rattle.path_rows.specs.declared.form.Row.{Row}
@@ -47,10 +46,10 @@ first_is_here p rows k number row k_in e met left =
     left f (subst (λ (xs : List Row). AtFirstItem (row_tests p) k xs f) (sym (row_read rows k row k_in e)) (inl (refl, met)))
 
 -- one form more
-pub forms_more : (f : Terms → Form) (g : Row → Form) (ts us : List Terms) (t : Terms) (rows : List Row) (k : ℕ) (row : Row) → us ≡ ts ++ t ∷ [] → f t ≡ g row → k < length rows → row ≡ get_or rows k row → map f ts ≡ map g (take k rows) → map f us ≡ map g (take (k + 1) rows)
-forms_more f g ts us t rows k row e same k_in is before =
-    ap (map f) e ∙ map-append f ts (t ∷ [])
-    ∙ ap (λ (fs : List Form). fs ++ f t ∷ []) before
+pub forms_more : (g : Row → Form) (fs more : List Form) (f : Form) (rows : List Row) (k : ℕ) (row : Row) → more ≡ fs ++ f ∷ [] → f ≡ g row → k < length rows → row ≡ get_or rows k row → fs ≡ map g (take k rows) → more ≡ map g (take (k + 1) rows)
+forms_more g fs more f rows k row e same k_in is before =
+    e
+    ∙ ap (λ (es : List Form). es ++ f ∷ []) before
     ∙ ap (λ (x : Form). map g (take k rows) ++ x ∷ []) (same ∙ ap g is)
     ∙ sym (ap (map g) (take_more rows k row k_in) ∙ map-append g (take k rows) (get_or rows k row ∷ []))
 
@@ -60,8 +59,8 @@ rows_more p rows k row k_in is is_row before j d j_in =
     (λ e. subst (IsRow p) (is ∙ get_or_default rows k row e k_in) is_row) j j_in d
 
 -- what the first test says, where it is known whether there is one
-pub at_none : (A : Type 0) (B : ℕ → Type 0) (o : Option ℕ) → o ≡ None → MatchOption o A B → A
-at_none A B o e h = let P : Option ℕ → Type 0 = λ x. MatchOption x A B in subst P e h
+pub at_none : {X : Type 0} (A : Type 0) (B : X → Type 0) (o : Option X) → o ≡ None → MatchOption o A B → A
+at_none {X} A B o e h = let P : Option X → Type 0 = λ x. MatchOption x A B in subst P e h
 
-pub at_some : (A : Type 0) (B : ℕ → Type 0) (o : Option ℕ) (n : ℕ) → o ≡ Some n → MatchOption o A B → B n
-at_some A B o n e h = let P : Option ℕ → Type 0 = λ x. MatchOption x A B in subst P e h
+pub at_some : {X : Type 0} (A : Type 0) (B : X → Type 0) (o : Option X) (n : X) → o ≡ Some n → MatchOption o A B → B n
+at_some {X} A B o n e h = let P : Option X → Type 0 = λ x. MatchOption x A B in subst P e h

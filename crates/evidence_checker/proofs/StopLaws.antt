@@ -2,6 +2,8 @@
 use Rattle.std.proofs.Common.{◌≡◌, ℕ, ◌<◌, refl, sym, subst, List, [], ◌∷◌, ◌++◌, inl, inr}
 use Rattle.std.specs.Prelude.{Some, Result, Ok, Err, IfErr, IsErrAnd}
 use Rattle.cost_base.specs.Order.{FirstOf, NoneOf}
+use Rattle.evidence_checker.specs.declared.fault.CheckFault.{CheckFault}
+use Rattle.evidence_checker.specs.Numbers.{number_of}
 use Rattle.evidence_checker.specs.declared.stop.CheckStop.{CheckStop}
 use Rattle.evidence_checker.specs.declared.stop.CheckStop.TheVariants.{Refused, OutOfMemory}
 use Rattle.evidence_checker.specs.Refusals.{Fault, AtFirst, IsFirst, StopsBy}
@@ -24,11 +26,11 @@ first_right [] us f none first = first
 first_right (t ∷ ts) us f none first = inr (none.0, first_right ts us f none.1 first)
 
 pub stop_left : (ts us : List (Fault → Type 0)) (s : CheckStop) → StopsBy ts s → StopsBy (ts ++ us) s
-stop_left ts us (Refused number place) stops = first_left ts us (record { number = number; place = place }) stops
+stop_left ts us (Refused fault place) stops = first_left ts us (record { number = number_of fault; place = place }) stops
 stop_left ts us OutOfMemory stops = tt
 
 pub stop_right : (ts us : List (Fault → Type 0)) (s : CheckStop) → NoneOf ts → StopsBy us s → StopsBy (ts ++ us) s
-stop_right ts us (Refused number place) none stops = first_right ts us (record { number = number; place = place }) none stops
+stop_right ts us (Refused fault place) none stops = first_right ts us (record { number = number_of fault; place = place }) none stops
 stop_right ts us OutOfMemory none stops = tt
 
 pub none_left_right : (ts us : List (Fault → Type 0)) → NoneOf ts → NoneOf us → NoneOf (ts ++ us)
@@ -40,8 +42,8 @@ pub none_first : {F : Type 0} (ts : List (F → Type 0)) (f : F) → NoneOf ts �
 none_first [] f none first = first
 none_first (t ∷ ts) f none first = elim first [ inl here ↦ none.0 f here | inr later ↦ none_first ts f none.1 later.1 ]
 
-pub none_refused : (ts : List (Fault → Type 0)) (number place : ℕ) → NoneOf ts → StopsBy ts (Refused number place) → ⊥
-none_refused ts number place none stops = none_first ts (record { number = number; place = place }) none stops
+pub none_refused : (ts : List (Fault → Type 0)) (fault : CheckFault) (place : ℕ) → NoneOf ts → StopsBy ts (Refused fault place) → ⊥
+none_refused ts fault place none stops = none_first ts (record { number = number_of fault; place = place }) none stops
 
 -- what is known of a stop that is handed on
 pub err_tells : {T : Type 0} (r : Result T CheckStop) (s : CheckStop) (P : CheckStop → Type 0) → IsErrAnd r (λ e. e ≡ s) → P s → IfErr r P

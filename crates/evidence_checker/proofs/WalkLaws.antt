@@ -1,11 +1,12 @@
 -- A tree that is gone through line by line, with the box of the next line and those that wait behind it.
-use Rattle.std.proofs.Common.{◌≡◌, ℕ, suc, ◌+◌, refl, sym, ◌∙◌, ap, subst, List, [], ◌∷◌, ◌++◌, length, drop, get_or, add-one, drop-cons, ◌<◌, arith, inl, inr}
-use Rattle.std.specs.Prelude.{false, map, Result, IfErr}
+use Rattle.std.proofs.Common.{◌≡◌, ℕ, suc, ◌+◌, refl, sym, ◌∙◌, ap, subst, List, [], ◌∷◌, ◌++◌, length, drop, get_or, add-one, drop-cons, ◌<◌, length-set, arith, inl, inr}
+use Rattle.std.specs.Prelude.{Bool, true, false, Result, IfErr, All, MatchBool}
+use Rattle.std.proofs.lemmas.List.Elements.{All-nil, All-cons, All-head, All-tail, All-append, All-same}
+use Rattle.path_rows.specs.declared.tree.Side.TheVariants.{Low, High}
+use Rattle.path_rows.specs.Boxes.{with_low, with_high}
 use Rattle.evidence_checker.specs.declared.stop.CheckStop.{CheckStop}
-use Rattle.evidence_checker.specs.declared.terms.Terms.{Terms}
-use Rattle.evidence_checker.specs.Terms.{dense}
 use Rattle.cost_base.specs.Order.{FirstOf}
-use Rattle.path_rows.specs.declared.form.Form.{Form}
+use Rattle.path_rows.specs.Forms.{Form}
 use Rattle.path_rows.specs.declared.form.CostBox.{CostBox}
 use Rattle.path_rows.specs.declared.tree.Entry.{Entry}
 use Rattle.path_rows.specs.declared.tree.Entry.TheVariants.{Tighten, Split, Halve, Refute, Undone}
@@ -67,11 +68,37 @@ line_read entries k entry k_in e =
     split ∙ ap (λ (x : Entry). x ∷ drop (k + 1) entries) (sym e)
 
 -- what a tree's first line with a test is, at a box by its ends
-abbrev pub StopsTree : List Terms → List ℕ → List ℕ → List Entry → CheckStop → Type 0
-StopsTree forms low high tree = StopsBy (AtFirstLine (map (dense (length low)) forms) (record { low = low; high = high } ∷ []) 0 tree ∷ [])
+abbrev pub StopsTree : List Form → CostBox → List Entry → CheckStop → Type 0
+StopsTree forms box tree = StopsBy (AtFirstLine forms (box ∷ []) 0 tree ∷ [])
 
-pub stop_moved : {T : Type 0} (r : Result T CheckStop) (forms : List Terms) (ls hs low high : List ℕ) (tree whole : List Entry) → ls ≡ low → hs ≡ high → tree ≡ whole → IfErr r (StopsTree forms ls hs tree) → IfErr r (StopsTree forms low high whole)
-stop_moved r forms ls hs low high tree whole lows highs trees stops =
-    subst (λ (es : List Entry). IfErr r (StopsTree forms low high es)) trees
-    (subst (λ (xs : List ℕ). IfErr r (StopsTree forms low xs tree)) highs
-    (subst (λ (xs : List ℕ). IfErr r (StopsTree forms xs hs tree)) lows stops))
+pub stop_moved : {T : Type 0} (r : Result T CheckStop) (forms : List Form) (here there : CostBox) (tree whole : List Entry) → here ≡ there → tree ≡ whole → IfErr r (StopsTree forms here tree) → IfErr r (StopsTree forms there whole)
+stop_moved r forms here there tree whole boxes trees stops =
+    subst (λ (es : List Entry). IfErr r (StopsTree forms there es)) trees
+    (subst (λ (box : CostBox). IfErr r (StopsTree forms box tree)) boxes stops)
+
+-- each open box has a lower end for each of n variables
+abbrev pub HaveEnds : ℕ → List CostBox → Type 0
+HaveEnds n boxes = All (λ box. length box.low ≡ n) boxes
+
+both : (n : ℕ) (a b : CostBox) → length a.low ≡ n → length b.low ≡ n → HaveEnds n (a ∷ b ∷ [])
+both n a b first second = All-cons (λ (box : CostBox). length box.low ≡ n) a (b ∷ []) first (All-cons (λ (box : CostBox). length box.low ≡ n) b [] second (All-nil (λ (box : CostBox). length box.low ≡ n)))
+
+parts_have_ends : (n : ℕ) (box : CostBox) (entry : Entry) → length box.low ≡ n → HaveEnds n (subboxes box entry)
+parts_have_ends n box (Tighten var Low value row) count = All-cons (λ (b : CostBox). length b.low ≡ n) (with_low box var value) [] (length-set box.low var value ∙ count) (All-nil (λ (b : CostBox). length b.low ≡ n))
+parts_have_ends n box (Tighten var High value row) count = All-cons (λ (b : CostBox). length b.low ≡ n) (with_high box var value) [] count (All-nil (λ (b : CostBox). length b.low ≡ n))
+parts_have_ends n box (Split var value) count = both n (with_high box var value) (with_low box var (value + 1)) count (length-set box.low var (value + 1) ∙ count)
+parts_have_ends n box (Halve var value wide) count = both n (with_high box var value) (with_low box var (value + 1)) count (length-set box.low var (value + 1) ∙ count)
+parts_have_ends n box (Refute parts) count = All-nil (λ (b : CostBox). length b.low ≡ n)
+parts_have_ends n box Undone count = All-nil (λ (b : CostBox). length b.low ≡ n)
+
+pub next_have_ends : (n : ℕ) (box : CostBox) (boxes : List CostBox) (entry : Entry) (next : CostBox) (others : List CostBox) → HaveEnds n (box ∷ boxes) → subboxes box entry ++ boxes ≡ next ∷ others → HaveEnds n (next ∷ others)
+next_have_ends n box boxes entry next others have e =
+    All-same (λ (b : CostBox). length b.low ≡ n) (next ∷ others) (subboxes box entry ++ boxes) (sym e)
+    (All-append (λ (b : CostBox). length b.low ≡ n) (subboxes box entry) boxes (parts_have_ends n box entry (All-head (λ (b : CostBox). length b.low ≡ n) box boxes have)) (All-tail (λ (b : CostBox). length b.low ≡ n) box boxes have))
+
+-- what a test of a Bool tells
+pub at_true : (A B : Type 0) → (b : Bool) → b ≡ true → MatchBool b A B → A
+at_true A B b e h = let P : Bool → Type 0 = λ v. MatchBool v A B in subst P e h
+
+pub at_false : (A B : Type 0) → (b : Bool) → b ≡ false → MatchBool b A B → B
+at_false A B b e h = let P : Bool → Type 0 = λ v. MatchBool v A B in subst P e h

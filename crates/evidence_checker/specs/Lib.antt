@@ -1,7 +1,6 @@
+pub mod Numbers
 pub mod Refusals
 pub mod Tests
 pub mod Laws
-pub mod Terms
-pub mod Stack
 pub mod Routes
 pub mod Costs

@@ -1,6 +1,7 @@
 -- Refusals of an answer: the number of a test, and the place where it is met.
 use Rattle.std.specs.Prelude.{◌≡◌, ℕ, ◌+◌, ◌<◌, List, [], ◌∷◌, ◌⊎◌, Option, Some, None}
 use Rattle.cost_base.specs.Order.{FirstOf, NoneOf}
+use Rattle.evidence_checker.specs.Numbers.{number_of}
 use Rattle.evidence_checker.specs.declared.stop.CheckStop.{CheckStop}
 use Rattle.evidence_checker.specs.declared.stop.CheckStop.TheVariants.{Refused, OutOfMemory}
 
@@ -33,5 +34,5 @@ AtFirstItem tests place (x ∷ xs) f =
 
 -- a refusal is the first of the tests that is met; want of memory says nothing
 abbrev pub StopsBy : List (Fault → Type 0) → CheckStop → Type 0
-StopsBy tests (Refused number place) = FirstOf tests (record { number = number; place = place })
+StopsBy tests (Refused fault place) = FirstOf tests (record { number = number_of fault; place = place })
 StopsBy tests OutOfMemory = Unit {0}

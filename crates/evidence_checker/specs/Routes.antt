@@ -4,6 +4,8 @@ use Rattle.area_graph.specs.Area.{Area}
 use Rattle.area_graph.specs.Paths.{IsPathOf}
 use Rattle.path_rows.specs.declared.problem.Request.{Request}
 use Rattle.path_rows.specs.Problems.{ends_of}
+use Rattle.evidence_checker.specs.declared.fault.CheckFault.TheVariants.{NotAPath, NotARival}
+use Rattle.evidence_checker.specs.Numbers.{number_of}
 use Rattle.evidence_checker.specs.Refusals.{OnItem}
 
 -- a simple path of the request, other than the requested one
@@ -11,4 +13,4 @@ abbrev pub IsRival : Area → Request → List ℕ → Type 0
 IsRival g r es = IsPathOf g (ends_of r) es × (es ≢ r.path.edges)
 
 abbrev pub route_tests : Area → Request → List ℕ → List (ℕ → Type 0)
-route_tests g r es = OnItem 40 (IsPathOf g (ends_of r) es → ⊥) ∷ OnItem 41 (es ≡ r.path.edges) ∷ []
+route_tests g r es = OnItem (number_of NotAPath) (IsPathOf g (ends_of r) es → ⊥) ∷ OnItem (number_of NotARival) (es ≡ r.path.edges) ∷ []

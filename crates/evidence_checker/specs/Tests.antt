@@ -22,6 +22,8 @@ use Rattle.path_rows.specs.Forms.{weighted}
 use Rattle.path_rows.specs.Trees.{TightensAt, CutsAt, subboxes}
 use Rattle.path_rows.specs.Rows.{HasRoute, path_edges, box_of, forms_of_rows, greatest_cost}
 use Rattle.path_rows.specs.Answers.{AnswerParts, greatest_bound}
+use Rattle.evidence_checker.specs.declared.fault.CheckFault.TheVariants.{NothingClaimed, WrongShape, WrongPlaces, UnequalEnds, OutOfBounds, WrongGreatest, NotOnlyCheapest, FalseFloor, NotAPath, NotARival, GreatMultipliers, NothingRefuted, WeakStep, OpenLeaf}
+use Rattle.evidence_checker.specs.Numbers.{number_of}
 use Rattle.evidence_checker.specs.Refusals.{Fault, OnWhole, AtFirst, OnItem, AtFirstItem}
 
 -- 49: the verdict claims nothing
@@ -104,12 +106,12 @@ IsFalseFloor p k (Var v) = (v < length p.low) × (slice_index p.low v ≡ k) →
 -- the tests of the costs and the floor of an optimal answer; an impossible one has nothing to speak of
 abbrev pub cost_tests : DesignProblem → Verdict → Option Costs → Floor → List (Fault → Type 0)
 cost_tests p (Optimal k) (Some costs) floor =
-    OnWhole 50 (NamesPlaces p.vars costs.lines → ⊥)
-    ∷ AtFirst 53 (HasUnequalEnds p.vars costs.lines)
-    ∷ AtFirst 45 (IsOutside p.low p.high (costs_given p costs.lines))
-    ∷ OnWhole 47 (HasWrongGreatest k costs.greatest (costs_given p costs.lines))
-    ∷ AtFirst 46 (IsNotOnly p (costs_given p costs.lines))
-    ∷ OnWhole 52 (IsFalseFloor p k floor)
+    OnWhole (number_of WrongPlaces) (NamesPlaces p.vars costs.lines → ⊥)
+    ∷ AtFirst (number_of UnequalEnds) (HasUnequalEnds p.vars costs.lines)
+    ∷ AtFirst (number_of OutOfBounds) (IsOutside p.low p.high (costs_given p costs.lines))
+    ∷ OnWhole (number_of WrongGreatest) (HasWrongGreatest k costs.greatest (costs_given p costs.lines))
+    ∷ AtFirst (number_of NotOnlyCheapest) (IsNotOnly p (costs_given p costs.lines))
+    ∷ OnWhole (number_of FalseFloor) (IsFalseFloor p k floor)
     ∷ []
 cost_tests p (Optimal k) None floor = []
 cost_tests p Impossible costs floor = []
@@ -118,8 +120,8 @@ cost_tests p (Budget cap) costs floor = []
 -- of a row: 40, its number is no request's, or its edges aren't a simple path of that request; 41, its path is the requested one
 abbrev pub row_tests : DesignProblem → Row → List (ℕ → Type 0)
 row_tests p row =
-    OnItem 40 (HasRoute p row → ⊥)
-    ∷ OnItem 41 (row.rival.edges ≡ path_edges (slice_get p.paths row.request))
+    OnItem (number_of NotAPath) (HasRoute p row → ⊥)
+    ∷ OnItem (number_of NotARival) (row.rival.edges ≡ path_edges (slice_get p.paths row.request))
     ∷ []
 
 -- 48: the sum of a Refute's multipliers is 2^100 or more
@@ -157,10 +159,10 @@ IsOpenLeaf Undone = Unit {0}
 -- of a line of a tree, at its box
 abbrev pub line_tests : List Form → CostBox → Entry → List (ℕ → Type 0)
 line_tests forms box entry =
-    OnItem 48 (HasGreatSum entry)
-    ∷ OnItem 43 (RefutesNothing forms box entry)
-    ∷ OnItem 42 (IsWeakStep forms box entry)
-    ∷ OnItem 44 (IsOpenLeaf entry)
+    OnItem (number_of GreatMultipliers) (HasGreatSum entry)
+    ∷ OnItem (number_of NothingRefuted) (RefutesNothing forms box entry)
+    ∷ OnItem (number_of WeakStep) (IsWeakStep forms box entry)
+    ∷ OnItem (number_of OpenLeaf) (IsOpenLeaf entry)
     ∷ []
 
 -- the first line of a tree that meets a test, where each next line speaks of the first box that is still open
@@ -178,8 +180,8 @@ proof_tests p rows (Some proof) = AtFirstLine (forms_of_rows p rows) (capped (bo
 -- all tests, in their order
 abbrev pub tests : DesignProblem → AnswerParts → List (Fault → Type 0)
 tests p a =
-    OnWhole 49 (ClaimsNothing a.verdict)
-    ∷ OnWhole 51 (HasWrongShape p a)
+    OnWhole (number_of NothingClaimed) (ClaimsNothing a.verdict)
+    ∷ OnWhole (number_of WrongShape) (HasWrongShape p a)
     ∷ cost_tests p a.verdict a.costs a.floor
     ++ AtFirstItem (row_tests p) 0 a.rows
     ∷ proof_tests p a.rows a.proof

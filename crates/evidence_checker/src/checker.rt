@@ -1,4 +1,6 @@
 //! The checker.
+ghost use Rattle.evidence_checker.specs.declared.fault.CheckFault.TheVariants.{WrongShape};
+ghost use Rattle.evidence_checker.specs.Numbers.{number_of};
 ghost use Rattle.std.specs.Prelude.{◌≡◌, [], ◌∷◌, All, IfOk, IfErr};
 ghost use Rattle.std.specs.Option.{option_copied};
 ghost use Rattle.path_rows.specs.Answers.{IsValid};
@@ -13,18 +15,15 @@ use crate::problem_parts::{high_of, keeps, low_of};
 use crate::rows::forms_of;
 use crate::shape::{claimed, fits_claim};
 use crate::tree::check_cap_tree;
-use crate::{Accepted, CheckStop};
+use crate::{Accepted, CheckFault, CheckStop};
 use path_rows::{Answer, CapTree, Costs, Floor, Problem, Row, Verdict};
 use std::alloc::Global;
-
-/// The test of an answer's shape.
-const WRONG_SHAPE: u8 = 51;
 
 /// Tests that an answer has the parts that its verdict needs, and no others.
 fn check_shape(problem: &Problem, answer: &Answer) -> Result<(), CheckStop>
     ensures shape { IfOk result (λ _.
         ShapeOfClaim problem.now answer.now.verdict answer.now.costs answer.now.floor answer.now.proof × (answer.now.unfinished ≡ None)) }
-    ensures first { IfErr result (StopsBy (OnWhole 51 (HasWrongShape problem.now answer.now) ∷ [])) }
+    ensures first { IfErr result (StopsBy (OnWhole (number_of WrongShape) (HasWrongShape problem.now answer.now) ∷ [])) }
 {
     let costs = answer.costs.as_ref();
     let proof = answer.proof.as_ref();
@@ -34,7 +33,7 @@ fn check_shape(problem: &Problem, answer: &Answer) -> Result<(), CheckStop>
         return Ok(());
     }
     Err(CheckStop::Refused {
-        number: WRONG_SHAPE,
+        fault: CheckFault::WrongShape,
         place: 0,
     })
 }
@@ -89,10 +88,8 @@ fn check_evidence(
 ///
 /// # Errors
 ///
-/// `Refused` with the number and the place of the first test that is met, in this order: 49 the verdict claims nothing,
-/// 51 wrong shape, 50 wrong places, 53 unequal ends, 45 out of bounds, 47 wrong greatest cost, 46 not the only cheapest
-/// path, 52 false floor; for each row 40 no path of its request and 41 no rival; for each line of the tree 48 too great
-/// multipliers, 43 nothing refuted, 42 a weak step and 44 an open leaf. `OutOfMemory` where memory ran out.
+/// `Refused` with the first test that is met and its place, in the order of `CheckFault`: the tests of each row are made row
+/// by row, and those of each line of the tree line by line. `OutOfMemory` where memory ran out.
 pub fn check(alloc: Global, problem: &Problem, answer: &Answer) -> Result<Accepted, CheckStop>
     ensures valid { IfOk result (λ _. IsValid problem.now answer.now) }
     ensures claimed { IfOk result (IsAcceptedAs answer.now.verdict) }

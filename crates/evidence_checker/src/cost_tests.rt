@@ -1,4 +1,6 @@
 //! The tests of the costs and the floor of an optimal answer, each with its refusal.
+ghost use Rattle.evidence_checker.specs.declared.fault.CheckFault.TheVariants.{FalseFloor, NotOnlyCheapest, OutOfBounds, UnequalEnds, WrongGreatest, WrongPlaces};
+ghost use Rattle.evidence_checker.specs.Numbers.{number_of};
 ghost use Rattle.std.specs.Prelude.{◌≡◌, ℕ, ◌≤◌, [], ◌∷◌, length, All, IfOk, IfErr};
 ghost use Rattle.path_rows.specs.Answers.{Names, GivesCosts};
 ghost use Rattle.path_rows.specs.Boxes.{IsInBox};
@@ -8,38 +10,25 @@ ghost use Rattle.evidence_checker.specs.Costs.{IsOnlyAt};
 ghost use Rattle.evidence_checker.specs.Refusals.{OnWhole, AtFirst, StopsBy};
 ghost use Rattle.evidence_checker.specs.Tests.{NamesPlaces, HasUnequalEnds, IsOutside, HasWrongGreatest, IsNotOnly, IsFalseFloor, costs_given, cost_tests};
 
-use crate::CheckStop;
 use crate::costs::{costs_given, first_outside, first_unequal, greatest_of, names_places};
 use crate::paths::first_not_only;
 use crate::problem_parts::{high_of, keeps, low_of, names_of};
 use crate::shape::is_false_floor;
+use crate::{CheckFault, CheckStop};
 use cost_base::OutOfMemory;
 use path_rows::{CostLine, Costs, Floor, Problem};
 use std::alloc::Global;
 
-/// The test of the places that the lines name.
-const WRONG_PLACES: u8 = 50;
-/// The test of the lines of one variable.
-const ENDS_UNEQUAL: u8 = 53;
-/// The test of bounds.
-const OUT_OF_BOUNDS: u8 = 45;
-/// The test of the greatest cost.
-const WRONG_GREATEST: u8 = 47;
-/// The test of the requested paths.
-const NOT_ONLY: u8 = 46;
-/// The test of a floor.
-const FALSE_FLOOR: u8 = 52;
-
 /// Tests that the lines name the free interfaces, each once, in their order.
 fn check_places(problem: &Problem, lines: &[CostLine]) -> Result<(), CheckStop>
     ensures named { IfOk result (λ _. NamesPlaces problem.now.vars lines.now) }
-    ensures first { IfErr result (StopsBy (OnWhole 50 (NamesPlaces problem.now.vars lines.now → ⊥) ∷ [])) }
+    ensures first { IfErr result (StopsBy (OnWhole (number_of WrongPlaces) (NamesPlaces problem.now.vars lines.now → ⊥) ∷ [])) }
 {
     if names_places(names_of(problem), lines) {
         return Ok(());
     }
     Err(CheckStop::Refused {
-        number: WRONG_PLACES,
+        fault: CheckFault::WrongPlaces,
         place: 0,
     })
 }
@@ -58,12 +47,12 @@ fn check_ends(problem: &Problem, lines: &[CostLine], costs: &[u16]) -> Result<()
     requires named { NamesPlaces problem.now.vars lines.now }
     requires given { costs.now ≡ costs_given problem.now lines.now }
     ensures names { IfOk result (λ _. Names problem.now lines.now costs.now) }
-    ensures first { IfErr result (StopsBy (AtFirst 53 (HasUnequalEnds problem.now.vars lines.now) ∷ [])) }
+    ensures first { IfErr result (StopsBy (AtFirst (number_of UnequalEnds) (HasUnequalEnds problem.now.vars lines.now) ∷ [])) }
 {
     keeps(problem);
     match first_unequal(names_of(problem), lines, costs) {
         Some(var) => Err(CheckStop::Refused {
-            number: ENDS_UNEQUAL,
+            fault: CheckFault::UnequalEnds,
             place: u64::from(var),
         }),
         None => Ok(()),
@@ -74,12 +63,12 @@ fn check_ends(problem: &Problem, lines: &[CostLine], costs: &[u16]) -> Result<()
 fn check_bounds(problem: &Problem, costs: &[u16]) -> Result<(), CheckStop>
     requires { length costs.now ≡ length problem.now.low }
     ensures within { IfOk result (λ _. IsInBox (box_of problem.now) costs.now) }
-    ensures first { IfErr result (StopsBy (AtFirst 45 (IsOutside problem.now.low problem.now.high costs.now) ∷ [])) }
+    ensures first { IfErr result (StopsBy (AtFirst (number_of OutOfBounds) (IsOutside problem.now.low problem.now.high costs.now) ∷ [])) }
 {
     keeps(problem);
     match first_outside(low_of(problem), high_of(problem), costs) {
         Some(var) => Err(CheckStop::Refused {
-            number: OUT_OF_BOUNDS,
+            fault: CheckFault::OutOfBounds,
             place: u64::from(var),
         }),
         None => Ok(()),
@@ -89,13 +78,13 @@ fn check_bounds(problem: &Problem, costs: &[u16]) -> Result<(), CheckStop>
 /// Tests that the claimed, the printed and the true greatest cost are one number.
 fn check_greatest(greatest: u16, printed: u16, costs: &[u16]) -> Result<(), CheckStop>
     ensures same { IfOk result (λ _. (printed ≡ greatest) × (greatest_cost costs.now ≡ greatest)) }
-    ensures first { IfErr result (StopsBy (OnWhole 47 (HasWrongGreatest greatest printed costs.now) ∷ [])) }
+    ensures first { IfErr result (StopsBy (OnWhole (number_of WrongGreatest) (HasWrongGreatest greatest printed costs.now) ∷ [])) }
 {
     if printed == greatest && greatest_of(costs) == greatest {
         return Ok(());
     }
     Err(CheckStop::Refused {
-        number: WRONG_GREATEST,
+        fault: CheckFault::WrongGreatest,
         place: 0,
     })
 }
@@ -104,11 +93,11 @@ fn check_greatest(greatest: u16, printed: u16, costs: &[u16]) -> Result<(), Chec
 fn check_paths(alloc: Global, problem: &Problem, costs: &[u16]) -> Result<(), CheckStop>
     requires { IsInBox (box_of problem.now) costs.now }
     ensures only { IfOk result (λ _. All (IsOnlyAt problem.now.graph costs.now) problem.now.paths) }
-    ensures first { IfErr result (StopsBy (AtFirst 46 (IsNotOnly problem.now costs.now) ∷ [])) }
+    ensures first { IfErr result (StopsBy (AtFirst (number_of NotOnlyCheapest) (IsNotOnly problem.now costs.now) ∷ [])) }
 {
     match first_not_only(alloc, &problem.graph, problem.paths.as_slice(), costs)? {
         Some(place) => Err(CheckStop::Refused {
-            number: NOT_ONLY,
+            fault: CheckFault::NotOnlyCheapest,
             place,
         }),
         None => Ok(()),
@@ -118,11 +107,11 @@ fn check_paths(alloc: Global, problem: &Problem, costs: &[u16]) -> Result<(), Ch
 /// Tests the floor.
 fn check_floor(problem: &Problem, greatest: u16, floor: Floor) -> Result<(), CheckStop>
     ensures true_floor { IfOk result (λ _. IsFalseFloor problem.now greatest floor → ⊥) }
-    ensures first { IfErr result (StopsBy (OnWhole 52 (IsFalseFloor problem.now greatest floor) ∷ [])) }
+    ensures first { IfErr result (StopsBy (OnWhole (number_of FalseFloor) (IsFalseFloor problem.now greatest floor) ∷ [])) }
 {
     if is_false_floor(problem, greatest, floor) {
         return Err(CheckStop::Refused {
-            number: FALSE_FLOOR,
+            fault: CheckFault::FalseFloor,
             place: 0,
         });
     }

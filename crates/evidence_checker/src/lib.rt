@@ -4,8 +4,8 @@
 mod checker;
 mod cost_tests;
 mod costs;
+mod fault;
 mod lines;
-mod open_boxes;
 mod paths;
 mod problem_parts;
 mod products;
@@ -13,11 +13,8 @@ mod rows;
 mod shape;
 mod stop;
 mod sums;
-mod terms;
 mod tree;
 
 pub use checker::check;
+pub use fault::CheckFault;
 pub use stop::{Accepted, CheckStop};
-
-#[cfg(test)]
-mod tests;

@@ -2,24 +2,19 @@
 ghost use Rattle.std.specs.Prelude.{◌≡◌, ◌↔◌, ℕ, [], ◌∷◌, length, map, slice_get, All, IsTrue, ◌++◌, IfOk, IfErr, OnOk, MatchOption};
 ghost use Rattle.cost_base.specs.Order.{FirstOf};
 ghost use Rattle.area_graph.specs.Paths.{IsPathOf};
+ghost use Rattle.path_rows.specs.Forms.{IsSmallForm};
 ghost use Rattle.path_rows.specs.Problems.{ends_of};
 ghost use Rattle.path_rows.specs.Rows.{IsRow, forms_of_rows, form_of_row};
 ghost use Rattle.evidence_checker.specs.Refusals.{StopsBy, AtFirstItem};
-ghost use Rattle.evidence_checker.specs.Terms.{dense, IsSmallTerms};
+ghost use Rattle.evidence_checker.specs.Numbers.{number_of};
 ghost use Rattle.evidence_checker.specs.Tests.{row_tests};
 ghost use Rattle.evidence_checker.specs.Routes.{route_tests, IsRival};
 
-use crate::CheckStop;
-use crate::terms::{Terms, terms_of};
+use crate::{CheckFault, CheckStop};
 use area_graph::{Graph, Path, is_path_of};
 use cost_base::{Listed, OutOfMemory};
-use path_rows::{Problem, Request, Row, form_of};
+use path_rows::{Form, Problem, Request, Row, form_of};
 use std::alloc::Global;
-
-/// The test of a row's path.
-const NOT_A_PATH: u8 = 40;
-/// The test of a row's path against the requested one.
-const NOT_A_RIVAL: u8 = 41;
 
 /// The same numbers.
 fn copied(alloc: Global, numbers: &[u32]) -> Result<Listed<u32>, OutOfMemory>
@@ -46,75 +41,74 @@ fn is_route(
     Ok(is_path_of(graph, &path, request.end, request.gone.as_slice()))
 }
 
-/// The number of the first test that edges meet as a rival of a request's path.
+/// The first test that edges meet as a rival of a request's path.
 fn route_fault(
     alloc: Global,
     graph: &Graph,
     request: &Request,
     edges: &[u32],
-) -> Result<Option<u8>, OutOfMemory>
+) -> Result<Option<CheckFault>, OutOfMemory>
     ensures { IfOk result (λ fault. MatchOption fault
         (IsRival graph.now request.now edges.now)
-        (FirstOf (route_tests graph.now request.now edges.now))) }
+        (λ f. FirstOf (route_tests graph.now request.now edges.now) (number_of f))) }
 {
     if !is_route(alloc, graph, request, edges)? {
-        return Ok(Some(NOT_A_PATH));
+        return Ok(Some(CheckFault::NotAPath));
     }
     if edges == request.path.edges.as_slice() {
-        return Ok(Some(NOT_A_RIVAL));
+        return Ok(Some(CheckFault::NotARival));
     }
     Ok(None)
 }
 
-/// The number of the first test that a row meets.
-fn row_fault(alloc: Global, problem: &Problem, row: &Row) -> Result<Option<u8>, OutOfMemory>
-    ensures { IfOk result (λ fault. MatchOption fault (IsRow problem.now row.now) (FirstOf (row_tests problem.now row.now))) }
+/// The first test that a row meets.
+fn row_fault(alloc: Global, problem: &Problem, row: &Row) -> Result<Option<CheckFault>, OutOfMemory>
+    ensures { IfOk result (λ fault. MatchOption fault (IsRow problem.now row.now) (λ f. FirstOf (row_tests problem.now row.now) (number_of f))) }
 {
     match problem.paths.as_slice().get(row.request as usize) {
         Some(request) => route_fault(alloc, &problem.graph, request, row.rival.edges.as_slice()),
-        None => Ok(Some(NOT_A_PATH)),
+        None => Ok(Some(CheckFault::NotAPath)),
     }
 }
 
-/// The terms of a row's form.
-fn terms_of_row(alloc: Global, problem: &Problem, row: &Row) -> Result<Terms, OutOfMemory>
+/// The form of a row.
+fn form_of_rival(alloc: Global, problem: &Problem, row: &Row) -> Result<Form, OutOfMemory>
     requires { IsRow problem.now row.now }
-    ensures form { IfOk result (λ terms. dense (length problem.now.low) terms ≡ form_of_row problem.now row.now) }
-    ensures small { IfOk result (λ terms. IsSmallTerms (length problem.now.low) terms) }
+    ensures form { IfOk result (λ form. form ≡ form_of_row problem.now row.now) }
+    ensures small { IfOk result (λ form. IsSmallForm (length problem.now.low) form) }
 {
-    let form = form_of(alloc, problem, row)?;
-    terms_of(alloc, &form)
+    form_of(alloc, problem, row)
 }
 
 /// One form more.
-fn push_terms(forms: &mut Vec<Terms>, terms: Terms) -> Result<(), OutOfMemory>
-    ensures { OnOk result (forms.new.items ≡ forms.old.items ++ terms ∷ []) }
+fn push_form(forms: &mut Vec<Form>, form: Form) -> Result<(), OutOfMemory>
+    ensures { OnOk result (forms.new.items ≡ forms.old.items ++ form ∷ []) }
 {
-    match forms.push(terms) {
+    match forms.push(form) {
         Ok(()) => Ok(()),
         Err(_) => Err(OutOfMemory),
     }
 }
 
-/// The forms of the rows, each by its terms, made once. The rows are tested in order.
+/// The forms of the rows. The rows are tested in order.
 pub(crate) fn forms_of(
     alloc: Global,
     problem: &Problem,
     rows: &[Row],
-) -> Result<Vec<Terms>, CheckStop>
+) -> Result<Vec<Form>, CheckStop>
     ensures rows { IfOk result (λ _. All (IsRow problem.now) rows.now) }
-    ensures forms { IfOk result (λ forms. map (dense (length problem.now.low)) forms.items ≡ forms_of_rows problem.now rows.now) }
-    ensures small { IfOk result (λ forms. All (IsSmallTerms (length problem.now.low)) forms.items) }
+    ensures forms { IfOk result (λ forms. forms.items ≡ forms_of_rows problem.now rows.now) }
+    ensures small { IfOk result (λ forms. All (IsSmallForm (length problem.now.low)) forms.items) }
     ensures first { IfErr result (StopsBy (AtFirstItem (row_tests problem.now) 0 rows.now ∷ [])) }
 {
     let mut forms = Vec::new(alloc);
     for (index, row) in rows.iter().enumerate() {
-        if let Some(number) = row_fault(alloc, problem, row)? {
+        if let Some(fault) = row_fault(alloc, problem, row)? {
             let place = index as u64;
-            return Err(CheckStop::Refused { number, place });
+            return Err(CheckStop::Refused { fault, place });
         }
-        let terms = terms_of_row(alloc, problem, row)?;
-        push_terms(&mut forms, terms)?;
+        let form = form_of_rival(alloc, problem, row)?;
+        push_form(&mut forms, form)?;
     }
     Ok(forms)
 }

@@ -1,4 +1,6 @@
 //! The shape of an answer: which parts stand for which verdict.
+ghost use Rattle.evidence_checker.specs.declared.fault.CheckFault.TheVariants.{NothingClaimed};
+ghost use Rattle.evidence_checker.specs.Numbers.{number_of};
 ghost use Rattle.std.specs.Prelude.{◌≡◌, ◌↔◌, [], ◌∷◌, ◌≤◌, All, IsTrue, IfOk, IfErr};
 ghost use Rattle.std.specs.Option.{option_copied};
 ghost use Rattle.path_rows.specs.Answers.{greatest_bound};
@@ -7,22 +9,19 @@ ghost use Rattle.evidence_checker.specs.Refusals.{OnWhole, StopsBy};
 ghost use Rattle.evidence_checker.specs.Tests.{ClaimsNothing, ShapeOfClaim, ShapeOfLeast, ShapeOfNone, IsFalseFloor};
 
 use crate::costs::greatest_of;
-use crate::{Accepted, CheckStop};
+use crate::{Accepted, CheckFault, CheckStop};
 use path_rows::{CapTree, Costs, Floor, Problem, Verdict};
-
-/// The test of a verdict.
-const NOTHING_CLAIMED: u8 = 49;
 
 /// What a verdict claims.
 pub(crate) fn claimed(verdict: Verdict) -> Result<Accepted, CheckStop>
     ensures claim { IfOk result (IsAcceptedAs verdict) }
-    ensures first { IfErr result (StopsBy (OnWhole 49 (ClaimsNothing verdict) ∷ [])) }
+    ensures first { IfErr result (StopsBy (OnWhole (number_of NothingClaimed) (ClaimsNothing verdict) ∷ [])) }
 {
     match verdict {
         Verdict::Optimal(greatest) => Ok(Accepted::Optimal(greatest)),
         Verdict::Impossible => Ok(Accepted::Impossible),
         Verdict::Budget(_) => Err(CheckStop::Refused {
-            number: NOTHING_CLAIMED,
+            fault: CheckFault::NothingClaimed,
             place: 0,
         }),
     }

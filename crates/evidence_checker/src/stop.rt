@@ -1,4 +1,5 @@
 //! What a check answers.
+use crate::CheckFault;
 use cost_base::OutOfMemory;
 
 /// What was accepted.
@@ -13,9 +14,9 @@ pub enum Accepted {
 /// Why an answer isn't accepted.
 #[derive(Clone, Copy, Debug, PartialEq, Eq)]
 pub enum CheckStop {
-    /// The number of the first test that is met, 40 to 53, and the first place where it is met: a variable, a request, a
-    /// row or a line of the tree, each counted from 0, and 0 for a test of the answer as a whole.
-    Refused { number: u8, place: u64 },
+    /// The first test that is met, and the first place where it is met: a variable, a request, a row or a line of the
+    /// tree, each counted from 0, and 0 for a test of the answer as a whole.
+    Refused { fault: CheckFault, place: u64 },
     /// Memory ran out. It says nothing of the answer.
     OutOfMemory,
 }

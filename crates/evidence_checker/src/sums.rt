@@ -1,11 +1,10 @@
 //! Weighted sums of forms, and whether they are negative over a whole box.
 ghost use Rattle.std.specs.Prelude.{◌≡◌, ◌↔◌, ℕ, ◌+◌, ◌*◌, ◌^◌, ◌<◌, ◌≤◌, ℤ, pos, ◌+ℤ◌, ◌*ℤ◌, ◌<ℤ◌, nat_abs, length, map, slice_index_or, All, Any, IsTrue, MatchBool, sum_by};
 ghost use Rattle.path_rows.specs.Boxes.{upper_sum, greatest};
-ghost use Rattle.path_rows.specs.Forms.{weighted};
-ghost use Rattle.evidence_checker.specs.Terms.{coefficient_at, dense, IsSmallTerms};
+ghost use Rattle.path_rows.specs.Forms.{weighted, IsSmallForm};
 
 use crate::products::{greatest_term, plus_product};
-use crate::terms::Terms;
+use path_rows::{CostBox, Form};
 
 /// The sum of a Refute's multipliers is below this.
 const MOST: u128 = 1 << 100;
@@ -36,17 +35,19 @@ pub(crate) fn rows_are_known(parts: &[(u64, u128)], count: usize) -> bool
     true
 }
 
-/// Adds the terms, each times the multiplier, to the sums of their variables.
-fn add_terms(sums: &mut [i128], multiplier: u128, terms: &[(usize, i64)])
-    requires known { All (λ t. t.0 < length sums.old) terms.now }
+/// Adds a form's coefficients, each times the multiplier, to the sums of their variables.
+fn add_form(sums: &mut [i128], multiplier: u128, form: &Form)
+    requires count { length form.now.coefficients ≡ length sums.old }
     requires multiplier { multiplier < 2 ^ 100 }
     requires room { (i : ℕ) → i < length sums.old →
-        nat_abs (slice_index_or sums.old i (pos 0)) + multiplier * sum_by (λ t. nat_abs t.1) terms.now < 2 ^ 127 }
+        nat_abs (slice_index_or sums.old i (pos 0)) + multiplier * sum_by nat_abs form.now.coefficients < 2 ^ 127 }
     ensures { (i : ℕ) → i < length sums.old →
-        slice_index_or sums.new i (pos 0) ≡ (slice_index_or sums.old i (pos 0) +ℤ (pos multiplier *ℤ coefficient_at terms.now i)) }
+        slice_index_or sums.new i (pos 0) ≡ (slice_index_or sums.old i (pos 0) +ℤ (pos multiplier *ℤ slice_index_or form.now.coefficients i (pos 0))) }
 {
+    let terms = form.terms();
     for term in terms {
-        sums[term.0] = plus_product(sums[term.0], multiplier, term.1);
+        let var = term.var as usize;
+        sums[var] = plus_product(sums[var], multiplier, term.coefficient);
     }
 }
 
@@ -66,20 +67,20 @@ fn greatest_sum(constant: i128, coefficients: &[i128], low: &[u16], high: &[u16]
 
 /// Adds up the forms of some rows, each times its multiplier: their coefficients into `sums`, which are 0 before, and
 /// the constant as the answer.
-fn add_parts(forms: &[Terms], parts: &[(u64, u128)], sums: &mut [i128]) -> i128
-    requires forms { All (IsSmallTerms (length sums.old)) forms.now }
+fn add_parts(forms: &[Form], parts: &[(u64, u128)], sums: &mut [i128]) -> i128
+    requires forms { All (IsSmallForm (length sums.old)) forms.now }
     requires rows { All (λ part. part.0 < length forms.now) parts.now }
     requires sum { sum_by (λ part. part.1) parts.now < 2 ^ 100 }
     requires empty { (i : ℕ) → slice_index_or sums.old i (pos 0) ≡ pos 0 }
-    ensures constant { result ≡ (weighted (map (dense (length sums.old)) forms.now) parts.now).constant }
+    ensures constant { result ≡ (weighted forms.now parts.now).constant }
     ensures coefficients { (i : ℕ) → i < length sums.old →
-        slice_index_or sums.new i (pos 0) ≡ slice_index_or (weighted (map (dense (length sums.old)) forms.now) parts.now).coefficients i (pos 0) }
+        slice_index_or sums.new i (pos 0) ≡ slice_index_or (weighted forms.now parts.now).coefficients i (pos 0) }
 {
     let mut constant = 0i128;
     for part in parts {
         let form = &forms[part.0 as usize];
-        constant = plus_product(constant, part.1, form.constant);
-        add_terms(sums, part.1, &form.items);
+        constant = plus_product(constant, part.1, form.constant());
+        add_form(sums, part.1, form);
     }
     constant
 }
@@ -87,21 +88,20 @@ fn add_parts(forms: &[Terms], parts: &[(u64, u128)], sums: &mut [i128]) -> i128
 /// Whether the weighted sum of the forms is negative at its greatest over the box. The sums are room for a number for
 /// each variable.
 pub(crate) fn refutes(
-    forms: &[Terms],
+    forms: &[Form],
     parts: &[(u64, u128)],
-    low: &[u16],
-    high: &[u16],
+    costs: &CostBox,
     sums: &mut [i128],
 ) -> bool
-    requires low { length sums.old ≡ length low.now }
-    requires high { length sums.old ≡ length high.now }
-    requires forms { All (IsSmallTerms (length sums.old)) forms.now }
+    requires low { length sums.old ≡ length costs.now.low }
+    requires high { length sums.old ≡ length costs.now.high }
+    requires forms { All (IsSmallForm (length sums.old)) forms.now }
     requires rows { All (λ part. part.0 < length forms.now) parts.now }
     requires sum { sum_by (λ part. part.1) parts.now < 2 ^ 100 }
     ensures { IsTrue result ↔
-        (greatest (weighted (map (dense (length sums.old)) forms.now) parts.now) (record { low = low.now; high = high.now }) <ℤ pos 0) }
+        (greatest (weighted forms.now parts.now) costs.now <ℤ pos 0) }
 {
     sums.fill(0);
     let constant = add_parts(forms, parts, sums);
-    greatest_sum(constant, sums, low, high) < 0
+    greatest_sum(constant, sums, costs.low.as_slice(), costs.high.as_slice()) < 0
 }

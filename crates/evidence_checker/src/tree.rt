@@ -1,16 +1,17 @@
 //! The lines of a tree, gone through in order.
-ghost use Rattle.std.specs.Prelude.{◌≡◌, ℕ, [], ◌∷◌, length, map, min, All, IfOk, IfErr, pos};
+ghost use Rattle.std.specs.Prelude.{◌≡◌, ℕ, List, [], ◌∷◌, ◌++◌, length, map, min, All, IfOk, IfErr, false, MatchBool, MatchOption};
 ghost use Rattle.path_rows.specs.Boxes.{capped};
-ghost use Rattle.path_rows.specs.Trees.{IsSoundTree, IsClosed, IsWholeTree};
+ghost use Rattle.path_rows.specs.Forms.{Form, IsSmallForm};
+ghost use Rattle.path_rows.specs.Trees.{IsSoundTree, IsClosed, IsWholeTree, SoundAt, is_undone, subboxes};
 ghost use Rattle.evidence_checker.specs.Refusals.{StopsBy};
-ghost use Rattle.evidence_checker.specs.Terms.{dense, IsSmallTerms};
-ghost use Rattle.evidence_checker.specs.Tests.{AtFirstLine};
+ghost use Rattle.cost_base.specs.Order.{FirstOf};
+ghost use Rattle.evidence_checker.specs.Numbers.{number_of};
+ghost use Rattle.evidence_checker.specs.Tests.{AtFirstLine, line_tests};
 
-use crate::CheckStop;
-use crate::open_boxes::OpenBoxes;
-use crate::terms::Terms;
-use cost_base::OutOfMemory;
-use path_rows::{CapTree, Entry};
+use crate::lines::line_fault;
+use crate::{CheckFault, CheckStop};
+use cost_base::{Listed, OutOfMemory};
+use path_rows::{CapTree, CostBox, Entry, Form, OpenBoxes};
 use std::alloc::Global;
 
 /// Room for the sums of so many variables.
@@ -23,32 +24,67 @@ fn room_for_sums(alloc: Global, count: usize) -> Result<Vec<i128>, OutOfMemory>
     }
 }
 
+/// Goes on after a line that is sound at the present box, and says whether a box is still open.
+fn go_on(boxes: &mut OpenBoxes, entry: &Entry) -> Result<bool, OutOfMemory>
+    requires { (forms : List Form) × SoundAt forms boxes.old.present entry.now }
+    ensures { IfOk result (λ more. MatchBool more
+        (subboxes boxes.old.present entry.now ++ boxes.old.behind ≡ boxes.new.present ∷ boxes.new.behind)
+        (subboxes boxes.old.present entry.now ++ boxes.old.behind ≡ [])) }
+{
+    match entry {
+        Entry::Tighten {
+            var,
+            side,
+            value,
+            ..
+        } => boxes.tighten(*var, *side, *value)?,
+        Entry::Split { var, value } => boxes.cut(*var, *value)?,
+        Entry::Halve { var, value, .. } => boxes.cut(*var, *value)?,
+        Entry::Refute { .. } | Entry::Undone => return Ok(boxes.close()),
+    }
+    Ok(true)
+}
+
+/// The first test that a line meets at a box. The sums are room for a number for each variable, before and after.
+fn fault_at(
+    forms: &[Form],
+    costs: &CostBox,
+    sums: &mut Vec<i128>,
+    entry: &Entry,
+) -> Option<CheckFault>
+    requires low { length sums.old.items ≡ length costs.now.low }
+    requires high { length sums.old.items ≡ length costs.now.high }
+    requires forms { All (IsSmallForm (length sums.old.items)) forms.now }
+    ensures first { MatchOption result
+        (SoundAt forms.now costs.now entry.now × (is_undone entry.now ≡ false))
+        (λ f. FirstOf (line_tests forms.now costs.now entry.now) (number_of f)) }
+    ensures sums { length sums.new.items ≡ length sums.old.items }
+{
+    line_fault(forms, costs, sums, entry)
+}
+
 /// Whether a tree is closed and sound over a box: its lines are gone through in order with one box and a stack of the ends
 /// that were changed, so it recurses on no depth and copies no box.
 pub(crate) fn check_tree(
     alloc: Global,
-    forms: &[Terms],
-    low: Vec<u16>,
-    high: Vec<u16>,
+    forms: &[Form],
+    costs: CostBox,
     entries: &[Entry],
 ) -> Result<(), CheckStop>
-    requires count { length low.items ≡ length high.items }
-    requires forms { All (IsSmallTerms (length low.items)) forms.now }
+    requires count { length costs.low ≡ length costs.high }
+    requires forms { All (IsSmallForm (length costs.low)) forms.now }
     requires whole { IsWholeTree entries.now }
-    ensures sound { IfOk result (λ _.
-        IsSoundTree (map (dense (length low.items)) forms.now) (record { low = low.items; high = high.items }) entries.now × IsClosed entries.now) }
-    ensures first { IfErr result (StopsBy
-        (AtFirstLine (map (dense (length low.items)) forms.now) (record { low = low.items; high = high.items } ∷ []) 0 entries.now ∷ [])) }
+    ensures sound { IfOk result (λ _. IsSoundTree forms.now costs entries.now × IsClosed entries.now) }
+    ensures first { IfErr result (StopsBy (AtFirstLine forms.now (costs ∷ []) 0 entries.now ∷ [])) }
 {
-    let mut sums = room_for_sums(alloc, low.len())?;
-    let changes = Vec::new(alloc);
-    let mut boxes = OpenBoxes { low, high, changes };
+    let mut sums = room_for_sums(alloc, costs.low.as_slice().len())?;
+    let mut boxes = OpenBoxes::new(alloc, costs);
     for (line, entry) in entries.iter().enumerate() {
-        if let Some(number) = boxes.fault(forms, &mut sums, entry) {
+        if let Some(fault) = fault_at(forms, boxes.present(), &mut sums, entry) {
             let place = line as u64;
-            return Err(CheckStop::Refused { number, place });
+            return Err(CheckStop::Refused { fault, place });
         }
-        if !boxes.go_on(entry)? {
+        if !go_on(&mut boxes, entry)? {
             return Ok(());
         }
     }
@@ -80,17 +116,21 @@ pub(crate) fn check_cap_tree(
     alloc: Global,
     low: &[u16],
     high: &[u16],
-    forms: &[Terms],
+    forms: &[Form],
     proof: &CapTree,
 ) -> Result<(), CheckStop>
     requires count { length low.now ≡ length high.now }
-    requires forms { All (IsSmallTerms (length low.now)) forms.now }
+    requires forms { All (IsSmallForm (length low.now)) forms.now }
     ensures sound { IfOk result (λ _.
-        IsSoundTree (map (dense (length low.now)) forms.now) (capped (record { low = low.now; high = high.now }) proof.now.cap) proof.now.tree × IsClosed proof.now.tree) }
+        IsSoundTree forms.now (capped (record { low = low.now; high = high.now }) proof.now.cap) proof.now.tree × IsClosed proof.now.tree) }
     ensures first { IfErr result (StopsBy
-        (AtFirstLine (map (dense (length low.now)) forms.now) (capped (record { low = low.now; high = high.now }) proof.now.cap ∷ []) 0 proof.now.tree ∷ [])) }
+        (AtFirstLine forms.now (capped (record { low = low.now; high = high.now }) proof.now.cap ∷ []) 0 proof.now.tree ∷ [])) }
 {
     let low = lower_bounds(alloc, low)?;
     let high = upper_bounds(alloc, high, proof.cap)?;
-    check_tree(alloc, forms, low, high, proof.tree.as_slice())
+    let costs = CostBox {
+        low: Listed::from_items(low),
+        high: Listed::from_items(high),
+    };
+    check_tree(alloc, forms, costs, proof.tree.as_slice())
 }

@@ -2,15 +2,15 @@ use Rattle.std.proofs.Common.{length, inl, subst, sym}
 use Rattle.std.specs.Prelude.{All, List}
 use Rattle.std.proofs.lemmas.List.Elements.{All-push}
 use Rattle.path_rows.specs.Rows.{IsRow, form_of_row}
-use Rattle.evidence_checker.specs.declared.terms.Terms.{Terms}
-use Rattle.evidence_checker.specs.Terms.{dense, IsSmallTerms}
+use Rattle.path_rows.specs.Forms.{Form, IsSmallForm}
+use Rattle.evidence_checker.specs.Numbers.{number_of}
 use Rattle.evidence_checker.proofs.RowLaws.{first_goes_on, first_is_here, forms_more, rows_more, at_none, at_some}
 use Rattle.evidence_checker.proofs.rows.forms_of.Goals as goal
 
 pub returns-in-Some-clause-first : goal.returns-in-Some-clause-first
 returns-in-Some-clause-first c =
-    inl (first_is_here c.args.problem.now c.args.rows.now c.loop-index.index c.in-Some.number c.index-rows-index.result c.loop-index-test.true c.index-rows-index.is
-    (at_some _ _ c.in_ok-number.field-0 c.in-Some.number c.in-Some.is c.in_ok-number.ensures) c.loop-index.invariant.first)
+    inl (first_is_here c.args.problem.now c.args.rows.now c.loop-index.index (number_of c.in-Some.fault) c.index-rows-index.result c.loop-index-test.true c.index-rows-index.is
+    (at_some _ _ c.in_ok-fault.field-0 c.in-Some.fault c.in-Some.is c.in_ok-fault.ensures) c.loop-index.invariant.first)
 
 pub loop-index-preserved : goal.loop-index-preserved
 loop-index-preserved c =
@@ -18,11 +18,11 @@ loop-index-preserved c =
     let rows = c.args.rows.now in
     let k = c.loop-index.index in
     let row = c.index-rows-index.result in
-    let is_row : IsRow p row = at_none _ _ c.in_ok-number.field-0 c.in_default.is c.in_ok-number.ensures in
+    let is_row : IsRow p row = at_none _ _ c.in_ok-fault.field-0 c.in_default.is c.in_ok-fault.ensures in
     let n = length p.low in
     record {
       rows = rows_more p rows k row c.loop-index-test.true c.index-rows-index.is is_row c.loop-index.invariant.rows;
-      forms = forms_more (dense n) (form_of_row p) c.loop-index.forms.items c.push_terms.new.forms.items c.in_ok-terms.terms rows k row c.in_ok-push_terms.ensures c.in_ok-terms.ensures.form c.loop-index-test.true c.index-rows-index.is c.loop-index.invariant.forms;
-      small = subst (λ (ts : List Terms). All (IsSmallTerms n) ts) (sym c.in_ok-push_terms.ensures) (All-push (IsSmallTerms n) c.loop-index.forms.items c.in_ok-terms.terms c.loop-index.invariant.small c.in_ok-terms.ensures.small);
+      forms = forms_more (form_of_row p) c.loop-index.forms.items c.push_form.new.forms.items c.in_ok-form.form rows k row c.in_ok-push_form.ensures c.in_ok-form.ensures.form c.loop-index-test.true c.index-rows-index.is c.loop-index.invariant.forms;
+      small = subst (λ (fs : List Form). All (IsSmallForm n) fs) (sym c.in_ok-push_form.ensures) (All-push (IsSmallForm n) c.loop-index.forms.items c.in_ok-form.form c.loop-index.invariant.small c.in_ok-form.ensures.small);
       first = first_goes_on p rows k row c.loop-index-test.true c.index-rows-index.is is_row c.loop-index.invariant.first;
     }

@@ -1,12 +1,11 @@
-use Rattle.std.proofs.Common.{◌≡◌, ℕ, ◌*◌, ◌^◌, ◌<◌, ◌≤◌, drop, take, length, get_or, map}
+use Rattle.std.proofs.Common.{◌≡◌, ℕ, ◌*◌, ◌^◌, ◌<◌, ◌≤◌, drop, take, length, get_or}
 use Rattle.std.specs.Prelude.{pos, ◌+ℤ◌, nat_abs, sum_by}
 use Rattle.path_rows.specs.Forms.{weighted}
-use Rattle.evidence_checker.specs.Terms.{dense}
 use Rattle.evidence_checker.proofs.sums.add_parts.Given as goal
 
 abbrev pub invariant-loop-part : goal.invariant-loop-part
 invariant-loop-part l =
-    let forms = map (dense (length l.initial.sums)) l.forms in
+    let forms = l.forms in
     let used = sum_by (λ part. part.1) (take l.part-index l.parts) in
     record {
       constant : (l.constant +ℤ (weighted forms (drop l.part-index l.parts)).constant) ≡ (weighted forms l.parts).constant;

@@ -1,68 +1,85 @@
-use Rattle.std.proofs.Common.{◌+◌, sym, ◌∙◌, ap, subst, List, ◌∷◌, [], length, map, drop, inl, refl}
-use Rattle.std.specs.Prelude.{None, Some}
-use Rattle.path_rows.specs.declared.form.Form.{Form}
+use Rattle.std.proofs.Common.{◌≡◌, ℕ, ◌+◌, sym, ◌∙◌, ap, subst, List, ◌∷◌, [], length, drop, get_or, inl, refl, arith}
+use Rattle.std.specs.Prelude.{false}
+use Rattle.std.proofs.lemmas.List.Elements.{All-cons, All-nil}
+use Rattle.cost_base.specs.Order.{FirstOf}
+use Rattle.path_rows.specs.Forms.{IsSmallForm}
+use Rattle.path_rows.specs.Stack.{OpenBoxes}
 use Rattle.path_rows.specs.declared.form.CostBox.{CostBox}
 use Rattle.path_rows.specs.declared.tree.Entry.{Entry}
-use Rattle.path_rows.specs.Trees.{SoundAt}
-use Rattle.evidence_checker.specs.Stack.{present, behind}
-use Rattle.evidence_checker.specs.Terms.{dense}
-use Rattle.evidence_checker.proofs.LineLaws.{fault_moved}
-use Rattle.evidence_checker.proofs.StackLaws.{same_present, same_behind, same_stack, same_subboxes, at_true, at_false}
-use Rattle.evidence_checker.proofs.WalkLaws.{Walks, walk_goes_on, walk_ends, walk_stops, line_read}
+use Rattle.path_rows.specs.Trees.{SoundAt, is_undone}
+use Rattle.evidence_checker.specs.Numbers.{number_of}
+use Rattle.evidence_checker.specs.Tests.{line_tests}
+use Rattle.evidence_checker.proofs.WalkLaws.{HaveEnds, Walks, at_false, at_true, line_read, next_have_ends, walk_begins, walk_ends, walk_goes_on, walk_stops}
 use Rattle.evidence_checker.proofs.tree.check_tree.Goals as goal
+
+pub loop-line-init : goal.loop-line-init
+loop-line-init c =
+    let costs = c.args.costs in
+    record {
+      walks = subst (λ (b : OpenBoxes). Walks c.args.forms.now (costs ∷ []) c.args.entries.now b.present b.behind 0 c.args.entries.now) (sym c.new-boxes.ensures) (walk_begins c.args.forms.now costs c.args.entries.now c.requires.whole);
+      ends = subst (λ (b : OpenBoxes). HaveEnds (length costs.low) (b.present ∷ b.behind)) (sym c.new-boxes.ensures) (All-cons (λ (b : CostBox). length b.low ≡ length costs.low) costs [] refl (All-nil (λ (b : CostBox). length b.low ≡ length costs.low)));
+      sums = c.in_ok-sums.ensures ∙ ap length c.as_slice.ensures;
+    }
+
+-- the present box has a lower end for each of n variables
+first_ends : (n : ℕ) (box : CostBox) (boxes : List CostBox) → HaveEnds n (box ∷ boxes) → length box.low ≡ n
+first_ends n box boxes have = have 0 box (omega arith)
+
+pub fault_at-requires-clause-low : goal.fault_at-requires-clause-low
+fault_at-requires-clause-low c =
+    c.loop-line.invariant.sums ∙ sym (ap (λ (b : CostBox). length b.low) c.present.ensures.present ∙ first_ends (length c.args.costs.low) c.loop-line.boxes.present c.loop-line.boxes.behind c.loop-line.invariant.ends)
+
+pub fault_at-requires-clause-high : goal.fault_at-requires-clause-high
+fault_at-requires-clause-high c =
+    c.loop-line.invariant.sums ∙ sym (ap (λ (b : CostBox). length b.low) c.present.ensures.present ∙ first_ends (length c.args.costs.low) c.loop-line.boxes.present c.loop-line.boxes.behind c.loop-line.invariant.ends)
+    ∙ c.present.ensures.counts
+
+pub fault_at-requires-clause-forms : goal.fault_at-requires-clause-forms
+fault_at-requires-clause-forms c k d k_in =
+    subst (λ (m : ℕ). IsSmallForm m (get_or c.args.forms.now k d)) (sym c.loop-line.invariant.sums) (c.requires.forms k d k_in)
+
+pub go_on-requires : goal.go_on-requires
+go_on-requires c =
+    (c.args.forms.now, subst (λ (box : CostBox). SoundAt c.args.forms.now box c.index-entries-line.result) c.present.ensures.present c.in_default.ensures.first.0)
 
 pub returns-in-Some-clause-first : goal.returns-in-Some-clause-first
 returns-in-Some-clause-first c =
-    let n = length c.args.low.items in
-    let forms : List Form = map (dense n) c.args.forms.now in
-    let start : List CostBox = record { low = c.args.low.items; high = c.args.high.items } ∷ [] in
+    let forms = c.args.forms.now in
+    let start : List CostBox = c.args.costs ∷ [] in
     let boxes = c.loop-line.boxes in
     let entry = c.index-entries-line.result in
     let rest = drop (c.loop-line.line + 1) c.args.entries.now in
     let read = line_read c.args.entries.now c.loop-line.line entry c.loop-line-test.true c.index-entries-line.is in
-    let walks = subst (λ (es : List Entry). Walks forms start c.args.entries.now (present boxes) (behind boxes) c.loop-line.line es) read c.loop-line.invariant.walks in
-    inl (walk_stops forms start c.args.entries.now (present boxes) (behind boxes) c.loop-line.line entry rest c.in-Some.number walks
-    (fault_moved c.args.forms.now entry (Some c.in-Some.number) (length c.loop-line.sums.items) n boxes.low.items boxes.high.items boxes.low.items boxes.high.items c.loop-line.invariant.sums refl refl c.in-Some.ensures.first))
-
-pub go_on-requires-clause-sound : goal.go_on-requires-clause-sound
-go_on-requires-clause-sound c =
-    let known = map (dense (length c.loop-line.sums.items)) c.args.forms.now in
-    (known, subst (λ (box : CostBox). SoundAt known box c.index-entries-line.result) (sym (same_present c.fault.new.self c.loop-line.boxes c.in_default.ensures.low c.in_default.ensures.high)) c.in_default.ensures.first.0)
+    let walks = subst (λ (es : List Entry). Walks forms start c.args.entries.now boxes.present boxes.behind c.loop-line.line es) read c.loop-line.invariant.walks in
+    inl (walk_stops forms start c.args.entries.now boxes.present boxes.behind c.loop-line.line entry rest (number_of c.in-Some.fault) walks
+    (subst (λ (box : CostBox). FirstOf (line_tests forms box entry) (number_of c.in-Some.fault)) c.present.ensures.present c.in-Some.ensures.first))
 
 pub returns-then-not-branch-clause-sound : goal.returns-then-not-branch-clause-sound
 returns-then-not-branch-clause-sound c =
-    let n = length c.args.low.items in
-    let forms : List Form = map (dense n) c.args.forms.now in
-    let start : List CostBox = record { low = c.args.low.items; high = c.args.high.items } ∷ [] in
+    let forms = c.args.forms.now in
+    let start : List CostBox = c.args.costs ∷ [] in
     let boxes = c.loop-line.boxes in
     let entry = c.index-entries-line.result in
     let rest = drop (c.loop-line.line + 1) c.args.entries.now in
     let read = line_read c.args.entries.now c.loop-line.line entry c.loop-line-test.true c.index-entries-line.is in
-    let walks = subst (λ (es : List Entry). Walks forms start c.args.entries.now (present boxes) (behind boxes) c.loop-line.line es) read c.loop-line.invariant.walks in
-    let here = fault_moved c.args.forms.now entry None (length c.loop-line.sums.items) n boxes.low.items boxes.high.items boxes.low.items boxes.high.items c.loop-line.invariant.sums refl refl c.in_default.ensures.first in
-    let box = same_present c.fault.new.self boxes c.in_default.ensures.low c.in_default.ensures.high in
-    let others = same_behind c.fault.new.self boxes c.in_default.ensures.low c.in_default.ensures.high c.in_default.ensures.changes in
-    walk_ends forms start c.args.entries.now (present boxes) (behind boxes) c.loop-line.line entry rest walks here.0 here.1
-    (same_subboxes entry c.fault.new.self boxes [] box others (at_false _ _ c.in_ok-go_on.field-0 c.if-not-branch.true c.in_ok-go_on.ensures.next))
+    let walks = subst (λ (es : List Entry). Walks forms start c.args.entries.now boxes.present boxes.behind c.loop-line.line es) read c.loop-line.invariant.walks in
+    let here = subst (λ (box : CostBox). SoundAt forms box entry × (is_undone entry ≡ false)) c.present.ensures.present c.in_default.ensures.first in
+    walk_ends forms start c.args.entries.now boxes.present boxes.behind c.loop-line.line entry rest walks here.0 here.1
+    (at_false _ _ c.in_ok-go_on.field-0 c.if-not-branch.true c.in_ok-go_on.ensures)
 
 pub loop-line-preserved : goal.loop-line-preserved
 loop-line-preserved c =
-    let n = length c.args.low.items in
-    let forms : List Form = map (dense n) c.args.forms.now in
-    let start : List CostBox = record { low = c.args.low.items; high = c.args.high.items } ∷ [] in
+    let forms = c.args.forms.now in
+    let start : List CostBox = c.args.costs ∷ [] in
     let boxes = c.loop-line.boxes in
     let entry = c.index-entries-line.result in
     let rest = drop (c.loop-line.line + 1) c.args.entries.now in
     let read = line_read c.args.entries.now c.loop-line.line entry c.loop-line-test.true c.index-entries-line.is in
-    let walks = subst (λ (es : List Entry). Walks forms start c.args.entries.now (present boxes) (behind boxes) c.loop-line.line es) read c.loop-line.invariant.walks in
-    let here = fault_moved c.args.forms.now entry None (length c.loop-line.sums.items) n boxes.low.items boxes.high.items boxes.low.items boxes.high.items c.loop-line.invariant.sums refl refl c.in_default.ensures.first in
-    let box = same_present c.fault.new.self boxes c.in_default.ensures.low c.in_default.ensures.high in
-    let others = same_behind c.fault.new.self boxes c.in_default.ensures.low c.in_default.ensures.high c.in_default.ensures.changes in
+    let walks = subst (λ (es : List Entry). Walks forms start c.args.entries.now boxes.present boxes.behind c.loop-line.line es) read c.loop-line.invariant.walks in
+    let here = subst (λ (box : CostBox). SoundAt forms box entry × (is_undone entry ≡ false)) c.present.ensures.present c.in_default.ensures.first in
+    let next = at_true _ _ c.in_ok-go_on.field-0 c.if-not-branch.false c.in_ok-go_on.ensures in
     record {
-      walks =
-          walk_goes_on forms start c.args.entries.now (present boxes) (behind boxes) c.loop-line.line entry rest (present c.go_on.new.self) (behind c.go_on.new.self) walks here.0 here.1
-          (same_subboxes entry c.fault.new.self boxes (present c.go_on.new.self ∷ behind c.go_on.new.self) box others (at_true _ _ c.in_ok-go_on.field-0 c.if-not-branch.false c.in_ok-go_on.ensures.next));
-      stack =
-          same_stack (length c.fault.new.self.low.items) n c.go_on.new.self c.go_on.new.self (ap length c.in_default.ensures.low ∙ c.loop-line.invariant.stack.low_count) refl refl refl c.in_ok-go_on.ensures.stack;
+      walks = walk_goes_on forms start c.args.entries.now boxes.present boxes.behind c.loop-line.line entry rest c.go_on.new.boxes.present c.go_on.new.boxes.behind walks here.0 here.1 next;
+      ends = next_have_ends (length c.args.costs.low) boxes.present boxes.behind entry c.go_on.new.boxes.present c.go_on.new.boxes.behind c.loop-line.invariant.ends next;
       sums = c.in_default.ensures.sums ∙ c.loop-line.invariant.sums;
     }
