@@ -8,8 +8,8 @@ use Rattle.path_rows.specs.Steps.{IsPivot, IsStuck}
 use Rattle.exact_simplex.specs.declared.table.Table.{Table}
 use Rattle.exact_simplex.specs.Wholes.{IsWholeTable, number_at}
 use Rattle.exact_simplex.specs.Pivots.{IsBestBelow, IsLeastIn, IsNotAfter, line_at, line_numbers, member_at}
-use Rattle.exact_simplex.proofs.RowLaws.{number_at as number_there}
-use Rattle.exact_simplex.proofs.TurnedNumbers.{numbers_long}
+use Rattle.fraction_rows.proofs.RowLaws.{number_at as number_there}
+use Rattle.exact_simplex.proofs.theory.TurnedNumbers.{numbers_long}
 use Rattle.exact_simplex.proofs.WholeTurns.{stand_at}
 use Rattle.exact_simplex.proofs.Pivots.{line_long, positive_number, whole_line}
 use Rattle.exact_simplex.proofs.Transitive.{not_after_chain}
@@ -17,7 +17,7 @@ use Rattle.exact_simplex.proofs.Transitive.{not_after_chain}
 -- a column with a positive entry in a line with a negative constant is a pivot
 pub pivot_there : (t : Table) (w : IsWholeTable t) (line k : ℕ) → (entry (line_at t line) 0).numerator <ℤ pos 0 → k < length t.costs.low → pos 0 <ℤ (entry (line_at t line) (suc k)).numerator → IsPivot t.basis.items (line_at t line) (suc k)
 pivot_there t w line k below k_in above =
-    record { column = (omega arith, omega (arith, w.count, k_in)); below = below; above = above }
+    record { column = (omega arith, omega (arith, w.unboxed.count, k_in)); below = below; above = above }
 
 -- the first column with a positive entry is the best so far
 pub first_best : (t : Table) (line column : ℕ) → IsPivot t.basis.items (line_at t line) (suc column) → IsBestBelow t line column None → IsBestBelow t line (column + 1) (Some column)
@@ -81,7 +81,7 @@ best_stuck t w line below none =
   where
     none_above : (k : ℕ) → 1 ≤ k → k ≤ length t.basis.items → (entry (line_at t line) k).numerator ≤ℤ pos 0
     none_above zero k_from k_in = absurd (omega arith)
-    none_above (suc k) k_from k_in = none k (omega (arith, w.count, k_in))
+    none_above (suc k) k_from k_in = none k (omega (arith, w.unboxed.count, k_in))
 
 -- the best of all columns is the least
 pub best_least : (t : Table) (line column : ℕ) → line < length t.lines.items → IsBestBelow t line (length t.costs.low) (Some column) → IsLeastIn t line column
@@ -96,6 +96,6 @@ best_least t line column line_in best w k k_in other a at_column above =
         let l = whole_line t w line line_in in
         let long = line_long t w line line_in in
         let here = number_there t.top (line_at t line) (suc k) l.numbers (omega (arith, long, k_in)) in
-        let stands = stand_at w.common (line_at t line) (line_numbers t w line) (suc k) l.stand (omega (arith, numbers_long (length t.costs.low) w.common t.costs.low w.lows (member_form (length t.costs.low) t.rows.items (member_at t line)), k_in)) in
-        let found = positive_number (number_at (line_numbers t w line) (suc k)) (entry (line_at t line) (suc k)).numerator w.common (entry (line_at t line) (suc k)).denominator w.positive here.lowest.positive (sym stands) above in
+        let stands = stand_at w.unboxed.common (line_at t line) (line_numbers t w line) (suc k) l.stand (omega (arith, numbers_long (length t.costs.low) w.unboxed.common t.costs.low w.unboxed.lows (member_form (length t.costs.low) t.rows.items (member_at t line)), k_in)) in
+        let found = positive_number (number_at (line_numbers t w line) (suc k)) (entry (line_at t line) (suc k)).numerator w.unboxed.common (entry (line_at t line) (suc k)).denominator w.unboxed.positive here.lowest.positive (sym stands) above in
         positive (entry (line_at t line) (suc k)).numerator found.0 found.1 found.2

@@ -10,11 +10,11 @@ use Rattle.path_rows.specs.Basis.{entry}
 use Rattle.path_rows.specs.Steps.{IsPivot, IsTooWide}
 use Rattle.path_rows.specs.Steps.IsStep.{pivot_product}
 use Rattle.exact_simplex.specs.declared.table.Table.{Table}
-use Rattle.exact_simplex.specs.TableRows.IsDivideStep.{quotient}
-use Rattle.exact_simplex.specs.Entries.{IsPassing}
+use Rattle.fraction_rows.specs.TableRows.IsDivideStep.{quotient}
+use Rattle.fraction_rows.specs.Entries.{IsPassing}
 use Rattle.exact_simplex.specs.Tableaus.{wide_at}
-use Rattle.exact_simplex.specs.Turns.{IsQuotientStepOf}
-use Rattle.exact_simplex.specs.Turns.IsQuotientStepOf.{dividing}
+use Rattle.fraction_rows.specs.Turns.{IsQuotientStepOf}
+use Rattle.fraction_rows.specs.Turns.IsQuotientStepOf.{dividing}
 use Rattle.exact_simplex.specs.Wholes.{IsWholeTable, number_at}
 use Rattle.exact_simplex.specs.Pivots.{IsNotAfter, LeadsNoNegative, entries_order, line_at, line_numbers, member_at, numbers_in, turned_column}
 use Rattle.exact_simplex.proofs.Bases.{whole_basis}
@@ -30,8 +30,8 @@ compared t w line column other a b line_in pivot other_pivot at_column at_other 
     let second = entry_number t w line other line_in other_pivot in
     record {
       line_in = line_in;
-      column_in = omega (arith, pivot.column, w.count);
-      other_in = omega (arith, other_pivot.column, w.count);
+      column_in = omega (arith, pivot.column, w.unboxed.count);
+      other_in = omega (arith, other_pivot.column, w.unboxed.count);
       at_column = at_column;
       at_other = at_other;
       a_positive = positive_same (number_at (line_numbers t w line) (suc column)) a first.0 at_column first.1 first.2;
@@ -42,27 +42,27 @@ compared t w line column other a b line_in pivot other_pivot at_column at_other 
 pub level_ordered : (t : Table) (line column other : ℕ) → line < length t.lines.items → IsPivot t.basis.items (line_at t line) (suc column) → IsPivot t.basis.items (line_at t line) (suc other) → AreLevel t line column other (length t.costs.low) → IsNotAfter t line column other
 level_ordered t line column other line_in pivot other_pivot level w a at_column =
     let second = entry_number t w line other line_in other_pivot in
-    subst (λ z. LeadsNoNegative (turned_column a (numbers_in (suc other) w.lows) z (numbers_in (suc column) w.lows))) (sym second.1)
+    subst (λ z. LeadsNoNegative (turned_column a (numbers_in (suc other) w.unboxed.lows) z (numbers_in (suc column) w.unboxed.lows))) (sym second.1)
     (stays_first t w line column other a second.0 (compared t w line column other a second.0 line_in pivot other_pivot at_column second.1) level)
 
 -- the first difference tells which one is
 pub greater_ordered : (t : Table) (line column other v : ℕ) → line < length t.lines.items → IsPivot t.basis.items (line_at t line) (suc column) → IsPivot t.basis.items (line_at t line) (suc other) → v < length t.costs.low → AreLevel t line column other v → entries_order (line_at t v) column other (divided (entry (line_at t line) (suc other)) (entry (line_at t line) (suc column))) ≡ Greater → IsNotAfter t line column other
 greater_ordered t line column other v line_in pivot other_pivot v_in level greater w a at_column =
     let second = entry_number t w line other line_in other_pivot in
-    subst (λ z. LeadsNoNegative (turned_column a (numbers_in (suc other) w.lows) z (numbers_in (suc column) w.lows))) (sym second.1)
+    subst (λ z. LeadsNoNegative (turned_column a (numbers_in (suc other) w.unboxed.lows) z (numbers_in (suc column) w.unboxed.lows))) (sym second.1)
     (less_first t w line column other a second.0 v (compared t w line column other a second.0 line_in pivot other_pivot at_column second.1) v_in level greater)
 
 pub less_ordered : (t : Table) (line column other v : ℕ) → line < length t.lines.items → IsPivot t.basis.items (line_at t line) (suc column) → IsPivot t.basis.items (line_at t line) (suc other) → v < length t.costs.low → AreLevel t line column other v → entries_order (line_at t v) column other (divided (entry (line_at t line) (suc other)) (entry (line_at t line) (suc column))) ≡ Less → IsNotAfter t line other column
 less_ordered t line column other v line_in pivot other_pivot v_in level less w b at_other =
     let first = entry_number t w line column line_in pivot in
-    subst (λ z. LeadsNoNegative (turned_column b (numbers_in (suc column) w.lows) z (numbers_in (suc other) w.lows))) (sym first.1)
+    subst (λ z. LeadsNoNegative (turned_column b (numbers_in (suc column) w.unboxed.lows) z (numbers_in (suc other) w.unboxed.lows))) (sym first.1)
     (other_first t w line column other first.0 b v (compared t w line column other first.0 b line_in pivot other_pivot first.1 at_other) v_in level less)
 
 -- the steps of a comparison are steps of the basis
 pub ratio_wide : (t : Table) (w : IsWholeTable t) (line column other : ℕ) (wide : Wide) → line < length t.lines.items → IsPivot t.basis.items (line_at t line) (suc column) → IsPivot t.basis.items (line_at t line) (suc other) → wide ≡ record { step = Div; left = entry (line_at t line) (suc other); right = entry (line_at t line) (suc column) } → IsPassing t.top wide → IsTooWide t.top t.costs t.rows.items (wide_at wide t.basis.items)
 ratio_wide t w line column other wide line_in pivot other_pivot named passes =
     let es = line_at t line in
-    let other_in : suc other < length es = omega (arith, line_long t w line line_in, other_pivot.column, w.count) in
+    let other_in : suc other < length es = omega (arith, line_long t w line line_in, other_pivot.column, w.unboxed.count) in
     quotients_wide t w line column line_in pivot wide
     (subst (λ (s : Wide). IsQuotientStepOf es (suc column) s.step s.left s.right) (sym named) (dividing Div (entry es (suc other)) (entry es (suc column)) (quotient (suc other) other_in)), passes)
 

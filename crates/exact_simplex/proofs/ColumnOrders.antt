@@ -11,10 +11,10 @@ use Rattle.path_rows.specs.Basis.{entry, member_form}
 use Rattle.exact_simplex.specs.declared.table.Table.{Table}
 use Rattle.exact_simplex.specs.Wholes.{IsWholeTable, number_at}
 use Rattle.exact_simplex.specs.Pivots.{LeadsNoNegative, entries_order, line_at, line_numbers, member_at, numbers_in, turned_column}
-use Rattle.exact_simplex.proofs.Numbers.{divided_lowest, times_lowest}
+use Rattle.fraction_rows.proofs.Numbers.{divided_lowest, times_lowest}
 use Rattle.exact_simplex.proofs.Standing.{over_more}
-use Rattle.exact_simplex.proofs.RowLaws.{number_at as number_there}
-use Rattle.exact_simplex.proofs.TurnedNumbers.{numbers_long}
+use Rattle.fraction_rows.proofs.RowLaws.{number_at as number_there}
+use Rattle.exact_simplex.proofs.theory.TurnedNumbers.{numbers_long}
 use Rattle.exact_simplex.proofs.WholeTurns.{stand_at}
 use Rattle.exact_simplex.proofs.Bases.{low_line_stands, lows_counted}
 use Rattle.exact_simplex.proofs.Pivots.{line_long, whole_line}
@@ -70,27 +70,27 @@ pub record AreCompared (t : Table) (w : IsWholeTable t) (line column other a b :
   pub b_positive : 0 < b
 
 -- the entries of a line of x - low are ordered as their numbers, crosswise
-order_numbers : (t : Table) (w : IsWholeTable t) (line column other a b u : ℕ) → AreCompared t w line column other a b → u < length t.costs.low → entries_order (line_at t u) column other (divided (entry (line_at t line) (suc other)) (entry (line_at t line) (suc column))) ≡ int_cmp (number_at (slice_index_or w.lows u []) (suc other) *ℤ pos a) (number_at (slice_index_or w.lows u []) (suc column) *ℤ pos b)
+order_numbers : (t : Table) (w : IsWholeTable t) (line column other a b u : ℕ) → AreCompared t w line column other a b → u < length t.costs.low → entries_order (line_at t u) column other (divided (entry (line_at t line) (suc other)) (entry (line_at t line) (suc column))) ≡ int_cmp (number_at (slice_index_or w.unboxed.lows u []) (suc other) *ℤ pos a) (number_at (slice_index_or w.unboxed.lows u []) (suc column) *ℤ pos b)
 order_numbers t w line column other a b u c u_in =
     let n = length t.costs.low in
-    let D = w.common in
+    let D = w.unboxed.common in
     let es = line_at t line in
     let f = member_form n t.rows.items (member_at t line) in
     let l = whole_line t w line c.line_in in
     let long = line_long t w line c.line_in in
     let own = number_there t.top es (suc column) l.numbers (omega (arith, long, c.column_in)) in
     let others = number_there t.top es (suc other) l.numbers (omega (arith, long, c.other_in)) in
-    let own_stands = subst (λ z. StandsFor (entry es (suc column)) z D) c.at_column (stand_at D es (line_numbers t w line) (suc column) l.stand (omega (arith, numbers_long n D t.costs.low w.lows f, c.column_in))) in
-    let other_stands = subst (λ z. StandsFor (entry es (suc other)) z D) c.at_other (stand_at D es (line_numbers t w line) (suc other) l.stand (omega (arith, numbers_long n D t.costs.low w.lows f, c.other_in))) in
+    let own_stands = subst (λ z. StandsFor (entry es (suc column)) z D) c.at_column (stand_at D es (line_numbers t w line) (suc column) l.stand (omega (arith, numbers_long n D t.costs.low w.unboxed.lows f, c.column_in))) in
+    let other_stands = subst (λ z. StandsFor (entry es (suc other)) z D) c.at_other (stand_at D es (line_numbers t w line) (suc other) l.stand (omega (arith, numbers_long n D t.costs.low w.unboxed.lows f, c.other_in))) in
     let q = divided (entry es (suc other)) (entry es (suc column)) in
     let q_lowest = divided_lowest (entry es (suc other)) (entry es (suc column)) others.lowest.positive in
-    let q_stands = divided_stands (entry es (suc other)) (entry es (suc column)) (pos b) a D others.lowest.positive own.lowest.positive c.a_positive w.positive other_stands own_stands in
+    let q_stands = divided_stands (entry es (suc other)) (entry es (suc column)) (pos b) a D others.lowest.positive own.lowest.positive c.a_positive w.unboxed.positive other_stands own_stands in
     let first = low_line_stands t.top t.costs t.rows.items t.basis.items t.lines.items w u (suc column) u_in (omega (arith, c.column_in)) in
     let second = low_line_stands t.top t.costs t.rows.items t.basis.items t.lines.items w u (suc other) u_in (omega (arith, c.other_in)) in
-    let x = number_at (slice_index_or w.lows u []) (suc column) in
-    let y = number_at (slice_index_or w.lows u []) (suc other) in
+    let x = number_at (slice_index_or w.unboxed.lows u []) (suc column) in
+    let y = number_at (slice_index_or w.unboxed.lows u []) (suc other) in
     order_stands (entry (line_at t u) (suc other)) (times (entry (line_at t u) (suc column)) q) (y *ℤ pos a) (x *ℤ pos b) (D * a)
-    second.0 (times_lowest (entry (line_at t u) (suc column)) q first.0 q_lowest.positive).positive (product_positive D a w.positive c.a_positive)
+    second.0 (times_lowest (entry (line_at t u) (suc column)) q first.0 q_lowest.positive).positive (product_positive D a w.unboxed.positive c.a_positive)
     (over_more (entry (line_at t u) (suc other)) y D a second.1)
     (times_stands (entry (line_at t u) (suc column)) q x (pos b) D a first.0 q_lowest.positive first.1 q_stands)
 
@@ -111,40 +111,40 @@ greater_rise x y a b less =
     less_rise (x *ℤ pos b) (y *ℤ pos a) _ less (ring (x ∷ y ∷ pos a ∷ pos b ∷ []) ((var 2 ⊗ var 1) ⊖ (var 3 ⊗ var 0)) ((var 1 ⊗ var 2) ⊖ (var 0 ⊗ var 3)) refl)
 
 -- the differences of two columns at the lines that show none
-level_at : (t : Table) (w : IsWholeTable t) (line column other a b v u : ℕ) → AreCompared t w line column other a b → v ≤ length t.costs.low → AreLevel t line column other v → u < v → (number_at (slice_index_or w.lows u []) (suc other) *ℤ pos a) ≡ (number_at (slice_index_or w.lows u []) (suc column) *ℤ pos b)
+level_at : (t : Table) (w : IsWholeTable t) (line column other a b v u : ℕ) → AreCompared t w line column other a b → v ≤ length t.costs.low → AreLevel t line column other v → u < v → (number_at (slice_index_or w.unboxed.lows u []) (suc other) *ℤ pos a) ≡ (number_at (slice_index_or w.unboxed.lows u []) (suc column) *ℤ pos b)
 level_at t w line column other a b v u c v_in level u_in =
-    same_numbers Equal (number_at (slice_index_or w.lows u []) (suc other) *ℤ pos a) (number_at (slice_index_or w.lows u []) (suc column) *ℤ pos b)
+    same_numbers Equal (number_at (slice_index_or w.unboxed.lows u []) (suc other) *ℤ pos a) (number_at (slice_index_or w.unboxed.lows u []) (suc column) *ℤ pos b)
     (sym (level u u_in) ∙ order_numbers t w line column other a b u c (omega (arith, u_in, v_in)))
 
 -- the column stays first where the lines show no difference, or the first difference shows it less
-pub stays_first : (t : Table) (w : IsWholeTable t) (line column other a b : ℕ) → AreCompared t w line column other a b → AreLevel t line column other (length t.costs.low) → LeadsNoNegative (turned_column a (numbers_in (suc other) w.lows) (pos b) (numbers_in (suc column) w.lows))
+pub stays_first : (t : Table) (w : IsWholeTable t) (line column other a b : ℕ) → AreCompared t w line column other a b → AreLevel t line column other (length t.costs.low) → LeadsNoNegative (turned_column a (numbers_in (suc other) w.unboxed.lows) (pos b) (numbers_in (suc column) w.unboxed.lows))
 stays_first t w line column other a b c level =
     let counted = lows_counted t.top t.costs t.rows.items t.basis.items t.lines.items w in
-    zeros_lead (turned_column a (numbers_in (suc other) w.lows) (pos b) (numbers_in (suc column) w.lows))
+    zeros_lead (turned_column a (numbers_in (suc other) w.unboxed.lows) (pos b) (numbers_in (suc column) w.unboxed.lows))
     (λ u u_in.
-    (let within : u < length w.lows = omega (arith, column_long a (pos b) (suc other) (suc column) w.lows, u_in) in
-    column_at a (pos b) (suc other) (suc column) w.lows u within
+    (let within : u < length w.unboxed.lows = omega (arith, column_long a (pos b) (suc other) (suc column) w.unboxed.lows, u_in) in
+    column_at a (pos b) (suc other) (suc column) w.unboxed.lows u within
     ∙ level_zero _ _ a b (level_at t w line column other a b (length t.costs.low) u c (omega arith) level (omega (arith, counted, within)))))
 
-pub less_first : (t : Table) (w : IsWholeTable t) (line column other a b v : ℕ) → AreCompared t w line column other a b → v < length t.costs.low → AreLevel t line column other v → entries_order (line_at t v) column other (divided (entry (line_at t line) (suc other)) (entry (line_at t line) (suc column))) ≡ Greater → LeadsNoNegative (turned_column a (numbers_in (suc other) w.lows) (pos b) (numbers_in (suc column) w.lows))
+pub less_first : (t : Table) (w : IsWholeTable t) (line column other a b v : ℕ) → AreCompared t w line column other a b → v < length t.costs.low → AreLevel t line column other v → entries_order (line_at t v) column other (divided (entry (line_at t line) (suc other)) (entry (line_at t line) (suc column))) ≡ Greater → LeadsNoNegative (turned_column a (numbers_in (suc other) w.unboxed.lows) (pos b) (numbers_in (suc column) w.unboxed.lows))
 less_first t w line column other a b v c v_in level greater =
     let counted = lows_counted t.top t.costs t.rows.items t.basis.items t.lines.items w in
-    let x = number_at (slice_index_or w.lows v []) (suc column) in
-    let y = number_at (slice_index_or w.lows v []) (suc other) in
-    prefix_leads (turned_column a (numbers_in (suc other) w.lows) (pos b) (numbers_in (suc column) w.lows)) v
-    (λ u u_in. column_at a (pos b) (suc other) (suc column) w.lows u (omega (arith, counted, u_in, v_in)) ∙ level_zero _ _ a b (level_at t w line column other a b v u c (omega (arith, v_in)) level u_in))
-    (omega (arith, column_long a (pos b) (suc other) (suc column) w.lows, counted, v_in))
-    (subst (λ z. pos 0 <ℤ z) (sym (column_at a (pos b) (suc other) (suc column) w.lows v (omega (arith, counted, v_in))))
+    let x = number_at (slice_index_or w.unboxed.lows v []) (suc column) in
+    let y = number_at (slice_index_or w.unboxed.lows v []) (suc other) in
+    prefix_leads (turned_column a (numbers_in (suc other) w.unboxed.lows) (pos b) (numbers_in (suc column) w.unboxed.lows)) v
+    (λ u u_in. column_at a (pos b) (suc other) (suc column) w.unboxed.lows u (omega (arith, counted, u_in, v_in)) ∙ level_zero _ _ a b (level_at t w line column other a b v u c (omega (arith, v_in)) level u_in))
+    (omega (arith, column_long a (pos b) (suc other) (suc column) w.unboxed.lows, counted, v_in))
+    (subst (λ z. pos 0 <ℤ z) (sym (column_at a (pos b) (suc other) (suc column) w.unboxed.lows v (omega (arith, counted, v_in))))
     (greater_rise x y a b (same_numbers Greater (y *ℤ pos a) (x *ℤ pos b) (sym greater ∙ order_numbers t w line column other a b v c v_in))))
 
 -- and the other column comes first where the first difference shows it less
-pub other_first : (t : Table) (w : IsWholeTable t) (line column other a b v : ℕ) → AreCompared t w line column other a b → v < length t.costs.low → AreLevel t line column other v → entries_order (line_at t v) column other (divided (entry (line_at t line) (suc other)) (entry (line_at t line) (suc column))) ≡ Less → LeadsNoNegative (turned_column b (numbers_in (suc column) w.lows) (pos a) (numbers_in (suc other) w.lows))
+pub other_first : (t : Table) (w : IsWholeTable t) (line column other a b v : ℕ) → AreCompared t w line column other a b → v < length t.costs.low → AreLevel t line column other v → entries_order (line_at t v) column other (divided (entry (line_at t line) (suc other)) (entry (line_at t line) (suc column))) ≡ Less → LeadsNoNegative (turned_column b (numbers_in (suc column) w.unboxed.lows) (pos a) (numbers_in (suc other) w.unboxed.lows))
 other_first t w line column other a b v c v_in level less =
     let counted = lows_counted t.top t.costs t.rows.items t.basis.items t.lines.items w in
-    let x = number_at (slice_index_or w.lows v []) (suc column) in
-    let y = number_at (slice_index_or w.lows v []) (suc other) in
-    prefix_leads (turned_column b (numbers_in (suc column) w.lows) (pos a) (numbers_in (suc other) w.lows)) v
-    (λ u u_in. column_at b (pos a) (suc column) (suc other) w.lows u (omega (arith, counted, u_in, v_in)) ∙ level_zero _ _ b a (sym (level_at t w line column other a b v u c (omega (arith, v_in)) level u_in)))
-    (omega (arith, column_long b (pos a) (suc column) (suc other) w.lows, counted, v_in))
-    (subst (λ z. pos 0 <ℤ z) (sym (column_at b (pos a) (suc column) (suc other) w.lows v (omega (arith, counted, v_in))))
+    let x = number_at (slice_index_or w.unboxed.lows v []) (suc column) in
+    let y = number_at (slice_index_or w.unboxed.lows v []) (suc other) in
+    prefix_leads (turned_column b (numbers_in (suc column) w.unboxed.lows) (pos a) (numbers_in (suc other) w.unboxed.lows)) v
+    (λ u u_in. column_at b (pos a) (suc column) (suc other) w.unboxed.lows u (omega (arith, counted, u_in, v_in)) ∙ level_zero _ _ b a (sym (level_at t w line column other a b v u c (omega (arith, v_in)) level u_in)))
+    (omega (arith, column_long b (pos a) (suc column) (suc other) w.unboxed.lows, counted, v_in))
+    (subst (λ z. pos 0 <ℤ z) (sym (column_at b (pos a) (suc column) (suc other) w.unboxed.lows v (omega (arith, counted, v_in))))
     (greater_rise y x b a (same_numbers Less (y *ℤ pos a) (x *ℤ pos b) (sym less ∙ order_numbers t w line column other a b v c v_in))))

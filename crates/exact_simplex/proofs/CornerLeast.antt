@@ -8,14 +8,15 @@ use Rattle.area_graph.specs.declared.Point.{Point}
 use Rattle.path_rows.specs.declared.form.Form.{Form}
 use Rattle.path_rows.specs.declared.tree.Member.TheVariants.{Low}
 use Rattle.path_rows.specs.Forms.{value_at}
+use Rattle.path_rows.specs.Earnest.{IsLeast}
 use Rattle.path_rows.specs.Basis.{forms_of, member_form, one_form}
 use Rattle.exact_simplex.specs.declared.table.Table.{Table}
-use Rattle.exact_simplex.specs.Corners.{IsLeastPoint}
+use Rattle.exact_simplex.specs.Tableaus.{MeetsRows}
 use Rattle.exact_simplex.specs.Wholes.{AreMixtures, IsWholeTable, low_forms, number_at}
 use Rattle.exact_simplex.specs.Pivots.{AreHigh}
-use Rattle.exact_simplex.proofs.Points.{equation_at, mixed_at}
-use Rattle.exact_simplex.proofs.Corner.{MetAt, one_value, rest_of, row_sum}
-use Rattle.exact_simplex.proofs.Tables.{Resolves, corner_least}
+use Rattle.exact_simplex.proofs.theory.Points.{equation_at, mixed_at}
+use Rattle.exact_simplex.proofs.theory.Corner.{MetAt, one_value, rest_of, row_sum}
+use Rattle.exact_simplex.proofs.theory.Tables.{Resolves, corner_least}
 use Rattle.exact_simplex.proofs.Solutions.{at_corner, basis_met, corner_fits, corner_point, low_value_at}
 
 -- the values of forms at a point, where none is negative
@@ -58,25 +59,25 @@ resolves n a D basis p (l ∷ low) (ts ∷ rows) (y ∷ ys) met are same there =
   resolves n (a + 1) D basis p low rows ys met are.1 (omega arith) (λ u v m u_is v_in. there u (suc v) m (omega arith) (omega arith)),
 )
 
-pub corner_is_least : (t : Table) (w : IsWholeTable t) → AreHigh t → IsLeastPoint t.costs t.rows.items (corner_point t w)
+pub corner_is_least : (t : Table) (w : IsWholeTable t) → AreHigh t → IsLeast (MeetsRows t.rows.items) t.costs (corner_point t w)
 corner_is_least t w high =
     let n = length t.costs.low in
     let p = corner_point t w in
     let bs = forms_of t.costs t.rows.items t.basis.items in
     let fits = corner_fits t w high in
     record {
-      is = fits.0;
-      meets = fits.1;
+      inside = fits.0;
+      accepted = fits.1;
       least = λ other inside meets before.
-          (let met = basis_met t.costs t.rows.items other t.basis.items inside meets w.members in
+          (let met = basis_met t.costs t.rows.items other t.basis.items inside meets w.unboxed.members in
           let there : (u v l : ℕ) → u ≡ 0 + v → v < length other.values → value_at (member_form n [] (Low u l)) other ≡ (pos (slice_index other.values v) -ℤ pos (l * other.scale)) =
           λ u v l u_is v_in. (
           subst (λ (m : ℕ). value_at (member_form m [] (Low u l)) other ≡ (pos (slice_index other.values v) -ℤ pos (l * other.scale))) (sym inside.low_count)
           (subst (λ (k : ℕ). value_at (member_form (length other.values) [] (Low k l)) other ≡ (pos (slice_index other.values v) -ℤ pos (l * other.scale))) (sym (u_is ∙ zero-add v))
           (low_value_at [] v l other v_in))
           ) in
-          corner_least w.common other.scale (values_of bs other) t.costs.low w.lows p.values other.values (at_corner t w high)
-          (resolves n 0 w.common bs other t.costs.low w.lows other.values met w.mixtures (sym inside.low_count) there)
-          (λ k k_in. w.lead k (omega (arith, values_long bs other, length-map t.basis.items (member_form n t.rows.items), w.count, k_in)))
+          corner_least w.unboxed.common other.scale (values_of bs other) t.costs.low w.unboxed.lows p.values other.values (at_corner t w high)
+          (resolves n 0 w.unboxed.common bs other t.costs.low w.unboxed.lows other.values met w.unboxed.mixtures (sym inside.low_count) there)
+          (λ k k_in. w.unboxed.lead k (omega (arith, values_long bs other, length-map t.basis.items (member_form n t.rows.items), w.unboxed.count, k_in)))
           before);
     }

@@ -8,11 +8,10 @@ use Rattle.area_graph.specs.declared.Point.{Point}
 use Rattle.path_rows.specs.declared.form.Form.{Form}
 use Rattle.path_rows.specs.declared.form.CostBox.{CostBox}
 use Rattle.path_rows.specs.Forms.{dot, value_at}
-use Rattle.path_rows.specs.Earnest.{LexLess}
-use Rattle.exact_simplex.specs.Corners.{IsLeastPoint}
+use Rattle.path_rows.specs.Earnest.{IsLeast, LexLess}
 use Rattle.exact_simplex.specs.Tableaus.{MeetsRows}
 use Rattle.exact_simplex.proofs.Solutions.{high_number}
-use Rattle.exact_simplex.proofs.Zips.{zip_at, zip_long}
+use Rattle.exact_simplex.proofs.theory.Zips.{zip_at, zip_long}
 
 -- each value over the one scale is the value over the other
 abbrev pub IsSamePoint : Point → Point → Type 0
@@ -71,20 +70,20 @@ same_before e d o (x ∷ xs) (y ∷ ys) (z ∷ zs) e_positive d_positive same be
       | inr level ↦ inr (level_scaled x y z e d o e_positive same.0 level.0, same_before e d o xs ys zs e_positive d_positive same.1 level.1)
     ]
 
-pub same_point : (costs : CostBox) (rows : List Form) (p q : Point) → 0 < p.scale → IsSamePoint p q → IsLeastPoint costs rows q → IsLeastPoint costs rows p
+pub same_point : (costs : CostBox) (rows : List Form) (p q : Point) → 0 < p.scale → IsSamePoint p q → IsLeast (MeetsRows rows) costs q → IsLeast (MeetsRows rows) costs p
 same_point costs rows p q positive same least =
     let long = zip_long (λ y z. y * q.scale ≡ z * p.scale) p.values q.values same in
-    let q_positive = least.is.scale in
+    let q_positive = least.inside.scale in
     let there : (k : ℕ) → k < length p.values → slice_index p.values k * q.scale ≡ slice_index q.values k * p.scale =
     λ k k_in. zip_at (λ y z. y * q.scale ≡ z * p.scale) p.values q.values k 0 0 same k_in in
     record {
-      is = record {
+      inside = record {
         scale = positive;
-        low_count = least.is.low_count ∙ sym long;
-        high_count = least.is.high_count ∙ sym long;
-        above = λ k k_in. less_scaled (slice_index costs.low k) (slice_index p.values k) (slice_index q.values k) p.scale q.scale q_positive (there k k_in) (least.is.above k (omega (arith, long, k_in)));
-        below = λ k k_in. scaled_less (slice_index costs.high k) (slice_index p.values k) (slice_index q.values k) p.scale q.scale q_positive (there k k_in) (least.is.below k (omega (arith, long, k_in)));
+        low_count = least.inside.low_count ∙ sym long;
+        high_count = least.inside.high_count ∙ sym long;
+        above = λ k k_in. less_scaled (slice_index costs.low k) (slice_index p.values k) (slice_index q.values k) p.scale q.scale q_positive (there k k_in) (least.inside.above k (omega (arith, long, k_in)));
+        below = λ k k_in. scaled_less (slice_index costs.high k) (slice_index p.values k) (slice_index q.values k) p.scale q.scale q_positive (there k k_in) (least.inside.below k (omega (arith, long, k_in)));
       };
-      meets = same_meets rows p q positive q_positive same least.meets;
+      accepted = same_meets rows p q positive q_positive same least.accepted;
       least = λ other inside meets before. least.least other inside meets (same_before p.scale q.scale other.scale other.values p.values q.values positive q_positive same before);
     }

@@ -17,21 +17,22 @@ use Rattle.wide_fraction.specs.Widths.{IsTop}
 use Rattle.wide_fraction.specs.declared.steps.Wide.{Wide}
 use Rattle.area_graph.specs.declared.Point.{Point}
 use Rattle.path_rows.specs.Basis.{entry}
+use Rattle.path_rows.specs.Earnest.{IsLeast}
 use Rattle.path_rows.specs.Steps.{IsStep, IsTooWide, lcm_of, two_to_27}
 use Rattle.path_rows.specs.Steps.IsStep.{corner_multiple, corner_scale}
 use Rattle.exact_simplex.specs.declared.table.Table.{Table}
-use Rattle.exact_simplex.specs.Corners.{IsLeastPoint, constant_at, corner_entry, denominators_of, raised_by}
-use Rattle.exact_simplex.specs.Entries.{IsPassing}
-use Rattle.exact_simplex.specs.Tableaus.{wide_at}
+use Rattle.exact_simplex.specs.Corners.{constant_at, corner_entry, denominators_of, raised_by}
+use Rattle.fraction_rows.specs.Entries.{IsPassing}
+use Rattle.exact_simplex.specs.Tableaus.{MeetsRows, wide_at}
 use Rattle.exact_simplex.specs.Wholes.{IsWholeTable, number_at}
 use Rattle.exact_simplex.specs.Pivots.{AreHigh, line_at}
 use Rattle.exact_simplex.proofs.Bases.{low_line_stands, whole_table}
-use Rattle.exact_simplex.proofs.RowLaws.{number_at as number_there}
+use Rattle.fraction_rows.proofs.RowLaws.{number_at as number_there}
 use Rattle.exact_simplex.proofs.Pivots.{line_long, line_read, lines_long, whole_line}
 use Rattle.exact_simplex.proofs.Solutions.{corner_fits, corner_long, corner_of, corner_point, counted_lows, first_high}
 use Rattle.exact_simplex.proofs.CornerLeast.{corner_is_least}
 use Rattle.exact_simplex.proofs.CornerPoints.{same_point, scaled_less}
-use Rattle.exact_simplex.proofs.Zips.{zip_from}
+use Rattle.exact_simplex.proofs.theory.Zips.{zip_from}
 
 -- a common multiple is a multiple of each, and positive
 first_divides : (a : ℕ) (ds : List ℕ) → a ∣ fold lcm a ds
@@ -132,34 +133,34 @@ same_sum l n part den m D d parts stands =
     (using (var 2) (var 1 ⊗ var 5) (var 4 ⊗ var 3) (ap pos stands) nothing)) refl)
 
 -- the value of a variable over the scale is that of the corner over the common denominator
-same_entry : (t : Table) (w : IsWholeTable t) → AreHigh t → (scale k : ℕ) → scale ≡ lcm_of (denominators_of t) → k < length t.costs.low → corner_entry t scale k * w.common ≡ slice_index (corner_of w.common t.costs.low w.lows) k * scale
+same_entry : (t : Table) (w : IsWholeTable t) → AreHigh t → (scale k : ℕ) → scale ≡ lcm_of (denominators_of t) → k < length t.costs.low → corner_entry t scale k * w.unboxed.common ≡ slice_index (corner_of w.unboxed.common t.costs.low w.unboxed.lows) k * scale
 same_entry t w high scale k scale_is k_in =
     let q = constant_at t k in
-    let m = number_at (slice_index_or w.lows k []) 0 in
+    let m = number_at (slice_index_or w.unboxed.lows k []) 0 in
     let stands = low_line_stands t.top t.costs t.rows.items t.basis.items t.lines.items w k 0 k_in (omega arith) in
     let divides : q.denominator ∣ scale = subst (λ (d : ℕ). q.denominator ∣ d) (sym scale_is) (divides_scale t w k k_in) in
-    same_sum (slice_index t.costs.low k) (nat_abs q.numerator) (scale / q.denominator) q.denominator (nat_abs m) w.common scale (div-mul_cancel q.denominator divides)
-    (natural_stands q.numerator m w.common q.denominator (high k [] (omega (arith, lines_long t w, k_in))) (first_high t w high k k_in) stands.1)
-    ∙ ap (λ (x : ℕ). x * scale) (sym (corner_at w.common t.costs.low w.lows k k_in (counted_lows t w)))
+    same_sum (slice_index t.costs.low k) (nat_abs q.numerator) (scale / q.denominator) q.denominator (nat_abs m) w.unboxed.common scale (div-mul_cancel q.denominator divides)
+    (natural_stands q.numerator m w.unboxed.common q.denominator (high k [] (omega (arith, lines_long t w, k_in))) (first_high t w high k k_in) stands.1)
+    ∙ ap (λ (x : ℕ). x * scale) (sym (corner_at w.unboxed.common t.costs.low w.unboxed.lows k k_in (counted_lows t w)))
 
 -- it isn't above the high bound
 pub entry_within : (t : Table) (w : IsWholeTable t) → AreHigh t → (scale k : ℕ) → scale ≡ lcm_of (denominators_of t) → k < length t.costs.low → corner_entry t scale k ≤ slice_index t.costs.high k * scale
 entry_within t w high scale k scale_is k_in =
     let fits = corner_fits t w high in
-    let counted : length (corner_of w.common t.costs.low w.lows) ≡ length t.costs.low = corner_long w.common t.costs.low w.lows (counted_lows t w) in
-    scaled_less (slice_index t.costs.high k) (corner_entry t scale k) (slice_index (corner_of w.common t.costs.low w.lows) k) scale w.common w.positive
+    let counted : length (corner_of w.unboxed.common t.costs.low w.unboxed.lows) ≡ length t.costs.low = corner_long w.unboxed.common t.costs.low w.unboxed.lows (counted_lows t w) in
+    scaled_less (slice_index t.costs.high k) (corner_entry t scale k) (slice_index (corner_of w.unboxed.common t.costs.low w.unboxed.lows) k) scale w.unboxed.common w.unboxed.positive
     (same_entry t w high scale k scale_is k_in) (fits.0.below k (omega (arith, counted, k_in)))
 
 -- the point of these values is least
-pub values_least : (t : Table) (w : IsWholeTable t) → AreHigh t → (p : Point) → p.scale ≡ lcm_of (denominators_of t) → length p.values ≡ length t.costs.low → ((k : ℕ) → k < length t.costs.low → slice_index p.values k ≡ corner_entry t p.scale k) → IsLeastPoint t.costs t.rows.items p
+pub values_least : (t : Table) (w : IsWholeTable t) → AreHigh t → (p : Point) → p.scale ≡ lcm_of (denominators_of t) → length p.values ≡ length t.costs.low → ((k : ℕ) → k < length t.costs.low → slice_index p.values k ≡ corner_entry t p.scale k) → IsLeast (MeetsRows t.rows.items) t.costs p
 values_least t w high p scale_is counted values =
     let q = corner_point t w in
-    let long : length q.values ≡ length t.costs.low = corner_long w.common t.costs.low w.lows (counted_lows t w) in
+    let long : length q.values ≡ length t.costs.low = corner_long w.unboxed.common t.costs.low w.unboxed.lows (counted_lows t w) in
     same_point t.costs t.rows.items p q (subst (λ (d : ℕ). 0 < d) (sym scale_is) (scale_positive t w))
     (zip_from (λ y z. y * q.scale ≡ z * p.scale) p.values q.values 0 0 (counted ∙ sym long)
     (λ k k_in.
     (let inside : k < length t.costs.low = omega (arith, counted, k_in) in
-    ap (λ (y : ℕ). y * w.common) (values k inside) ∙ same_entry t w high p.scale k scale_is inside)))
+    ap (λ (y : ℕ). y * w.unboxed.common) (values k inside) ∙ same_entry t w high p.scale k scale_is inside)))
     (corner_is_least t w high)
 
 -- a multiple that is too wide is a step of the basis

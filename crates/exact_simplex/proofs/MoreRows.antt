@@ -14,7 +14,7 @@ use Rattle.path_rows.specs.declared.tree.Member.{Member}
 use Rattle.path_rows.specs.declared.tree.Member.TheVariants.{Low, High, Row}
 use Rattle.path_rows.specs.Forms.{form_at, no_form}
 use Rattle.path_rows.specs.Basis.{IsFormOf, forms_of, low_member, member_form}
-use Rattle.exact_simplex.specs.TableRows.{AreNumbers}
+use Rattle.fraction_rows.specs.TableRows.{AreNumbers}
 use Rattle.exact_simplex.specs.Tableaus.{FitsBox}
 use Rattle.exact_simplex.specs.Wholes.{AreMixtures, IsLine, IsWhole, Stand, high_member, low_forms, members_of, number_of, numbers_of}
 use Rattle.exact_simplex.proofs.Starts.{members_are}
@@ -76,29 +76,33 @@ pub last_form : (rows : List Form) (f : Form) → form_at (rows ++ f ∷ []) (le
 last_form rows f = get_or-append_seam rows f [] no_form
 
 -- With a form that fits, and with its line, the table is whole.
-pub whole_more : (top : ℕ) (costs : CostBox) (rows : List Form) (basis : List Member) (table : List (List Fraction)) (f : Form) (line : List Fraction) (w : IsWhole top costs rows basis table) → FitsBox costs f → AreNumbers top line → Stand w.common line (numbers_of (length costs.low) w.common costs.low w.lows f) → IsWhole top costs (rows ++ f ∷ []) basis (table ++ line ∷ [])
+pub whole_more : (top : ℕ) (costs : CostBox) (rows : List Form) (basis : List Member) (table : List (List Fraction)) (f : Form) (line : List Fraction) (w : IsWhole top costs rows basis table) → FitsBox costs f → AreNumbers top line → Stand w.unboxed.common line (numbers_of (length costs.low) w.unboxed.common costs.low w.unboxed.lows f) → IsWhole top costs (rows ++ f ∷ []) basis (table ++ line ∷ [])
 whole_more top costs rows basis table f line w fits numbers stand =
     let n = length costs.low in
     let more = rows ++ f ∷ [] in
-    let same = sym (forms_kept costs rows f basis w.members) in
+    let same = sym (forms_kept costs rows f basis w.unboxed.members) in
     let counted : length rows + 1 ≡ length more = omega (arith, length-append rows (f ∷ [])) in
-    let last : IsLine top w.common costs more w.lows (Row (length rows)) line =
-    record { numbers = numbers; stand = subst (λ (g : Form). Stand w.common line (numbers_of n w.common costs.low w.lows g)) (sym (last_form rows f)) stand } in
+    let last : IsLine top w.unboxed.common costs more w.unboxed.lows (Row (length rows)) line =
+    record { numbers = numbers; stand = subst (λ (g : Form). Stand w.unboxed.common line (numbers_of n w.unboxed.common costs.low w.unboxed.lows g)) (sym (last_form rows f)) stand } in
     record {
       box = w.box;
       fit = All-append (FitsBox costs) rows (f ∷ []) w.fit (one_all (FitsBox costs) f fits);
-      count = w.count;
-      members = λ k d k_in. member_kept costs rows f _ (w.members k d k_in);
-      common = w.common;
-      positive = w.positive;
-      lows = w.lows;
-      long = w.long;
-      mixtures = subst (λ (bs : List Form). AreMixtures w.common bs (low_forms n 0 costs.low) w.lows) same w.mixtures;
-      own = subst (λ (bs : List Form). (k : ℕ) → k < n → number_of w.common costs.low w.lows (slice_index_or bs k no_form) (suc k) ≡ pos w.common) same w.own;
-      elsewhere = subst (λ (bs : List Form). (k place : ℕ) → k < n → place ≤ n → place ≢ suc k → number_of w.common costs.low w.lows (slice_index_or bs k no_form) place ≡ pos 0) same w.elsewhere;
-      lead = w.lead;
-      lines =
-          subst (λ (members : List Member). AllZip (IsLine top w.common costs more w.lows) members (table ++ line ∷ [])) (sym (members_more costs (length rows)) ∙ ap (members_of costs) counted)
-          (zip_more (IsLine top w.common costs more w.lows) (members_of costs (length rows)) table (Row (length rows)) line
-          (lines_kept top w.common costs rows f w.lows (members_of costs (length rows)) table (members_are costs rows) w.lines) last);
+      unboxed = record {
+        high_count = w.unboxed.high_count;
+        counts = All-append (λ (row : Form). length row.coefficients ≡ n) rows (f ∷ []) w.unboxed.counts (one_all (λ (row : Form). length row.coefficients ≡ n) f fits.count);
+        count = w.unboxed.count;
+        members = λ k d k_in. member_kept costs rows f _ (w.unboxed.members k d k_in);
+        common = w.unboxed.common;
+        positive = w.unboxed.positive;
+        lows = w.unboxed.lows;
+        long = w.unboxed.long;
+        mixtures = subst (λ (bs : List Form). AreMixtures w.unboxed.common bs (low_forms n 0 costs.low) w.unboxed.lows) same w.unboxed.mixtures;
+        own = subst (λ (bs : List Form). (k : ℕ) → k < n → number_of w.unboxed.common costs.low w.unboxed.lows (slice_index_or bs k no_form) (suc k) ≡ pos w.unboxed.common) same w.unboxed.own;
+        elsewhere = subst (λ (bs : List Form). (k place : ℕ) → k < n → place ≤ n → place ≢ suc k → number_of w.unboxed.common costs.low w.unboxed.lows (slice_index_or bs k no_form) place ≡ pos 0) same w.unboxed.elsewhere;
+        lead = w.unboxed.lead;
+        lines =
+            subst (λ (members : List Member). AllZip (IsLine top w.unboxed.common costs more w.unboxed.lows) members (table ++ line ∷ [])) (sym (members_more costs (length rows)) ∙ ap (members_of costs) counted)
+            (zip_more (IsLine top w.unboxed.common costs more w.unboxed.lows) (members_of costs (length rows)) table (Row (length rows)) line
+            (lines_kept top w.unboxed.common costs rows f w.unboxed.lows (members_of costs (length rows)) table (members_are costs rows) w.unboxed.lines) last);
+      };
     }

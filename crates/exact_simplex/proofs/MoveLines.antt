@@ -9,12 +9,12 @@ use Rattle.whole_numbers.proofs.FractionLaws.{product_positive, reduced_lowest}
 use Rattle.whole_numbers.proofs.Multiples.{plus_stands_over}
 use Rattle.wide_fraction.specs.Widths.{IsWithin}
 use Rattle.path_rows.specs.Basis.{entry}
-use Rattle.exact_simplex.specs.TableRows.{AreNumbers, IsNumber, nothing}
-use Rattle.exact_simplex.specs.Turns.{AreRows}
+use Rattle.fraction_rows.specs.TableRows.{AreNumbers, IsNumber, nothing}
+use Rattle.fraction_rows.specs.Turns.{AreRows}
 use Rattle.path_rows.specs.declared.tree.Member.{Member}
 use Rattle.exact_simplex.specs.Moves.{IsColumnOf, put_at, raised_line}
-use Rattle.exact_simplex.proofs.Numbers.{lowest_zero, nothing_number, nothing_times, times_lowest}
-use Rattle.exact_simplex.proofs.RowLaws.{number_at, rows_at, rows_set, written_numbers}
+use Rattle.fraction_rows.proofs.Numbers.{lowest_zero, nothing_number, nothing_times, times_lowest}
+use Rattle.fraction_rows.proofs.RowLaws.{number_at, rows_at, rows_set, written_numbers}
 
 pub plus_lowest : (p q : Fraction) → 0 < p.denominator → 0 < q.denominator → IsLowest (plus p q)
 plus_lowest p q p_positive q_positive =

@@ -15,15 +15,15 @@ use Rattle.path_rows.specs.declared.tree.Member.TheVariants.{Low, High, Row}
 use Rattle.path_rows.specs.Boxes.{with_high, with_low}
 use Rattle.path_rows.specs.Forms.{no_form}
 use Rattle.path_rows.specs.Basis.{IsFormOf, entry, member_form}
-use Rattle.exact_simplex.specs.TableRows.{AreNumbers, nothing}
+use Rattle.fraction_rows.specs.TableRows.{AreNumbers, nothing}
 use Rattle.exact_simplex.specs.Tableaus.{moved_member}
 use Rattle.exact_simplex.specs.Wholes.{Stand, number_of, numbers_of}
 use Rattle.exact_simplex.specs.Moves.{fallen, raised_line}
-use Rattle.exact_simplex.proofs.Filled.{mapped_same}
-use Rattle.exact_simplex.proofs.MovedNumbers.{IsNumbered, fallen_constant, high_falls, low_falls, lowered_number, lowered_numbered, lowered_rows, raised, raised_constant, raised_numbered, raised_other}
-use Rattle.exact_simplex.proofs.Numbers.{times_lowest}
-use Rattle.exact_simplex.proofs.RowLaws.{number_at as number_there}
-use Rattle.exact_simplex.proofs.TurnedNumbers.{numbers_at, numbers_long}
+use Rattle.fraction_rows.proofs.Filled.{mapped_same}
+use Rattle.exact_simplex.proofs.theory.MovedNumbers.{IsNumbered, fallen_constant, high_falls, low_falls, lowered_number, lowered_numbered, lowered_rows, raised, raised_constant, raised_numbered, raised_other}
+use Rattle.fraction_rows.proofs.Numbers.{times_lowest}
+use Rattle.fraction_rows.proofs.RowLaws.{number_at as number_there}
+use Rattle.exact_simplex.proofs.theory.TurnedNumbers.{numbers_at, numbers_long}
 use Rattle.exact_simplex.proofs.WholeTurns.{stand_at}
 
 -- a list of which one thing changes, or none

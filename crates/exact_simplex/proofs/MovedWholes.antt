@@ -14,20 +14,20 @@ use Rattle.path_rows.specs.declared.tree.Member.{Member}
 use Rattle.path_rows.specs.declared.tree.Member.TheVariants.{Low, High, Row}
 use Rattle.path_rows.specs.Forms.{no_form}
 use Rattle.path_rows.specs.Basis.{IsFormOf, forms_of, low_member, member_form}
-use Rattle.exact_simplex.specs.TableRows.{nothing}
+use Rattle.fraction_rows.specs.TableRows.{nothing}
 use Rattle.exact_simplex.specs.Tableaus.{moved, moved_member}
-use Rattle.exact_simplex.specs.Turns.{AreRows}
-use Rattle.exact_simplex.specs.Wholes.{AllLong, AreMixtures, IsLine, Stand, high_member, low_forms, members_of, number_of, numbers_of}
-use Rattle.exact_simplex.specs.Moves.{IsColumnOf, IsUnboxed, fallen, put_at, raised_line, shifted_lines}
+use Rattle.fraction_rows.specs.Turns.{AreRows}
+use Rattle.exact_simplex.specs.Wholes.{AllLong, AreMixtures, IsLine, IsUnboxed, Stand, high_member, low_forms, members_of, number_of, numbers_of}
+use Rattle.exact_simplex.specs.Moves.{IsColumnOf, fallen, put_at, raised_line, shifted_lines}
 use Rattle.exact_simplex.proofs.Bases.{members_begin}
-use Rattle.exact_simplex.proofs.MovedNumbers.{fallen_constant}
+use Rattle.exact_simplex.proofs.theory.MovedNumbers.{fallen_constant}
 use Rattle.exact_simplex.proofs.MovedTables.{AreMoved, IsFall, IsInside, IsLong, fallen_basis, map_none, map_one, other_kept, other_raised, own_lowered, own_zeroed}
 use Rattle.exact_simplex.proofs.Pivots.{high_place, members_long, row_place}
-use Rattle.exact_simplex.proofs.RowLaws.{rows_at}
-use Rattle.exact_simplex.proofs.Resolved.{stand_length}
-use Rattle.exact_simplex.proofs.TurnedNumbers.{numbers_long}
+use Rattle.fraction_rows.proofs.RowLaws.{rows_at}
+use Rattle.exact_simplex.proofs.theory.Resolved.{stand_length}
+use Rattle.exact_simplex.proofs.theory.TurnedNumbers.{numbers_long}
 use Rattle.exact_simplex.proofs.Starts.{members_are}
-use Rattle.exact_simplex.proofs.Zips.{zip_at, zip_from, zip_long}
+use Rattle.exact_simplex.proofs.theory.Zips.{zip_at, zip_from, zip_long}
 
 -- the form of a column
 column_form : (costs : CostBox) (rows : List Form) (basis : List Member) (k : ℕ) (member : Member) → k < length basis → slice_index_or basis k (Low 0 0) ≡ member → slice_index_or (forms_of costs rows basis) k no_form ≡ member_form (length costs.low) rows member

@@ -19,11 +19,11 @@ use Rattle.path_rows.specs.declared.tree.Member.{Member}
 use Rattle.path_rows.specs.declared.tree.Member.TheVariants.{Low, High, Row}
 use Rattle.path_rows.specs.Basis.{IsFormOf, entry}
 use Rattle.path_rows.specs.Steps.{column_part, column_parts, denominators, made_whole, multipliers, own_part, unless_zero}
-use Rattle.exact_simplex.specs.Entries.{AllNumbers}
-use Rattle.exact_simplex.specs.TableRows.{AreNumbers, IsNumber}
+use Rattle.fraction_rows.specs.Entries.{AllNumbers}
+use Rattle.fraction_rows.specs.TableRows.{AreNumbers, IsNumber}
 use Rattle.exact_simplex.specs.Wholes.{Stand}
 use Rattle.exact_simplex.specs.Multipliers.{columns_numbered, common_of, fractions, fractions_of, numbered, whole_part, whole_parts, wholes}
-use Rattle.exact_simplex.proofs.Numbers.{times_lowest}
+use Rattle.fraction_rows.proofs.Numbers.{times_lowest}
 use Rattle.exact_simplex.proofs.Solutions.{low_number}
 use Rattle.exact_simplex.proofs.MultiplierSums.{AreMade, Each, IsEntry}
 

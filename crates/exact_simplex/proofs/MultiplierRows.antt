@@ -16,7 +16,7 @@ use Rattle.path_rows.specs.Forms.{form_at, value, weighted}
 use Rattle.path_rows.specs.Steps.{unless_zero}
 use Rattle.path_rows.proofs.Weighted.{value-weighted}
 use Rattle.exact_simplex.specs.Multipliers.{columns_numbered, numbered, whole_part}
-use Rattle.exact_simplex.proofs.Columns.{other_test, same_test}
+use Rattle.fraction_rows.proofs.Columns.{other_test, same_test}
 use Rattle.exact_simplex.proofs.MultiplierSums.{Each}
 use Rattle.exact_simplex.proofs.MultiplierColumns.{each_append}
 

@@ -14,13 +14,13 @@ use Rattle.wide_fraction.specs.declared.steps.Wide.{Wide}
 use Rattle.wide_fraction.specs.Widths.{IsTop}
 use Rattle.path_rows.specs.Steps.{denominators, lcm_of}
 use Rattle.exact_simplex.specs.declared.stage.SimplexStop.TheVariants.{TooWide}
-use Rattle.exact_simplex.specs.Entries.{AllNumbers, IsPassing}
+use Rattle.fraction_rows.specs.Entries.{AllNumbers, IsPassing}
 use Rattle.exact_simplex.specs.Multipliers.{IsMultiplierStep, IsTallyStep, IsWideMultiplier, common_of, fractions, whole_part, wholes}
 use Rattle.exact_simplex.specs.Multipliers.IsMultiplierStep.{multiple, product}
 use Rattle.exact_simplex.specs.Multipliers.IsTallyStep.{sum, scale}
-use Rattle.exact_simplex.specs.TableRows.{IsNumber}
+use Rattle.fraction_rows.specs.TableRows.{IsNumber}
 use Rattle.exact_simplex.proofs.MultiplierColumns.{whole_from}
-use Rattle.exact_simplex.proofs.StartLines.{top_small}
+use Rattle.fraction_rows.proofs.Tops.{top_small}
 
 -- a number of at most 127 bits is read as it is
 pub read_back : (z : ℤ) → nat_abs z < 2 ^ 127 → to_z w128 (of_z w128 z) ≡ z

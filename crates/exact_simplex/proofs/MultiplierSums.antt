@@ -12,7 +12,7 @@ use Rattle.path_rows.specs.Forms.{form_at, value, weighted}
 use Rattle.path_rows.specs.Basis.{member_form}
 use Rattle.path_rows.specs.Steps.{unless_zero}
 use Rattle.path_rows.proofs.Weighted.{value-weighted}
-use Rattle.exact_simplex.proofs.Corner.{negative_factor, negative_product, opposite_product}
+use Rattle.exact_simplex.proofs.theory.Corner.{negative_factor, negative_product, opposite_product}
 use Rattle.exact_simplex.specs.Multipliers.{columns_numbered, numbered, whole_part}
 
 -- the values of members' forms at costs, each times its number

@@ -13,32 +13,32 @@ use Rattle.path_rows.specs.declared.tree.Member.TheVariants.{Low, Row}
 use Rattle.path_rows.specs.Basis.{IsFormOf, entry, low_member, member_form}
 use Rattle.path_rows.specs.Steps.{IsPivot, IsTooWide}
 use Rattle.exact_simplex.specs.declared.table.Table.{Table}
-use Rattle.exact_simplex.specs.TableRows.{IsWideStep, divided_without}
+use Rattle.fraction_rows.specs.TableRows.{IsWideStep, divided_without}
 use Rattle.exact_simplex.specs.Tableaus.{wide_at}
-use Rattle.exact_simplex.specs.Turns.{AreRows, IsQuotientStepOf, IsTurnStep, TurnsWide, turned_by}
+use Rattle.fraction_rows.specs.Turns.{AreRows, IsQuotientStepOf, IsTurnStep, TurnsWide, turned_by}
 use Rattle.exact_simplex.specs.Wholes.{IsLine, IsWhole, IsWholeTable, high_member, members_of, number_at, numbers_of}
 use Rattle.exact_simplex.specs.Pivots.{IsLeastIn, line_at, line_numbers, member_at}
-use Rattle.exact_simplex.proofs.Filled.{length-mapped, mapped_at}
-use Rattle.exact_simplex.proofs.Resolved.{stand_length}
-use Rattle.exact_simplex.proofs.Numbers.{inverse_positive}
-use Rattle.exact_simplex.proofs.RowLaws.{number_at as number_there, times_not_zero}
-use Rattle.exact_simplex.proofs.TurnedNumbers.{numbers_at, numbers_long}
+use Rattle.fraction_rows.proofs.Filled.{length-mapped, mapped_at}
+use Rattle.exact_simplex.proofs.theory.Resolved.{stand_length}
+use Rattle.fraction_rows.proofs.Numbers.{inverse_positive}
+use Rattle.fraction_rows.proofs.RowLaws.{number_at as number_there, times_not_zero}
+use Rattle.exact_simplex.proofs.theory.TurnedNumbers.{numbers_at, numbers_long}
 use Rattle.exact_simplex.proofs.WholeTurns.{IsPivotOf, stand_at, turned_line, whole_turned}
 use Rattle.exact_simplex.proofs.Bases.{line_entries, whole_basis}
 use Rattle.exact_simplex.proofs.Starts.{members_are}
-use Rattle.exact_simplex.proofs.PivotSteps.{IsFormLine, quotient_is_step, turn_is_step}
-use Rattle.exact_simplex.proofs.Zips.{zip_at, zip_long}
+use Rattle.fraction_rows.proofs.PivotSteps.{IsFormLine, quotient_is_step, turn_is_step}
+use Rattle.exact_simplex.proofs.theory.Zips.{zip_at, zip_long}
 
 -- a line of a whole table is that of its member
-pub whole_line : (t : Table) (w : IsWholeTable t) (line : ℕ) → line < length t.lines.items → IsLine t.top w.common t.costs t.rows.items w.lows (member_at t line) (line_at t line)
+pub whole_line : (t : Table) (w : IsWholeTable t) (line : ℕ) → line < length t.lines.items → IsLine t.top w.unboxed.common t.costs t.rows.items w.unboxed.lows (member_at t line) (line_at t line)
 whole_line t w line line_in =
     let members = members_of t.costs (length t.rows.items) in
-    zip_at (IsLine t.top w.common t.costs t.rows.items w.lows) members t.lines.items line (Low 0 0) [] w.lines
-    (omega (arith, zip_long (IsLine t.top w.common t.costs t.rows.items w.lows) members t.lines.items w.lines, line_in))
+    zip_at (IsLine t.top w.unboxed.common t.costs t.rows.items w.unboxed.lows) members t.lines.items line (Low 0 0) [] w.unboxed.lines
+    (omega (arith, zip_long (IsLine t.top w.unboxed.common t.costs t.rows.items w.unboxed.lows) members t.lines.items w.unboxed.lines, line_in))
 
 pub member_in : (t : Table) (w : IsWholeTable t) (line : ℕ) → line < length t.lines.items → line < length (members_of t.costs (length t.rows.items))
 member_in t w line line_in =
-    omega (arith, zip_long (IsLine t.top w.common t.costs t.rows.items w.lows) (members_of t.costs (length t.rows.items)) t.lines.items w.lines, line_in)
+    omega (arith, zip_long (IsLine t.top w.unboxed.common t.costs t.rows.items w.unboxed.lows) (members_of t.costs (length t.rows.items)) t.lines.items w.unboxed.lines, line_in)
 
 pub member_is : (t : Table) (w : IsWholeTable t) (line : ℕ) → line < length t.lines.items → IsFormOf t.costs t.rows.items (member_at t line)
 member_is t w line line_in = members_are t.costs t.rows.items line (Low 0 0) (member_in t w line line_in)
@@ -46,8 +46,8 @@ member_is t w line line_in = members_are t.costs t.rows.items line (Low 0 0) (me
 pub line_long : (t : Table) (w : IsWholeTable t) (line : ℕ) → line < length t.lines.items → length (line_at t line) ≡ suc (length t.costs.low)
 line_long t w line line_in =
     let l = whole_line t w line line_in in
-    stand_length w.common (line_at t line) (line_numbers t w line) l.stand
-    ∙ numbers_long (length t.costs.low) w.common t.costs.low w.lows (member_form (length t.costs.low) t.rows.items (member_at t line))
+    stand_length w.unboxed.common (line_at t line) (line_numbers t w line) l.stand
+    ∙ numbers_long (length t.costs.low) w.unboxed.common t.costs.low w.unboxed.lows (member_form (length t.costs.low) t.rows.items (member_at t line))
 
 -- a line that is read
 pub line_read : (t : Table) (line : ℕ) (row : List Fraction) → row ≡ slice_index_or t.lines.items line row → line < length t.lines.items → row ≡ line_at t line
@@ -55,15 +55,15 @@ line_read t line row is line_in = is ∙ get_or_default t.lines.items line row [
 
 -- all lines are of the table's width and numbers
 pub whole_rows : (t : Table) (w : IsWholeTable t) → AreRows t.top (suc (length t.costs.low)) t.lines.items
-whole_rows t w = fit (members_of t.costs (length t.rows.items)) t.lines.items w.lines
+whole_rows t w = fit (members_of t.costs (length t.rows.items)) t.lines.items w.unboxed.lines
   where
-    fit : (members : List Member) (lines : List (List Fraction)) → AllZip (IsLine t.top w.common t.costs t.rows.items w.lows) members lines → AreRows t.top (suc (length t.costs.low)) lines
+    fit : (members : List Member) (lines : List (List Fraction)) → AllZip (IsLine t.top w.unboxed.common t.costs t.rows.items w.unboxed.lows) members lines → AreRows t.top (suc (length t.costs.low)) lines
     fit [] [] all = tt
     fit [] (line ∷ lines) all = absurd all
     fit (member ∷ members) [] all = absurd all
     fit (member ∷ members) (line ∷ lines) all = (
-      stand_length w.common line (numbers_of (length t.costs.low) w.common t.costs.low w.lows (member_form (length t.costs.low) t.rows.items member)) all.0.stand
-          ∙ numbers_long (length t.costs.low) w.common t.costs.low w.lows (member_form (length t.costs.low) t.rows.items member),
+      stand_length w.unboxed.common line (numbers_of (length t.costs.low) w.unboxed.common t.costs.low w.unboxed.lows (member_form (length t.costs.low) t.rows.items member)) all.0.stand
+          ∙ numbers_long (length t.costs.low) w.unboxed.common t.costs.low w.unboxed.lows (member_form (length t.costs.low) t.rows.items member),
       all.0.numbers,
       fit members lines all.1,
     )
@@ -75,7 +75,7 @@ form_line t w line line_in =
     record {
       form = is;
       entries = line_entries t.top t.costs t.rows.items t.basis.items t.lines.items w (member_at t line) (line_at t line) is l;
-      count = line_long t w line line_in ∙ ap suc (sym w.count);
+      count = line_long t w line line_in ∙ ap suc (sym w.unboxed.count);
       numbers = l.numbers;
     }
 
@@ -133,10 +133,10 @@ entry_number t w line column line_in pivot =
     let es = line_at t line in
     let f = member_form n t.rows.items (member_at t line) in
     let l = whole_line t w line line_in in
-    let column_in : column < n = omega (arith, pivot.column, w.count) in
+    let column_in : column < n = omega (arith, pivot.column, w.unboxed.count) in
     let here = number_there t.top es (suc column) l.numbers (omega (arith, line_long t w line line_in, column_in)) in
-    let stands = stand_at w.common es (line_numbers t w line) (suc column) l.stand (omega (arith, numbers_long n w.common t.costs.low w.lows f, column_in)) in
-    positive_number (entry es (suc column)).numerator (number_at (line_numbers t w line) (suc column)) (entry es (suc column)).denominator w.common here.lowest.positive w.positive stands pivot.above
+    let stands = stand_at w.unboxed.common es (line_numbers t w line) (suc column) l.stand (omega (arith, numbers_long n w.unboxed.common t.costs.low w.unboxed.lows f, column_in)) in
+    positive_number (entry es (suc column)).numerator (number_at (line_numbers t w line) (suc column)) (entry es (suc column)).denominator w.unboxed.common here.lowest.positive w.unboxed.positive stands pivot.above
 
 -- the lines, turned by the quotients and the inverse that were made of a row
 pub news_turned : (es row qs : List Fraction) (place : ℕ) (inverse : Fraction) (news rows lines : List (List Fraction)) → news ≡ map (λ fs. turned_by fs qs place inverse) rows → rows ≡ lines → qs ≡ divided_without place (entry row place) row 0 → inverse ≡ divided (whole (pos 1)) (entry row place) → row ≡ es → news ≡ map (turned_line es place) lines
@@ -147,16 +147,16 @@ news_turned es row qs place inverse news rows lines news_are rows_are qs_are inv
     ∙ ap (λ (q : Fraction). map (λ fs. turned_by fs (divided_without place (entry es place) es 0) place q) lines) (inverse_is ∙ ap (λ (r : List Fraction). divided (whole (pos 1)) (entry r place)) row_is)
 
 -- what a pivot of the table needs
-pub pivot_of : (t : Table) (w : IsWholeTable t) (line column a : ℕ) → line < length t.lines.items → IsPivot t.basis.items (line_at t line) (suc column) → IsLeastIn t line column → number_at (line_numbers t w line) (suc column) ≡ pos a → 0 < a → IsPivotOf t.top t.costs t.rows.items w.common w.lows (member_at t line) (line_at t line) column a
+pub pivot_of : (t : Table) (w : IsWholeTable t) (line column a : ℕ) → line < length t.lines.items → IsPivot t.basis.items (line_at t line) (suc column) → IsLeastIn t line column → number_at (line_numbers t w line) (suc column) ≡ pos a → 0 < a → IsPivotOf t.top t.costs t.rows.items w.unboxed.common w.unboxed.lows (member_at t line) (line_at t line) column a
 pivot_of t w line column a line_in pivot least at_column positive =
     let n = length t.costs.low in
     let f = member_form n t.rows.items (member_at t line) in
-    let column_in : column < n = omega (arith, pivot.column, w.count) in
+    let column_in : column < n = omega (arith, pivot.column, w.unboxed.count) in
     record {
       member = member_is t w line line_in;
       line = whole_line t w line line_in;
       j_in = column_in;
-      at_j = sym (numbers_at n w.common t.costs.low w.lows f (suc column) (omega (arith, column_in))) ∙ at_column;
+      at_j = sym (numbers_at n w.unboxed.common t.costs.low w.unboxed.lows f (suc column) (omega (arith, column_in))) ∙ at_column;
       positive = positive;
       least = least w;
     }
@@ -215,5 +215,5 @@ members_long costs rows =
 
 pub lines_long : (t : Table) (w : IsWholeTable t) → length t.lines.items ≡ length t.costs.low + length t.costs.low + length t.rows.items
 lines_long t w =
-    sym (zip_long (IsLine t.top w.common t.costs t.rows.items w.lows) (members_of t.costs (length t.rows.items)) t.lines.items w.lines)
+    sym (zip_long (IsLine t.top w.unboxed.common t.costs t.rows.items w.unboxed.lows) (members_of t.costs (length t.rows.items)) t.lines.items w.unboxed.lines)
     ∙ members_long t.costs (length t.rows.items)

@@ -12,20 +12,20 @@ use Rattle.path_rows.specs.Earnest.{LexLess}
 use Rattle.path_rows.specs.Steps.{IsPivot}
 use Rattle.exact_simplex.specs.declared.table.Table.{Table}
 use Rattle.path_rows.specs.declared.form.CostBox.{CostBox}
-use Rattle.exact_simplex.specs.TableRows.{IsNumber}
-use Rattle.exact_simplex.specs.Turns.{AreRows}
+use Rattle.fraction_rows.specs.TableRows.{IsNumber}
+use Rattle.fraction_rows.specs.Turns.{AreRows}
 use Rattle.exact_simplex.specs.Wholes.{AllLong, IsWholeTable, number_at}
 use Rattle.exact_simplex.specs.Pivots.{IsLeastIn, KeepsForms, line_at, line_numbers, member_at, numbers_in, turned_column}
 use Rattle.exact_simplex.specs.Ranks.{digits_number, heights, past_heights, raised_height, rank}
-use Rattle.exact_simplex.proofs.Height.{AllBelow, digits_number-lt, digits_rise, height_rises}
-use Rattle.exact_simplex.proofs.RowLaws.{number_at as number_there, rows_at}
-use Rattle.exact_simplex.proofs.Turns.{turned_rows}
-use Rattle.exact_simplex.proofs.TurnedNumbers.{numbers_long}
-use Rattle.exact_simplex.proofs.TurnedLeads.{column_other, length-numbers_in}
+use Rattle.exact_simplex.proofs.theory.Height.{AllBelow, digits_number-lt, digits_rise, height_rises}
+use Rattle.fraction_rows.proofs.RowLaws.{number_at as number_there, rows_at}
+use Rattle.exact_simplex.proofs.theory.Turns.{turned_rows}
+use Rattle.exact_simplex.proofs.theory.TurnedNumbers.{numbers_long}
+use Rattle.exact_simplex.proofs.theory.TurnedLeads.{column_other, length-numbers_in}
 use Rattle.exact_simplex.proofs.WholeTurns.{IsPivotOf, stand_at, turned_line, whole_turned}
 use Rattle.exact_simplex.proofs.Bases.{low_line_stands, lows_counted}
 use Rattle.exact_simplex.proofs.Pivots.{entry_number, line_long, lines_long, pivot_of, positive_number, whole_line}
-use Rattle.exact_simplex.proofs.Rise.{constants_rise, rise}
+use Rattle.exact_simplex.proofs.theory.Rise.{constants_rise, rise}
 use Rattle.exact_simplex.proofs.Solutions.{high_number, low_number, negative_number}
 
 -- a fraction within the top isn't negative once it is raised
@@ -166,11 +166,11 @@ first_number : (lows : List (List ℤ)) (place v : ℕ) → v < length lows → 
 first_number lows place v v_in = get_or-map (λ ts. number_at ts place) lows v [] (pos 0) v_in
 
 -- Before and after a pivot the constants of x - low are fractions of numbers in the first column.
-constants_there : (t : Table) (w : IsWholeTable t) (line column a : ℕ) (line_in : line < length t.lines.items) → (p : IsPivotOf t.top t.costs t.rows.items w.common w.lows (member_at t line) (line_at t line) column a) → (rows : AreRows t.top (suc (length t.costs.low)) (map (turned_line (line_at t line) (suc column)) t.lines.items)) → (v : ℕ) → v < length t.costs.low → IsConstant t.top w.common a (entry (slice_index_or t.lines.items v []) 0) (entry (slice_index_or (map (turned_line (line_at t line) (suc column)) t.lines.items) v []) 0) (slice_index_or (numbers_in 0 w.lows) v (pos 0)) (slice_index_or (numbers_in 0 (turned_rows w.lows (line_numbers t w line) (suc column) w.common)) v (pos 0))
+constants_there : (t : Table) (w : IsWholeTable t) (line column a : ℕ) (line_in : line < length t.lines.items) → (p : IsPivotOf t.top t.costs t.rows.items w.unboxed.common w.unboxed.lows (member_at t line) (line_at t line) column a) → (rows : AreRows t.top (suc (length t.costs.low)) (map (turned_line (line_at t line) (suc column)) t.lines.items)) → (v : ℕ) → v < length t.costs.low → IsConstant t.top w.unboxed.common a (entry (slice_index_or t.lines.items v []) 0) (entry (slice_index_or (map (turned_line (line_at t line) (suc column)) t.lines.items) v []) 0) (slice_index_or (numbers_in 0 w.unboxed.lows) v (pos 0)) (slice_index_or (numbers_in 0 (turned_rows w.unboxed.lows (line_numbers t w line) (suc column) w.unboxed.common)) v (pos 0))
 unfolding whole_turned
 constants_there t w line column a line_in p rows v v_in =
     let news = map (turned_line (line_at t line) (suc column)) t.lines.items in
-    let lows = turned_rows w.lows (line_numbers t w line) (suc column) w.common in
+    let lows = turned_rows w.unboxed.lows (line_numbers t w line) (suc column) w.unboxed.common in
     let basis = slice_set t.basis.items column (member_at t line) in
     let whole = whole_turned t.top t.costs t.rows.items t.basis.items t.lines.items (member_at t line) (line_at t line) column a w p rows in
     let counted = lows_counted t.top t.costs t.rows.items t.basis.items t.lines.items w in
@@ -183,8 +183,8 @@ constants_there t w line column a line_in p rows v v_in =
     record {
       old = constant_number t w v (omega (arith, many, v_in));
       new = number_there t.top (slice_index_or news v []) 0 row.1 (omega (arith, row.0));
-      old_stands = subst (λ (z : ℤ). StandsFor (entry (line_at t v) 0) z w.common) (sym (first_number w.lows 0 v (omega (arith, counted, v_in)))) before.1;
-      new_stands = subst (λ (z : ℤ). StandsFor (entry (slice_index_or news v []) 0) z (w.common * a)) (sym (first_number lows 0 v (omega (arith, counted_after, v_in)))) after.1;
+      old_stands = subst (λ (z : ℤ). StandsFor (entry (line_at t v) 0) z w.unboxed.common) (sym (first_number w.unboxed.lows 0 v (omega (arith, counted, v_in)))) before.1;
+      new_stands = subst (λ (z : ℤ). StandsFor (entry (slice_index_or news v []) 0) z (w.unboxed.common * a)) (sym (first_number lows 0 v (omega (arith, counted_after, v_in)))) after.1;
     }
 
 -- At a pivot the rank rises.
@@ -202,20 +202,20 @@ rank_rises t w line column news line_in pivot least news_are rows =
     let many = lines_many t w in
     let as_many : length turned ≡ length t.lines.items = length-map t.lines.items (turned_line es (suc column)) in
     let counted = lows_counted t.top t.costs t.rows.items t.basis.items t.lines.items w in
-    let rs_long : length rs ≡ suc n = numbers_long n w.common t.costs.low w.lows (member_form n t.rows.items (member_at t line)) in
-    let column_is : numbers_in 0 (turned_rows w.lows rs (suc column) w.common) ≡ turned_column a (numbers_in 0 w.lows) (number_at rs 0) (numbers_in (suc column) w.lows) =
-    column_other a w.common w.lows rs (suc column) 0 (subst (λ (m : ℕ). AllLong m w.lows) (sym rs_long) w.long) positive.1 (λ same. omega (arith, same)) (omega (arith, rs_long)) in
+    let rs_long : length rs ≡ suc n = numbers_long n w.unboxed.common t.costs.low w.unboxed.lows (member_form n t.rows.items (member_at t line)) in
+    let column_is : numbers_in 0 (turned_rows w.unboxed.lows rs (suc column) w.unboxed.common) ≡ turned_column a (numbers_in 0 w.unboxed.lows) (number_at rs 0) (numbers_in (suc column) w.unboxed.lows) =
+    column_other a w.unboxed.common w.unboxed.lows rs (suc column) 0 (subst (λ (m : ℕ). AllLong m w.unboxed.lows) (sym rs_long) w.unboxed.long) positive.1 (λ same. omega (arith, same)) (omega (arith, rs_long)) in
     let below = negative_size (number_at rs 0) (constant_negative t w line line_in pivot.below) in
-    let in_columns : length (numbers_in 0 w.lows) ≡ length (numbers_in (suc column) w.lows) = length-numbers_in 0 w.lows (suc column) in
-    let rises = constants_rise w.common a (numbers_in 0 w.lows) below.0 (number_at rs 0) (numbers_in (suc column) w.lows) w.positive below.1 below.2 in_columns (w.lead column p.j_in) in
-    let xs_long : length (numbers_in 0 w.lows) ≡ n = length-map w.lows (λ ts. number_at ts 0) ∙ sym counted in
-    let lows = turned_rows w.lows rs (suc column) w.common in
+    let in_columns : length (numbers_in 0 w.unboxed.lows) ≡ length (numbers_in (suc column) w.unboxed.lows) = length-numbers_in 0 w.unboxed.lows (suc column) in
+    let rises = constants_rise w.unboxed.common a (numbers_in 0 w.unboxed.lows) below.0 (number_at rs 0) (numbers_in (suc column) w.unboxed.lows) w.unboxed.positive below.1 below.2 in_columns (w.unboxed.lead column p.j_in) in
+    let xs_long : length (numbers_in 0 w.unboxed.lows) ≡ n = length-map w.unboxed.lows (λ ts. number_at ts 0) ∙ sym counted in
+    let lows = turned_rows w.unboxed.lows rs (suc column) w.unboxed.common in
     let whole = whole_turned t.top t.costs t.rows.items t.basis.items t.lines.items (member_at t line) es column a w p turned_rows_are in
     let counted_after : n ≡ length lows = lows_counted t.top t.costs t.rows.items (slice_set t.basis.items column (member_at t line)) turned whole in
     let ys_long : length (numbers_in 0 lows) ≡ n = length-map lows (λ ts. number_at ts 0) ∙ sym counted_after in
-    let higher = constants_higher t.top w.common a n t.lines.items turned (numbers_in 0 w.lows) (numbers_in 0 lows) w.positive positive.2 xs_long ys_long many (omega (arith, as_many, many))
+    let higher = constants_higher t.top w.unboxed.common a n t.lines.items turned (numbers_in 0 w.unboxed.lows) (numbers_in 0 lows) w.unboxed.positive positive.2 xs_long ys_long many (omega (arith, as_many, many))
     (constants_there t w line column a line_in p turned_rows_are)
-    (subst (λ (ys : List ℤ). LeadsPositive (rise w.common a ys (numbers_in 0 w.lows))) (sym column_is) rises) in
+    (subst (λ (ys : List ℤ). LeadsPositive (rise w.unboxed.common a ys (numbers_in 0 w.unboxed.lows))) (sym column_is) rises) in
     subst (λ (lines : List (List Fraction)). rank t < digits_number (past_heights t.top) (heights t.top n lines)) (sym news_are)
     (digits_rise (past_heights t.top) (heights t.top n t.lines.items) (heights t.top n turned)
     (heights_small t.top n t.lines.items (λ v v_in v_there. constant_number t w v v_there))
@@ -228,8 +228,8 @@ rank_rises t w line column news line_in pivot least news_are rows =
     constant_negative : (t : Table) (w : IsWholeTable t) (line : ℕ) → line < length t.lines.items → (entry (line_at t line) 0).numerator <ℤ pos 0 → number_at (line_numbers t w line) 0 <ℤ pos 0
     constant_negative t w line line_in below =
         let l = whole_line t w line line_in in
-        let stands = stand_at w.common (line_at t line) (line_numbers t w line) 0 l.stand (omega (arith, numbers_long (length t.costs.low) w.common t.costs.low w.lows (member_form (length t.costs.low) t.rows.items (member_at t line)))) in
-        negative_number (entry (line_at t line) 0).numerator (number_at (line_numbers t w line) 0) (entry (line_at t line) 0).denominator w.common (constant_number t w line line_in).lowest.positive w.positive stands below
+        let stands = stand_at w.unboxed.common (line_at t line) (line_numbers t w line) 0 l.stand (omega (arith, numbers_long (length t.costs.low) w.unboxed.common t.costs.low w.unboxed.lows (member_form (length t.costs.low) t.rows.items (member_at t line)))) in
+        negative_number (entry (line_at t line) 0).numerator (number_at (line_numbers t w line) 0) (entry (line_at t line) 0).denominator w.unboxed.common (constant_number t w line line_in).lowest.positive w.unboxed.positive stands below
 
 -- where the rank rose it is nearer to its bound
 pub nearer : (old new : Table) → IsWholeTable new → KeepsForms old new → rank old < rank new → past_heights new.top ^ length new.costs.low - rank new < past_heights old.top ^ length old.costs.low - rank old

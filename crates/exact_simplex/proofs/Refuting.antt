@@ -26,20 +26,20 @@ use Rattle.path_rows.proofs.GreatestLaws.{greatest_reached}
 use Rattle.exact_simplex.specs.declared.table.Table.{Table}
 use Rattle.exact_simplex.specs.declared.stage.SimplexStop.{SimplexStop}
 use Rattle.exact_simplex.specs.declared.stage.SimplexStop.TheVariants.{TooWide, OutOfMemory}
-use Rattle.exact_simplex.specs.Entries.{AllNumbers, IsPassing}
+use Rattle.fraction_rows.specs.Entries.{AllNumbers, IsPassing}
 use Rattle.exact_simplex.specs.Multipliers.{IsMultiplierStep, IsTallyStep, IsToldOf, IsWideMultiplier, columns_numbered, common_of, fractions, fractions_of, numbered, whole_part, whole_parts, wholes}
 use Rattle.exact_simplex.specs.Multipliers.IsMultiplierStep.{multiple, product, tally}
 use Rattle.exact_simplex.specs.Multipliers.IsTallyStep.{sum, scale}
-use Rattle.exact_simplex.specs.TableRows.{AreNumbers}
+use Rattle.fraction_rows.specs.TableRows.{AreNumbers}
 use Rattle.exact_simplex.specs.Tableaus.{wide_at}
 use Rattle.exact_simplex.specs.Wholes.{IsWholeTable, Stand, low_forms, number_of}
 use Rattle.exact_simplex.specs.Pivots.{line_at, member_at}
 use Rattle.exact_simplex.proofs.Bases.{whole_basis}
-use Rattle.exact_simplex.proofs.Blends.{form_mixture}
+use Rattle.exact_simplex.proofs.theory.Blends.{form_mixture}
 use Rattle.exact_simplex.proofs.Pivots.{form_line, line_long, member_is, whole_line}
-use Rattle.exact_simplex.proofs.Points.{equation_at, mixed_at}
-use Rattle.exact_simplex.proofs.Resolved.{resolved}
-use Rattle.exact_simplex.proofs.RowLaws.{number_at as number_there, one_within}
+use Rattle.exact_simplex.proofs.theory.Points.{equation_at, mixed_at}
+use Rattle.exact_simplex.proofs.theory.Resolved.{resolved}
+use Rattle.fraction_rows.proofs.RowLaws.{number_at as number_there, one_within}
 use Rattle.exact_simplex.proofs.Solutions.{member_met, stuck_first}
 use Rattle.exact_simplex.proofs.WholeTurns.{coefficients_long}
 use Rattle.exact_simplex.proofs.MultiplierSums.{AllHigh, Each, IsHigh, member_sum, parts_negative}
@@ -112,14 +112,14 @@ abbrev pub parts_at : Table → ℕ → List (ℕ × Fraction)
 parts_at t line = fractions_of t.basis.items (member_at t line) (line_at t line)
 
 abbrev constant_at : (t : Table) (line : ℕ) → IsWholeTable t → ℤ
-constant_at t line w = number_of w.common t.costs.low w.lows (member_form (length t.costs.low) t.rows.items (member_at t line)) 0
+constant_at t line w = number_of w.unboxed.common t.costs.low w.unboxed.lows (member_form (length t.costs.low) t.rows.items (member_at t line)) 0
 
 constant_low : (t : Table) (line : ℕ) (s : IsStuckLine t line) → constant_at t line s.whole <ℤ pos 0
 constant_low t line s =
     let w = s.whole in
     let f = member_form (length t.costs.low) t.rows.items (member_at t line) in
     let l = whole_line t w line s.line_in in
-    stuck_first t.top w.common (line_at t line) (constant_at t line w) (map (number_of w.common t.costs.low w.lows f) (numbers_from 1 (length t.costs.low))) w.positive l.numbers l.stand s.stuck.below
+    stuck_first t.top w.unboxed.common (line_at t line) (constant_at t line w) (map (number_of w.unboxed.common t.costs.low w.unboxed.lows f) (numbers_from 1 (length t.costs.low))) w.unboxed.positive l.numbers l.stand s.stuck.below
 
 -- each part is of a row, and positive
 pub parts_are : (t : Table) (line : ℕ) → IsStuckLine t line → Each (IsPart t.top (length t.rows.items)) (parts_at t line)
@@ -132,8 +132,8 @@ parts_are t line s =
     let first = number_there t.top es 0 l.numbers (omega (arith, long)) in
     each_append (IsPart t.top (length t.rows.items)) (numbered r (whole (pos 1) ∷ [])) (columns_numbered t.basis.items (drop 1 es))
     (own_is t.top t.costs t.rows.items r (member_is t w line s.line_in) (one_number t.top (one_within t.top (entry es 0) first)))
-    (columns_are t.top t.costs t.rows.items t.basis.items (drop 1 es) w.members (rest_numbers t.top es l.numbers)
-    (rest_low (length t.costs.low) es long (λ k k_from k_in. s.stuck.none_above k k_from (omega (arith, w.count, k_in)))))
+    (columns_are t.top t.costs t.rows.items t.basis.items (drop 1 es) w.unboxed.members (rest_numbers t.top es l.numbers)
+    (rest_low (length t.costs.low) es long (λ k k_from k_in. s.stuck.none_above k k_from (omega (arith, w.unboxed.count, k_in)))))
 
 -- the members of a basis are different
 both_numbers : (D : ℕ) (z : ℤ) → 0 < D → z ≡ pos D → z ≡ pos 0 → ⊥
@@ -142,23 +142,23 @@ both_numbers D z positive first second = omega (arith, ints)
 basis_apart : (t : Table) → IsWholeTable t → AreApart t.basis.items
 basis_apart t w j k before k_in same =
     let n = length t.costs.low in
-    let D = w.common in
-    let k_there : k < n = omega (arith, w.count, k_in) in
+    let D = w.unboxed.common in
+    let k_there : k < n = omega (arith, w.unboxed.count, k_in) in
     let forms_same : slice_index_or (forms_of t.costs t.rows.items t.basis.items) k no_form ≡ slice_index_or (forms_of t.costs t.rows.items t.basis.items) j no_form =
     get_or-map (member_form n t.rows.items) t.basis.items k (Low 0 0) no_form k_in ∙ ap (member_form n t.rows.items) same ∙ sym (get_or-map (member_form n t.rows.items) t.basis.items j (Low 0 0) no_form (omega (arith, before, k_in))) in
-    both_numbers D (number_of D t.costs.low w.lows (slice_index_or (forms_of t.costs t.rows.items t.basis.items) k no_form) (suc k)) w.positive (w.own k k_there)
-    (ap (λ (f : Form). number_of D t.costs.low w.lows f (suc k)) forms_same ∙ w.elsewhere j (suc k) (omega (arith, before, k_there)) (omega (arith, k_there)) (λ e. omega (arith, before, e)))
+    both_numbers D (number_of D t.costs.low w.unboxed.lows (slice_index_or (forms_of t.costs t.rows.items t.basis.items) k no_form) (suc k)) w.unboxed.positive (w.unboxed.own k k_there)
+    (ap (λ (f : Form). number_of D t.costs.low w.unboxed.lows f (suc k)) forms_same ∙ w.unboxed.elsewhere j (suc k) (omega (arith, before, k_there)) (omega (arith, k_there)) (λ e. omega (arith, before, e)))
 
 line_apart : (t : Table) (line : ℕ) → IsStuckLine t line → IsApart (member_at t line) t.basis.items
 line_apart t line s k k_in same =
     let n = length t.costs.low in
     let w = s.whole in
-    let D = w.common in
-    let k_there : k < n = omega (arith, w.count, k_in) in
+    let D = w.unboxed.common in
+    let k_there : k < n = omega (arith, w.unboxed.count, k_in) in
     let form_is : slice_index_or (forms_of t.costs t.rows.items t.basis.items) k no_form ≡ member_form n t.rows.items (member_at t line) =
     get_or-map (member_form n t.rows.items) t.basis.items k (Low 0 0) no_form k_in ∙ ap (member_form n t.rows.items) same in
     not_both (constant_at t line w) (constant_low t line s)
-    (sym (ap (λ (f : Form). number_of D t.costs.low w.lows f 0) form_is) ∙ w.elsewhere k 0 k_there (omega arith) (λ e. omega (arith, e)))
+    (sym (ap (λ (f : Form). number_of D t.costs.low w.unboxed.lows f 0) form_is) ∙ w.unboxed.elsewhere k 0 k_there (omega arith) (λ e. omega (arith, e)))
   where
     not_both : (z : ℤ) → z <ℤ pos 0 → z ≡ pos 0 → ⊥
     not_both z low none = omega (arith, ints)
@@ -187,20 +187,20 @@ pub parts_long : (t : Table) (line : ℕ) → IsStuckLine t line → length (par
 parts_long t line s =
     let own = numbered (member_at t line) (whole (pos 1) ∷ []) in
     let rest = columns_numbered t.basis.items (drop 1 (line_at t line)) in
-    omega (arith, length-append own rest, numbered_long (member_at t line) (whole (pos 1) ∷ []), columns_long t.basis.items (drop 1 (line_at t line)), s.whole.count)
+    omega (arith, length-append own rest, numbered_long (member_at t line) (whole (pos 1) ∷ []), columns_long t.basis.items (drop 1 (line_at t line)), s.whole.unboxed.count)
 
 -- their sum is negative at each point of the box
-equation_is : (t : Table) (line : ℕ) (s : IsStuckLine t line) (w : List ℕ) → (pos s.whole.common *ℤ value (member_form (length t.costs.low) t.rows.items (member_at t line)) w) ≡ (constant_at t line s.whole +ℤ member_sum (length t.costs.low) t.rows.items w (map (number_of s.whole.common t.costs.low s.whole.lows (member_form (length t.costs.low) t.rows.items (member_at t line))) (numbers_from 1 (length t.costs.low))) t.basis.items)
+equation_is : (t : Table) (line : ℕ) (s : IsStuckLine t line) (w : List ℕ) → (pos s.whole.unboxed.common *ℤ value (member_form (length t.costs.low) t.rows.items (member_at t line)) w) ≡ (constant_at t line s.whole +ℤ member_sum (length t.costs.low) t.rows.items w (map (number_of s.whole.unboxed.common t.costs.low s.whole.unboxed.lows (member_form (length t.costs.low) t.rows.items (member_at t line))) (numbers_from 1 (length t.costs.low))) t.basis.items)
 equation_is t line s w =
     let n = length t.costs.low in
     let whole = s.whole in
-    let D = whole.common in
+    let D = whole.unboxed.common in
     let member = member_at t line in
     let f = member_form n t.rows.items member in
     let bs = forms_of t.costs t.rows.items t.basis.items in
     let m = constant_at t line whole in
-    let ms = map (number_of D t.costs.low whole.lows f) (numbers_from 1 n) in
-    let mixture_is = form_mixture D n t.costs.low (low_forms n 0 t.costs.low) whole.lows bs f whole.long whole.mixtures (resolved t.costs.low f (coefficients_long t.costs t.rows.items member whole.fit (member_is t whole line s.line_in))) in
+    let ms = map (number_of D t.costs.low whole.unboxed.lows f) (numbers_from 1 n) in
+    let mixture_is = form_mixture D n t.costs.low (low_forms n 0 t.costs.low) whole.unboxed.lows bs f whole.unboxed.long whole.unboxed.mixtures (resolved t.costs.low f (coefficients_long t.costs t.rows.items member whole.fit (member_is t whole line s.line_in))) in
     ap (λ (z : ℤ). pos D *ℤ z) (sym (value_at_costs f w))
     ∙ equation_at f bs D (m ∷ ms) (at_costs w) mixture_is
     ∙ ap (λ (z : ℤ). (m *ℤ pos 1) +ℤ z) (mixed_members n t.rows.items w ms t.basis.items)
@@ -210,7 +210,7 @@ pub sum_negative : (t : Table) (line : ℕ) → IsStuckLine t line → (w : List
 sum_negative t line s w inside =
     let n = length t.costs.low in
     let whole_is = s.whole in
-    let D = whole_is.common in
+    let D = whole_is.unboxed.common in
     let r = member_at t line in
     let es = line_at t line in
     let f = member_form n t.rows.items r in
@@ -218,14 +218,14 @@ sum_negative t line s w inside =
     let l = whole_line t whole_is line s.line_in in
     let long = line_long t whole_is line s.line_in in
     let m = constant_at t line whole_is in
-    let ms = map (number_of D t.costs.low whole_is.lows f) (numbers_from 1 n) in
+    let ms = map (number_of D t.costs.low whole_is.unboxed.lows f) (numbers_from 1 n) in
     let L_positive = common_positive t.top (length t.rows.items) (parts_at t line) (parts_are t line s) in
     let divides = each_right (λ part. part.1.denominator ∣ L) (numbered r (whole (pos 1) ∷ [])) (columns_numbered t.basis.items (drop 1 es)) (common_divides (parts_at t line)) in
-    let made = are_made t.top D L t.basis.items (drop 1 es) ms (whole_is.count ∙ sym (rest_long es n long)) whole_is.positive L_positive (rest_numbers t.top es l.numbers)
-    (rest_low n es long (λ k k_from k_in. s.stuck.none_above k k_from (omega (arith, whole_is.count, k_in)))) (rest_stand D es m ms l.stand) divides in
+    let made = are_made t.top D L t.basis.items (drop 1 es) ms (whole_is.unboxed.count ∙ sym (rest_long es n long)) whole_is.unboxed.positive L_positive (rest_numbers t.top es l.numbers)
+    (rest_low n es long (λ k k_from k_in. s.stuck.none_above k k_from (omega (arith, whole_is.unboxed.count, k_in)))) (rest_stand D es m ms l.stand) divides in
     parts_negative D L n t.rows.items w r t.basis.items (drop 1 es) m ms L_positive (constant_low t line s)
     (bound_high t.costs t.rows.items w r inside (member_is t whole_is line s.line_in))
-    (all_high t.costs t.rows.items w t.basis.items inside whole_is.members)
+    (all_high t.costs t.rows.items w t.basis.items inside whole_is.unboxed.members)
     made (own_made L r L_positive) (equation_is t line s w)
 
 pub whole_are : (t : Table) (line : ℕ) → IsStuckLine t line → Each (λ part. (part.0 < length t.rows.items) × (0 < part.1)) (whole_parts (parts_at t line))

@@ -1,7 +1,7 @@
 -- The lines of the starting basis, as they are made again.
-use Rattle.std.proofs.Common.{◌≡◌, ℕ, suc, ◌+◌, ◌-◌, ◌^◌, ◌<◌, ◌≤◌, sym, ◌∙◌, ap, subst, List, [], ◌∷◌, ◌++◌, map, take, drop, length, arith, zero-add, inl, inr}
+use Rattle.std.proofs.Common.{◌≡◌, ℕ, zero, suc, ◌+◌, ◌-◌, ◌^◌, ◌<◌, ◌≤◌, refl, sym, ◌∙◌, add-one, drop-cons, ap, subst, List, [], ◌∷◌, ◌++◌, map, take, drop, length, arith, zero-add, inl, inr}
 use Rattle.std.specs.Prelude.{ℤ, pos, negsuc, ◌-ℤ◌, nat_abs, slice_index, slice_index_or, slice_set, All}
-use Rattle.std.proofs.lemmas.List.{get_or-map, length-map}
+use Rattle.std.proofs.lemmas.List.{append_assoc, at_drop_all, get_or-map, get_or-set_other, length-append, length-map, length-set}
 use Rattle.cost_base.specs.Lists.{numbers_from}
 use Rattle.whole_numbers.specs.Fractions.{Fraction, whole}
 use Rattle.path_rows.specs.declared.form.Form.{Form}
@@ -9,58 +9,105 @@ use Rattle.path_rows.specs.declared.form.CostBox.{CostBox}
 use Rattle.wide_fraction.specs.Widths.{IsTop}
 use Rattle.path_rows.specs.declared.tree.Member.{Member}
 use Rattle.path_rows.specs.declared.tree.Member.TheVariants.{Low, High}
-use Rattle.path_rows.specs.Forms.{value}
+use Rattle.path_rows.specs.declared.form.Term.{Term}
+use Rattle.path_rows.specs.Forms.{terms_from, value}
+use Rattle.path_rows.proofs.TermLaws.{rising_from}
+use Rattle.fraction_rows.proofs.Sums.{no_term, term_in}
 use Rattle.path_rows.specs.Basis.{IsFormOf, entry, low_member, member_form, unit}
-use Rattle.exact_simplex.specs.TableRows.{AreNumbers, nothing}
+use Rattle.fraction_rows.specs.TableRows.{AreNumbers, nothing}
 use Rattle.exact_simplex.specs.Tableaus.{FitsBox, Held, IsRebased, moved, rebased, starting}
 use Rattle.exact_simplex.specs.declared.stage.Stage.{Stage}
 use Rattle.exact_simplex.specs.declared.stage.Stage.TheVariants.{Open}
 use Rattle.exact_simplex.proofs.Pivots.{members_long}
 use Rattle.exact_simplex.specs.Wholes.{HasRoom, IsSound, IsWhole, IsWholeTable, held_of, members_of, starting_line}
-use Rattle.exact_simplex.specs.Moves.{HasShape, IsMoved, IsUnboxedTable, KeepsAllButLines, KeepsRows}
+use Rattle.exact_simplex.specs.Moves.{HasShape, IsMoved, KeepsAllButLines, KeepsRows}
 use Rattle.exact_simplex.specs.Pivots.{member_at}
-use Rattle.exact_simplex.specs.Turns.{AreRows}
+use Rattle.fraction_rows.specs.Turns.{AreRows}
 use Rattle.exact_simplex.specs.declared.table.Table.{Table}
 use Rattle.path_rows.specs.Boxes.{IsBox}
 use Rattle.exact_simplex.proofs.Bases.{whole_basis}
 use Rattle.exact_simplex.proofs.Starts.{whole_start}
-use Rattle.exact_simplex.proofs.Between.{all_written, length-written, unwritten, written_next}
-use Rattle.exact_simplex.proofs.Filled.{length-mapped, mapped_at}
-use Rattle.exact_simplex.proofs.StartLines.{blank_at, whole_number}
-use Rattle.exact_simplex.proofs.Units.{high_value, low_value}
+use Rattle.exact_simplex.proofs.Between.{all_written, written_next}
+use Rattle.fraction_rows.proofs.Filled.{length-mapped, mapped_at}
+use Rattle.exact_simplex.proofs.StartLines.{blank_at, cleared_is, constant_set}
+use Rattle.fraction_rows.proofs.Tops.{whole_number}
+use Rattle.exact_simplex.proofs.theory.Units.{high_value, low_value}
 use Rattle.exact_simplex.proofs.WholeTurns.{coefficients_long}
 
--- a line of which so many columns are filled with the coefficients of a form
-abbrev pub filled_line : ℤ → List ℤ → ℕ → List Fraction
-filled_line constant cs v = whole constant ∷ (take v (map whole cs) ++ drop v (map (λ column. nothing) (numbers_from 0 (length cs))))
+-- the line with each of the terms put into its column
+abbrev pub with_terms : List Fraction → List Term → List Fraction
+with_terms line [] = line
+with_terms line (t ∷ ts) = with_terms (slice_set line (suc t.var) (whole t.coefficient)) ts
 
-blank_long : (n : ℕ) → length (map (λ column. nothing) (numbers_from 0 n)) ≡ n
-blank_long n = length-mapped (λ column. nothing) 0 n
+set_seam : (qs : List Fraction) (old new : Fraction) (rest : List Fraction) (k : ℕ) → length qs ≡ k → slice_set (qs ++ old ∷ rest) k new ≡ qs ++ new ∷ rest
+set_seam [] old new rest zero long = refl
+set_seam [] old new rest (suc k) long = absurd (omega arith)
+set_seam (q ∷ qs) old new rest zero long = absurd (omega arith)
+set_seam (q ∷ qs) old new rest (suc k) long = ap (λ (ps : List Fraction). q ∷ ps) (set_seam qs old new rest k (omega arith))
 
-same_long : (cs : List ℤ) → length (map (λ column. nothing) (numbers_from 0 (length cs))) ≡ length (map whole cs)
-same_long cs = blank_long (length cs) ∙ sym (length-map cs whole)
+-- one more column, which is put where the coefficient isn't 0
+column_put : (constant : Fraction) (first a : ℕ) (qs : List Fraction) (c : ℤ) (cs : List ℤ) → with_terms (constant ∷ ((qs ++ whole c ∷ []) ++ map (λ column. nothing) (numbers_from (a + 1) (length cs)))) (terms_from (suc first) cs) ≡ constant ∷ ((qs ++ whole c ∷ []) ++ map whole cs) →
+    with_terms (constant ∷ (qs ++ whole c ∷ map (λ column. nothing) (numbers_from (a + 1) (length cs)))) (terms_from (suc first) cs) ≡ constant ∷ (qs ++ whole c ∷ map whole cs)
+column_put constant first a qs c cs rest =
+    ap (λ (ps : List Fraction). with_terms (constant ∷ ps) (terms_from (suc first) cs)) (sym (append_assoc qs (whole c ∷ []) (map (λ column. nothing) (numbers_from (a + 1) (length cs)))))
+    ∙ rest
+    ∙ ap (λ (ps : List Fraction). constant ∷ ps) (append_assoc qs (whole c ∷ []) (map whole cs))
 
-pub length-filled : (constant : ℤ) (cs : List ℤ) (v : ℕ) → length (filled_line constant cs v) ≡ suc (length cs)
-length-filled constant cs v =
-    ap suc (length-written (map (λ column. nothing) (numbers_from 0 (length cs))) (map whole cs) v (same_long cs) ∙ blank_long (length cs))
+one_longer : (qs : List Fraction) (q : Fraction) (k : ℕ) → length qs ≡ k → length (qs ++ q ∷ []) ≡ suc k
+one_longer qs q k long = omega (arith, length-append qs (q ∷ []), long)
 
-pub later_blank : (constant : ℤ) (cs : List ℤ) (v later : ℕ) → v ≤ later → entry (filled_line constant cs v) (suc later) ≡ nothing
-later_blank constant cs v later from =
-    unwritten (map (λ column. nothing) (numbers_from 0 (length cs))) (map whole cs) v later nothing from (same_long cs) ∙ blank_at 0 (length cs) later
+-- in a line whose columns from `first` on are 0
+terms_put : (constant : Fraction) (first a : ℕ) (qs : List Fraction) (cs : List ℤ) → length qs ≡ first → with_terms (constant ∷ (qs ++ map (λ column. nothing) (numbers_from a (length cs)))) (terms_from first cs) ≡ constant ∷ (qs ++ map whole cs)
+terms_put constant first a qs [] long = refl
+terms_put constant first a qs (pos zero ∷ cs) long =
+    column_put constant first a qs (pos 0) cs (terms_put constant (suc first) (a + 1) (qs ++ whole (pos 0) ∷ []) cs (one_longer qs (whole (pos 0)) first long))
+terms_put constant first a qs (pos (suc n) ∷ cs) long =
+    ap (λ (ps : List Fraction). with_terms (constant ∷ ps) (terms_from (suc first) cs)) (set_seam qs nothing (whole (pos (suc n))) (map (λ column. nothing) (numbers_from (a + 1) (length cs))) first long)
+    ∙ column_put constant first a qs (pos (suc n)) cs (terms_put constant (suc first) (a + 1) (qs ++ whole (pos (suc n)) ∷ []) cs (one_longer qs (whole (pos (suc n))) first long))
+terms_put constant first a qs (negsuc n ∷ cs) long =
+    ap (λ (ps : List Fraction). with_terms (constant ∷ ps) (terms_from (suc first) cs)) (set_seam qs nothing (whole (negsuc n)) (map (λ column. nothing) (numbers_from (a + 1) (length cs))) first long)
+    ∙ column_put constant first a qs (negsuc n) cs (terms_put constant (suc first) (a + 1) (qs ++ whole (negsuc n) ∷ []) cs (one_longer qs (whole (negsuc n)) first long))
 
-pub filled_next : (constant : ℤ) (cs : List ℤ) (v : ℕ) (line : List Fraction) (q : Fraction) (now : List Fraction) → v < length cs → line ≡ filled_line constant cs v → q ≡ whole (slice_index_or cs v (pos 0)) → now ≡ slice_set line (suc v) q → now ≡ filled_line constant cs (v + 1)
-filled_next constant cs v line q now v_in line_is q_is now_is =
-    now_is ∙ ap (λ (fs : List Fraction). slice_set fs (suc v) q) line_is
-    ∙ ap (λ (fs : List Fraction). whole constant ∷ fs)
-    (written_next (map (λ column. nothing) (numbers_from 0 (length cs))) (map whole cs) v nothing q (omega (arith, blank_long (length cs), v_in)) (omega (arith, length-map cs whole, v_in))
-    (q_is ∙ sym (get_or-map whole cs v (pos 0) nothing v_in)))
+-- What a line is on its way to that of a form: with the terms from the counter on it is that line, and it has 0 from the
+-- next term's variable on.
+pub record IsPutTo (constant : ℤ) (cs : List ℤ) (ts : List Term) (index : ℕ) (line : List Fraction) : Type 0 where
+  pub long : length line ≡ suc (length cs)
+  pub left : with_terms line (drop index ts) ≡ whole constant ∷ map whole cs
+  pub blank : (later : ℕ) → index < length ts → (term_in ts index).var ≤ later → entry line (suc later) ≡ nothing
 
--- a line of zeros, of the same length, with the constant that was put
-pub blank_first : (constant : ℤ) (cs : List ℤ) (old cleared now : List Fraction) (q : Fraction) → length old ≡ suc (length cs) → cleared ≡ nothing ∷ map (λ column. nothing) (numbers_from 0 (length old - 1)) → q ≡ whole constant → now ≡ slice_set cleared 0 q → now ≡ filled_line constant cs 0
-blank_first constant cs old cleared now q long cleared_is q_is now_is =
-    let width : length old - 1 ≡ length cs = omega (arith, long) in
-    now_is ∙ ap (λ (fs : List Fraction). slice_set fs 0 q) (cleared_is ∙ ap (λ (n : ℕ). nothing ∷ map (λ column. nothing) (numbers_from 0 n)) width)
-    ∙ ap (λ (p : Fraction). p ∷ map (λ column. nothing) (numbers_from 0 (length cs))) q_is
+pub put_first : (constant : ℤ) (cs : List ℤ) (ts : List Term) (old cleared now : List Fraction) (q : Fraction) → ts ≡ terms_from 0 cs → length old ≡ suc (length cs) → cleared ≡ nothing ∷ map (λ column. nothing) (numbers_from 0 (length old - 1)) → q ≡ whole constant → now ≡ slice_set cleared 0 q → IsPutTo constant cs ts 0 now
+put_first constant cs ts old cleared now q ts_are long cleared_are q_is now_is =
+    let n = length cs in
+    let now_are : now ≡ whole constant ∷ map (λ column. nothing) (numbers_from 0 n) =
+    constant_set cleared now n q (cleared_is old cleared n long cleared_are) now_is ∙ ap (λ (p : Fraction). p ∷ map (λ column. nothing) (numbers_from 0 n)) q_is in
+    record {
+      long = ap length now_are ∙ ap suc (length-mapped (λ column. nothing) 0 n);
+      left = ap (λ (line : List Fraction). with_terms line ts) now_are ∙ ap (with_terms (whole constant ∷ map (λ column. nothing) (numbers_from 0 n))) ts_are ∙ terms_put (whole constant) 0 0 [] cs refl;
+      blank = λ later index_in from. ap (λ (line : List Fraction). entry line (suc later)) now_are ∙ blank_at 0 n later;
+    }
+
+pub put_next : (constant : ℤ) (cs : List ℤ) (ts : List Term) (index : ℕ) (line now : List Fraction) (q : Fraction) → ts ≡ terms_from 0 cs → index < length ts → q ≡ whole (term_in ts index).coefficient → now ≡ slice_set line (suc (term_in ts index).var) q → IsPutTo constant cs ts index line → IsPutTo constant cs ts (index + 1) now
+put_next constant cs ts index line now q ts_are index_in q_is now_is put =
+    let t = term_in ts index in
+    let now_are : now ≡ slice_set line (suc t.var) (whole t.coefficient) = now_is ∙ ap (slice_set line (suc t.var)) q_is in
+    let next : drop index ts ≡ t ∷ drop (index + 1) ts = rw (add-one, drop-cons ts index no_term) refl in
+    record {
+      long = ap length now_is ∙ length-set line (suc t.var) q ∙ put.long;
+      left = ap (λ (l : List Fraction). with_terms l (drop (index + 1) ts)) now_are ∙ sym (ap (with_terms line) next) ∙ put.left;
+      blank = λ later next_in from.
+          (let rises : t.var < (term_in ts (index + 1)).var = rising ts ts_are index (index + 1) next_in (omega arith) in
+          ap (λ (l : List Fraction). entry l (suc later)) now_is
+          ∙ get_or-set_other line (suc t.var) (suc later) q nothing (λ same. absurd (omega (arith, same, rises, from)))
+          ∙ put.blank later index_in (omega (arith, rises, from)));
+    }
+  where
+    rising : (ts : List Term) → ts ≡ terms_from 0 cs → (i j : ℕ) → j < length ts → i < j → (term_in ts i).var < (term_in ts j).var
+    rising ts ts_are i j j_in before =
+        subst (λ (us : List Term). j < length us → (term_in us i).var < (term_in us j).var) (sym ts_are)
+        (λ inside. rising_from 0 cs i j no_term before inside) j_in
+
+pub put_all : (constant : ℤ) (cs : List ℤ) (ts : List Term) (index : ℕ) (line : List Fraction) → IsPutTo constant cs ts index line → length ts ≤ index → line ≡ whole constant ∷ map whole cs
+put_all constant cs ts index line put past = sym (at_drop_all (with_terms line) ts index past) ∙ put.left
 
 -- the starting lines of the members
 pub low_starts : (costs : CostBox) (rows : List Form) (v bound : ℕ) (now : List Fraction) → IsFormOf costs rows (Low v bound) → now ≡ whole (pos 0) ∷ map whole (unit (length costs.low) v (pos 1)) → now ≡ starting_line costs rows (Low v bound)
@@ -96,16 +143,6 @@ pub start_all : (costs : CostBox) (initial basis : List Member) (v : ℕ) → le
 start_all costs initial basis v long v_is basis_is =
     basis_is ∙ all_written initial (starting costs) v (long ∙ sym v_is) (length-mapped (low_member costs) 0 (length costs.low) ∙ sym v_is)
 
-pub filled_all : (constant : ℤ) (cs : List ℤ) (v : ℕ) (line : List Fraction) → v ≡ length cs → line ≡ filled_line constant cs v → line ≡ whole constant ∷ map whole cs
-filled_all constant cs v line v_is line_is =
-    line_is ∙ ap (λ (fs : List Fraction). whole constant ∷ fs) (all_written (map (λ column. nothing) (numbers_from 0 (length cs))) (map whole cs) v (blank_long (length cs) ∙ sym v_is) (length-map cs whole ∙ sym v_is))
-
--- a line of zeros, as long as the old one
-pub cleared_is : (old cleared : List Fraction) (width : ℕ) → length old ≡ suc width → cleared ≡ nothing ∷ map (λ column. nothing) (numbers_from 0 (length old - 1)) → cleared ≡ nothing ∷ map (λ column. nothing) (numbers_from 0 width)
-cleared_is old cleared width long is =
-    let same : length old - 1 ≡ width = omega (arith, long) in
-    is ∙ ap (λ (n : ℕ). nothing ∷ map (λ column. nothing) (numbers_from 0 n)) same
-
 -- how long the starting line of a member is
 pub line_long : (costs : CostBox) (rows : List Form) (member : Member) → All (FitsBox costs) rows → IsFormOf costs rows member → length (starting_line costs rows member) ≡ suc (length costs.low)
 line_long costs rows member fit is =
@@ -138,44 +175,6 @@ restarted s costs rows costs_are rows_are basis_is lines_are shape box fit =
     let start = whole_start s.top costs rows box fit numbers in
     let whole : IsWhole s.top s.costs s.rows.items s.basis.items s.lines.items = rw (costs_are, rows_are, basis_is, lines_are) start in
     whole
-
--- the table whose bounds have moved is whole
-pub moved_whole : (s : Table) (u : IsUnboxedTable s) → IsBox (length s.costs.low) s.costs → All (FitsBox s.costs) s.rows.items → IsWholeTable s
-moved_whole s u box fit =
-    record {
-      box = box;
-      fit = fit;
-      count = u.count;
-      members = u.members;
-      common = u.common;
-      positive = u.positive;
-      lows = u.lows;
-      long = u.long;
-      mixtures = u.mixtures;
-      own = u.own;
-      elsewhere = u.elsewhere;
-      lead = u.lead;
-      lines = u.lines;
-    }
-
--- and a whole table's may move
-pub whole_unboxed : (t : Table) → IsWholeTable t → IsUnboxedTable t
-whole_unboxed t w =
-    record {
-      high_count = w.box.high_count;
-      counts = λ k d k_in. (w.fit k d k_in).count;
-      count = w.count;
-      members = w.members;
-      common = w.common;
-      positive = w.positive;
-      lows = w.lows;
-      long = w.long;
-      mixtures = w.mixtures;
-      own = w.own;
-      elsewhere = w.elsewhere;
-      lead = w.lead;
-      lines = w.lines;
-    }
 
 pub keeps_lines : (old t s : Table) → KeepsAllButLines old t → KeepsAllButLines t s → KeepsAllButLines old s
 keeps_lines old t s first second =

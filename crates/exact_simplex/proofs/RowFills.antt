@@ -1,24 +1,22 @@
 -- A line of zeros is filled from the left.
-use Rattle.std.proofs.Common.{◌≡◌, ℕ, zero, suc, ◌+◌, ◌<◌, ◌≤◌, refl, sym, ◌∙◌, ap, subst, List, [], ◌∷◌, map, take, length, arith, inl, inr, add-one}
-use Rattle.std.specs.Prelude.{ℤ, pos, ◌+ℤ◌, ◌*ℤ◌, Result, Ok, Err, IfErr, slice_index_or, slice_set}
+use Rattle.std.proofs.Common.{◌≡◌, ℕ, zero, suc, ◌+◌, ◌<◌, ◌≤◌, refl, sym, ◌∙◌, ap, subst, List, ◌∷◌, map, length, arith, inl, inr}
+use Rattle.std.specs.Prelude.{ℤ, Result, Ok, Err, IfErr, slice_set}
 use Rattle.std.proofs.lemmas.Bool.{cases_lt}
 use Rattle.std.proofs.lemmas.List.{get_or-set_other, get_or-set_same, length-set}
 use Rattle.cost_base.specs.Lists.{numbers_from}
 use Rattle.whole_numbers.specs.Fractions.{Fraction}
-use Rattle.whole_numbers.proofs.Ring.{var, num, ◌⊕◌, ring}
 use Rattle.path_rows.specs.declared.form.Form.{Form}
 use Rattle.path_rows.specs.declared.form.CostBox.{CostBox}
-use Rattle.path_rows.specs.Forms.{dot}
 use Rattle.path_rows.specs.Basis.{entry}
 use Rattle.path_rows.specs.Steps.{start_of_sum}
 use Rattle.wide_fraction.specs.declared.steps.Wide.{Wide}
-use Rattle.exact_simplex.specs.Entries.{IsPassing}
+use Rattle.fraction_rows.specs.Entries.{IsPassing}
 use Rattle.exact_simplex.specs.RowLines.{IsRowStep, sum_at_place}
-use Rattle.exact_simplex.specs.Sums.{IsSumStep}
-use Rattle.exact_simplex.specs.TableRows.{AreNumbers, IsNumber, nothing}
-use Rattle.exact_simplex.proofs.Filled.{length-mapped, numbers_mapped}
-use Rattle.exact_simplex.proofs.Numbers.{nothing_number}
-use Rattle.exact_simplex.proofs.RowLaws.{written_numbers}
+use Rattle.fraction_rows.specs.Sums.{IsSumStep}
+use Rattle.fraction_rows.specs.TableRows.{AreNumbers, IsNumber, nothing}
+use Rattle.fraction_rows.proofs.Filled.{length-mapped, numbers_mapped}
+use Rattle.fraction_rows.proofs.Numbers.{nothing_number}
+use Rattle.fraction_rows.proofs.RowLaws.{written_numbers}
 use Rattle.exact_simplex.proofs.StartLines.{blank_at}
 
 -- the first places of a line have the form's sums, and the others 0
@@ -61,19 +59,6 @@ filled_first top costs form lines line new q blank q_is number new_is =
     blank_after : (n place : ℕ) → 0 ≤ place → entry (nothing ∷ map (λ column. nothing) (numbers_from 0 n)) place ≡ nothing
     blank_after n zero from = refl
     blank_after n (suc k) from = blank_at 0 n k
-
-dot_suc : (cs : List ℤ) (xs : List ℕ) (i : ℕ) → i < length cs → length cs ≡ length xs → dot (take (suc i) cs) (take (suc i) xs) ≡ (dot (take i cs) (take i xs) +ℤ (slice_index_or cs i (pos 0) *ℤ pos (slice_index_or xs i 0)))
-dot_suc [] xs i i_in same = absurd (omega arith)
-dot_suc (c ∷ cs) [] i i_in same = absurd (omega arith)
-dot_suc (c ∷ cs) (x ∷ xs) zero i_in same = ring ((c *ℤ pos x) ∷ []) (var 0 ⊕ num (pos 0)) (num (pos 0) ⊕ var 0) refl
-dot_suc (c ∷ cs) (x ∷ xs) (suc i) i_in same =
-    let last = slice_index_or cs i (pos 0) *ℤ pos (slice_index_or xs i 0) in
-    ap (λ z. (c *ℤ pos x) +ℤ z) (dot_suc cs xs i (omega arith) (omega arith))
-    ∙ ring ((c *ℤ pos x) ∷ dot (take i cs) (take i xs) ∷ last ∷ []) (var 0 ⊕ (var 1 ⊕ var 2)) ((var 0 ⊕ var 1) ⊕ var 2) refl
-
--- the products of the first places, and one more
-pub dot_more : (cs : List ℤ) (xs : List ℕ) (i : ℕ) → i < length cs → length cs ≡ length xs → dot (take (i + 1) cs) (take (i + 1) xs) ≡ (dot (take i cs) (take i xs) +ℤ (slice_index_or cs i (pos 0) *ℤ pos (slice_index_or xs i 0)))
-dot_more cs xs i i_in same = rw add-one (dot_suc cs xs i i_in same)
 
 -- a step of the sum at a place is a step of the line
 pub step_at : {X : Type 0} (r : Result X Wide) (top : ℕ) (costs : CostBox) (form : Form) (lines : List (List Fraction)) (place : ℕ) (start : Fraction) (cs : List ℤ) → place < suc (length costs.low) → start ≡ start_of_sum costs form place → cs ≡ form.coefficients → IfErr r (λ wide. IsSumStep start cs lines place wide) → IfErr r (λ wide. IsPassing top wide) → IfErr r (IsRowStep top costs form lines)

@@ -15,14 +15,14 @@ use Rattle.path_rows.specs.Forms.{form_at, value}
 use Rattle.path_rows.specs.Basis.{AreEntries, IsTable, entry, low_member, member_form}
 use Rattle.path_rows.specs.Steps.{IsStep, IsTooWide, row_product, row_sum, start_of_sum, terms}
 use Rattle.exact_simplex.specs.RowLines.{IsRowLine, IsRowStep, sum_at_place}
-use Rattle.exact_simplex.specs.Sums.{IsSumStep, product, sum, sum_from}
+use Rattle.fraction_rows.specs.Sums.{IsSumStep, product, sum, sum_from}
 use Rattle.exact_simplex.specs.Tableaus.{FitsBox, wide_at}
 use Rattle.exact_simplex.specs.Wholes.{IsWhole, Stand, from_lows, number_at, number_of, numbers_of}
 use Rattle.exact_simplex.proofs.Bases.{low_line_stands, lows_counted, table_long, whole_table}
 use Rattle.exact_simplex.proofs.MoreRows.{forms_kept, last_form, member_kept, whole_more}
-use Rattle.exact_simplex.proofs.Numbers.{times_lowest}
-use Rattle.exact_simplex.proofs.TurnedNumbers.{numbers_at, numbers_long}
-use Rattle.exact_simplex.proofs.Zips.{zip_from}
+use Rattle.fraction_rows.proofs.Numbers.{times_lowest}
+use Rattle.exact_simplex.proofs.theory.TurnedNumbers.{numbers_at, numbers_long}
+use Rattle.exact_simplex.proofs.theory.Zips.{zip_from}
 
 -- a fraction that stands for a number over D
 abbrev Stands : Fraction → ℤ → ℕ → Type 0
@@ -64,27 +64,27 @@ sum_stands D place (negsuc n ∷ cs) (es ∷ lines) (ts ∷ lows) q m D_positive
     (term_stands D q (entry es place) m (number_at ts place) c D_positive q_is (are 0 (omega arith))) (λ v v_in. are (suc v) (omega (arith, v_in))))
 
 -- what a sum starts with stands for its part of the form's number
-place_stands : (top : ℕ) (costs : CostBox) (rows : List Form) (basis : List Member) (table : List (List Fraction)) (f : Form) (place : ℕ) (w : IsWhole top costs rows basis table) → FitsBox costs f → place < suc (length costs.low) → StandsFor (sum_at_place costs f table place) (number_of w.common costs.low w.lows f place) w.common
+place_stands : (top : ℕ) (costs : CostBox) (rows : List Form) (basis : List Member) (table : List (List Fraction)) (f : Form) (place : ℕ) (w : IsWhole top costs rows basis table) → FitsBox costs f → place < suc (length costs.low) → StandsFor (sum_at_place costs f table place) (number_of w.unboxed.common costs.low w.unboxed.lows f place) w.unboxed.common
 place_stands top costs rows basis table f zero w fits place_in =
     let z = value f costs.low in
-    (sum_stands w.common 0 f.coefficients table w.lows (whole z) (pos w.common *ℤ z) w.positive (fits.count ∙ lows_counted top costs rows basis table w) (omega (arith, fits.count, table_long top costs rows basis table w))
-    (omega arith, ring (z ∷ pos w.common ∷ []) (var 0 ⊗ var 1) ((var 1 ⊗ var 0) ⊗ num (pos 1)) refl)
+    (sum_stands w.unboxed.common 0 f.coefficients table w.unboxed.lows (whole z) (pos w.unboxed.common *ℤ z) w.unboxed.positive (fits.count ∙ lows_counted top costs rows basis table w) (omega (arith, fits.count, table_long top costs rows basis table w))
+    (omega arith, ring (z ∷ pos w.unboxed.common ∷ []) (var 0 ⊗ var 1) ((var 1 ⊗ var 0) ⊗ num (pos 1)) refl)
     (λ v v_in. low_line_stands top costs rows basis table w v 0 (omega (arith, fits.count, v_in)) place_in)).1
 place_stands top costs rows basis table f (suc k) w fits place_in =
-    subst (λ (z : ℤ). StandsFor (sum_at_place costs f table (suc k)) z w.common) (ring (from_lows f.coefficients w.lows (suc k) ∷ []) (num (pos 0) ⊕ var 0) (var 0) refl)
-    (sum_stands w.common (suc k) f.coefficients table w.lows (whole (pos 0)) (pos 0) w.positive (fits.count ∙ lows_counted top costs rows basis table w) (omega (arith, fits.count, table_long top costs rows basis table w))
-    (omega arith, ring (pos w.common ∷ []) (num (pos 0) ⊗ var 0) (num (pos 0) ⊗ num (pos 1)) refl)
+    subst (λ (z : ℤ). StandsFor (sum_at_place costs f table (suc k)) z w.unboxed.common) (ring (from_lows f.coefficients w.unboxed.lows (suc k) ∷ []) (num (pos 0) ⊕ var 0) (var 0) refl)
+    (sum_stands w.unboxed.common (suc k) f.coefficients table w.unboxed.lows (whole (pos 0)) (pos 0) w.unboxed.positive (fits.count ∙ lows_counted top costs rows basis table w) (omega (arith, fits.count, table_long top costs rows basis table w))
+    (omega arith, ring (pos w.unboxed.common ∷ []) (num (pos 0) ⊗ var 0) (num (pos 0) ⊗ num (pos 1)) refl)
     (λ v v_in. low_line_stands top costs rows basis table w v (suc k) (omega (arith, fits.count, v_in)) place_in)).1
 
-line_stands : (top : ℕ) (costs : CostBox) (rows : List Form) (basis : List Member) (table : List (List Fraction)) (f : Form) (line : List Fraction) (w : IsWhole top costs rows basis table) → FitsBox costs f → IsRowLine top costs f table line → Stand w.common line (numbers_of (length costs.low) w.common costs.low w.lows f)
+line_stands : (top : ℕ) (costs : CostBox) (rows : List Form) (basis : List Member) (table : List (List Fraction)) (f : Form) (line : List Fraction) (w : IsWhole top costs rows basis table) → FitsBox costs f → IsRowLine top costs f table line → Stand w.unboxed.common line (numbers_of (length costs.low) w.unboxed.common costs.low w.unboxed.lows f)
 line_stands top costs rows basis table f line w fits l =
     let n = length costs.low in
-    let ms = numbers_of n w.common costs.low w.lows f in
-    zip_from (λ q m. StandsFor q m w.common) line ms (whole (pos 0)) (pos 0) (l.long ∙ sym (numbers_long n w.common costs.low w.lows f))
+    let ms = numbers_of n w.unboxed.common costs.low w.unboxed.lows f in
+    zip_from (λ q m. StandsFor q m w.unboxed.common) line ms (whole (pos 0)) (pos 0) (l.long ∙ sym (numbers_long n w.unboxed.common costs.low w.unboxed.lows f))
     (λ place place_in.
     let within : place < suc n = omega (arith, l.long, place_in) in
-    subst (λ (q : Fraction). StandsFor q (number_at ms place) w.common) (sym (l.sums place within))
-    (subst (λ (z : ℤ). StandsFor (sum_at_place costs f table place) z w.common) (sym (numbers_at n w.common costs.low w.lows f place within))
+    subst (λ (q : Fraction). StandsFor q (number_at ms place) w.unboxed.common) (sym (l.sums place within))
+    (subst (λ (z : ℤ). StandsFor (sum_at_place costs f table place) z w.unboxed.common) (sym (numbers_at n w.unboxed.common costs.low w.unboxed.lows f place within))
     (place_stands top costs rows basis table f place w fits within)))
 
 -- With the form and its line the table is whole.
@@ -148,7 +148,7 @@ row_too_wide top costs rows basis table f wide w fits s =
       right = wide.right;
       left_is = refl;
       right_is = refl;
-      step = step_of_sum costs rows f basis table s.place wide w.count fits.count s.place_in s.step;
+      step = step_of_sum costs rows f basis table s.place wide w.unboxed.count fits.count s.place_in s.step;
       passes = s.passes;
     }
 

@@ -19,20 +19,20 @@ use Rattle.exact_simplex.specs.declared.table.Table.{Table}
 use Rattle.exact_simplex.specs.Pivots.{KeepsForms}
 use Rattle.exact_simplex.specs.Tableaus.{IsShiftStep, moved, moved_member}
 use Rattle.exact_simplex.specs.Tableaus.IsShiftStep.{constant, product, sum}
-use Rattle.exact_simplex.specs.Turns.{AreRows}
-use Rattle.exact_simplex.specs.Wholes.{HasRoom, IsLine, low_forms, members_of, numbers_of}
-use Rattle.exact_simplex.specs.Moves.{HasShape, IsColumnOf, IsRaiseStep, IsShifted, IsShiftedWide, IsUnboxed, IsUnboxedTable, IsWideShift, ShiftsWide, high_shift_of, low_shift_of, shifted_lines}
+use Rattle.fraction_rows.specs.Turns.{AreRows}
+use Rattle.exact_simplex.specs.Wholes.{HasRoom, IsLine, IsUnboxed, IsUnboxedTable, low_forms, members_of, numbers_of}
+use Rattle.exact_simplex.specs.Moves.{HasShape, IsColumnOf, IsRaiseStep, IsShifted, IsShiftedWide, IsWideShift, ShiftsWide, high_shift_of, low_shift_of, shifted_lines}
 use Rattle.exact_simplex.specs.Moves.IsRaiseStep.{product as raise_product, sum as raise_sum}
 use Rattle.exact_simplex.proofs.Bases.{low_forms_long, members_begin}
-use Rattle.exact_simplex.proofs.Filled.{length-mapped}
-use Rattle.exact_simplex.proofs.MovedNumbers.{IsNumbered, lowered_rows}
+use Rattle.fraction_rows.proofs.Filled.{length-mapped}
+use Rattle.exact_simplex.proofs.theory.MovedNumbers.{IsNumbered, lowered_rows}
 use Rattle.exact_simplex.proofs.MovedTables.{high_fall, high_moved, low_fall, low_moved, map_none, raised_rows}
 use Rattle.exact_simplex.proofs.MovedWholes.{IsMoveOf, column_inside, moved_put, unboxed_moved}
 use Rattle.exact_simplex.proofs.Pivots.{high_place, members_long}
-use Rattle.exact_simplex.proofs.Resolved.{are_entries, stand_length}
+use Rattle.exact_simplex.proofs.theory.Resolved.{are_entries, stand_length}
 use Rattle.exact_simplex.proofs.Starts.{members_are}
-use Rattle.exact_simplex.proofs.TurnedNumbers.{numbers_long}
-use Rattle.exact_simplex.proofs.Zips.{zip_at, zip_long}
+use Rattle.exact_simplex.proofs.theory.TurnedNumbers.{numbers_long}
+use Rattle.exact_simplex.proofs.theory.Zips.{zip_at, zip_long}
 
 -- what is kept of the numbers of a table
 numbered : (t : Table) (u : IsUnboxedTable t) → IsNumbered u.common (length t.costs.low) t.costs.low (forms_of t.costs t.rows.items t.basis.items) u.lows

@@ -21,21 +21,21 @@ use Rattle.exact_simplex.specs.declared.table.Table.{Table}
 use Rattle.exact_simplex.specs.declared.stage.Solved.{Solved}
 use Rattle.exact_simplex.specs.declared.stage.Stage.TheVariants.{Ended}
 use Rattle.exact_simplex.specs.declared.stage.Solved.TheVariants.{Feasible, Refuted}
-use Rattle.exact_simplex.specs.TableRows.{AreNumbers}
-use Rattle.exact_simplex.specs.Tableaus.{IsSolved, MeetsRows}
+use Rattle.fraction_rows.specs.TableRows.{AreNumbers}
+use Rattle.exact_simplex.specs.Tableaus.{IsAmongForms, IsSolved, MeetsRows}
 use Rattle.exact_simplex.specs.Wholes.{IsLine, IsShown, IsWholeTable, Stand, high_member, low_forms, members_of, number_at, number_of}
 use Rattle.exact_simplex.specs.Pivots.{AreHigh, KeepsForms, line_at, line_numbers, member_at}
-use Rattle.exact_simplex.proofs.Corner.{MetAt, NotAbove, stuck_negative}
-use Rattle.exact_simplex.proofs.Tables.{IsCorner, corner_value}
-use Rattle.exact_simplex.proofs.Blends.{form_mixture}
-use Rattle.exact_simplex.proofs.Resolved.{resolved}
-use Rattle.exact_simplex.proofs.RowLaws.{number_at as number_there}
-use Rattle.exact_simplex.proofs.TurnedNumbers.{numbers_at, numbers_long}
-use Rattle.exact_simplex.proofs.Units.{unit_dot}
+use Rattle.exact_simplex.proofs.theory.Corner.{MetAt, NotAbove, stuck_negative}
+use Rattle.exact_simplex.proofs.theory.Tables.{IsCorner, corner_value}
+use Rattle.exact_simplex.proofs.theory.Blends.{form_mixture}
+use Rattle.exact_simplex.proofs.theory.Resolved.{resolved}
+use Rattle.fraction_rows.proofs.RowLaws.{number_at as number_there}
+use Rattle.exact_simplex.proofs.theory.TurnedNumbers.{numbers_at, numbers_long}
+use Rattle.exact_simplex.proofs.theory.Units.{unit_dot}
 use Rattle.exact_simplex.proofs.WholeTurns.{coefficients_long, stand_at}
 use Rattle.exact_simplex.proofs.Bases.{low_line_stands, lows_counted, members_begin}
-use Rattle.exact_simplex.proofs.Pivots.{high_place, line_long, member_is, members_long, row_place, whole_line}
-use Rattle.exact_simplex.proofs.Zips.{zip_long}
+use Rattle.exact_simplex.proofs.Pivots.{high_place, line_long, lines_long, member_is, members_long, row_place, whole_line}
+use Rattle.exact_simplex.proofs.theory.Zips.{zip_long}
 
 -- a number that a fraction stands for has its sign
 pub negative_number : (z m : ℤ) (d D : ℕ) → 0 < d → 0 < D → (z *ℤ pos D) ≡ (m *ℤ pos d) → z <ℤ pos 0 → m <ℤ pos 0
@@ -124,21 +124,21 @@ stuck_rest top D count (q ∷ qs) m ms D_positive numbers stand counted low =
 pub stuck_refutes : (t : Table) (w : IsWholeTable t) (line : ℕ) → line < length t.lines.items → IsStuck t.basis.items (line_at t line) → IsSolved t.costs t.rows.items (Refuted line)
 stuck_refutes t w line line_in stuck p point meets =
     let n = length t.costs.low in
-    let D = w.common in
+    let D = w.unboxed.common in
     let member = member_at t line in
     let is = member_is t w line line_in in
     let f = member_form n t.rows.items member in
     let bs = forms_of t.costs t.rows.items t.basis.items in
-    let m = number_of D t.costs.low w.lows f 0 in
-    let ms = map (number_of D t.costs.low w.lows f) (numbers_from 1 n) in
+    let m = number_of D t.costs.low w.unboxed.lows f 0 in
+    let ms = map (number_of D t.costs.low w.unboxed.lows f) (numbers_from 1 n) in
     let es = line_at t line in
     let l = whole_line t w line line_in in
-    let mixture_is = form_mixture D n t.costs.low (low_forms n 0 t.costs.low) w.lows bs f w.long w.mixtures (resolved t.costs.low f (coefficients_long t.costs t.rows.items member w.fit is)) in
+    let mixture_is = form_mixture D n t.costs.low (low_forms n 0 t.costs.low) w.unboxed.lows bs f w.unboxed.long w.unboxed.mixtures (resolved t.costs.low f (coefficients_long t.costs t.rows.items member w.fit is)) in
     let met : pos 0 ≤ℤ value_at f p = member_met t.costs t.rows.items p member point meets is in
     let below : value_at f p <ℤ pos 0 =
-    stuck_negative f bs D m ms p mixture_is (stuck_first t.top D es m ms w.positive l.numbers l.stand stuck.below)
-    (stuck_rest t.top D n es m ms w.positive l.numbers l.stand (line_long t w line line_in) (λ k k_from k_in. stuck.none_above k k_from (omega (arith, w.count, k_in))))
-    (basis_met t.costs t.rows.items p t.basis.items point meets w.members) point.scale in
+    stuck_negative f bs D m ms p mixture_is (stuck_first t.top D es m ms w.unboxed.positive l.numbers l.stand stuck.below)
+    (stuck_rest t.top D n es m ms w.unboxed.positive l.numbers l.stand (line_long t w line line_in) (λ k k_from k_in. stuck.none_above k k_from (omega (arith, w.unboxed.count, k_in))))
+    (basis_met t.costs t.rows.items p t.basis.items point meets w.unboxed.members) point.scale in
     both (value_at f p) met below
   where
     both : (z : ℤ) → pos 0 ≤ℤ z → z <ℤ pos 0 → ⊥
@@ -168,20 +168,20 @@ corner_long D (l ∷ ls) (ts ∷ lows) same = let rest = corner_long D ls lows (
 
 -- the corner of a table
 abbrev pub corner_point : (t : Table) → IsWholeTable t → Point
-corner_point t w = record { scale = w.common; values = corner_of w.common t.costs.low w.lows }
+corner_point t w = record { scale = w.unboxed.common; values = corner_of w.unboxed.common t.costs.low w.unboxed.lows }
 
-pub counted_lows : (t : Table) (w : IsWholeTable t) → length t.costs.low ≡ length w.lows
+pub counted_lows : (t : Table) (w : IsWholeTable t) → length t.costs.low ≡ length w.unboxed.lows
 counted_lows t w = lows_counted t.top t.costs t.rows.items t.basis.items t.lines.items w
 
 -- no number of x - low is negative at the corner
-pub first_high : (t : Table) (w : IsWholeTable t) → AreHigh t → (v : ℕ) → v < length t.costs.low → pos 0 ≤ℤ number_at (slice_index_or w.lows v []) 0
+pub first_high : (t : Table) (w : IsWholeTable t) → AreHigh t → (v : ℕ) → v < length t.costs.low → pos 0 ≤ℤ number_at (slice_index_or w.unboxed.lows v []) 0
 first_high t w high v v_in =
     let stands = low_line_stands t.top t.costs t.rows.items t.basis.items t.lines.items w v 0 v_in (omega arith) in
-    high_number (entry (line_at t v) 0).numerator (number_at (slice_index_or w.lows v []) 0) (entry (line_at t v) 0).denominator w.common stands.0 w.positive stands.1
-    (high v [] (omega (arith, members_long t.costs (length t.rows.items), zip_long (IsLine t.top w.common t.costs t.rows.items w.lows) (members_of t.costs (length t.rows.items)) t.lines.items w.lines, v_in)))
+    high_number (entry (line_at t v) 0).numerator (number_at (slice_index_or w.unboxed.lows v []) 0) (entry (line_at t v) 0).denominator w.unboxed.common stands.0 w.unboxed.positive stands.1
+    (high v [] (omega (arith, members_long t.costs (length t.rows.items), zip_long (IsLine t.top w.unboxed.common t.costs t.rows.items w.unboxed.lows) (members_of t.costs (length t.rows.items)) t.lines.items w.unboxed.lines, v_in)))
 
-pub at_corner : (t : Table) (w : IsWholeTable t) → AreHigh t → IsCorner w.common t.costs.low w.lows (corner_of w.common t.costs.low w.lows)
-at_corner t w high = corner_is w.common t.costs.low w.lows (counted_lows t w) (first_high t w high)
+pub at_corner : (t : Table) (w : IsWholeTable t) → AreHigh t → IsCorner w.unboxed.common t.costs.low w.unboxed.lows (corner_of w.unboxed.common t.costs.low w.unboxed.lows)
+at_corner t w high = corner_is w.unboxed.common t.costs.low w.unboxed.lows (counted_lows t w) (first_high t w high)
 
 -- each form is its constant at the corner
 corner_high : (t : Table) (w : IsWholeTable t) → AreHigh t → (line : ℕ) → line < length t.lines.items → pos 0 ≤ℤ value_at (member_form (length t.costs.low) t.rows.items (member_at t line)) (corner_point t w)
@@ -190,15 +190,15 @@ corner_high t w high line line_in =
     let f = member_form n t.rows.items (member_at t line) in
     let l = whole_line t w line line_in in
     let here = number_there t.top (line_at t line) 0 l.numbers (omega (arith, line_long t w line line_in)) in
-    let stands = stand_at w.common (line_at t line) (line_numbers t w line) 0 l.stand (omega (arith, numbers_long n w.common t.costs.low w.lows f)) in
-    subst (λ z. pos 0 ≤ℤ z) (numbers_at n w.common t.costs.low w.lows f 0 (omega arith) ∙ sym (corner_value w.common t.costs.low w.lows (corner_of w.common t.costs.low w.lows) f (at_corner t w high)))
-    (high_number (entry (line_at t line) 0).numerator (number_at (line_numbers t w line) 0) (entry (line_at t line) 0).denominator w.common here.lowest.positive w.positive stands (high line [] line_in))
+    let stands = stand_at w.unboxed.common (line_at t line) (line_numbers t w line) 0 l.stand (omega (arith, numbers_long n w.unboxed.common t.costs.low w.unboxed.lows f)) in
+    subst (λ z. pos 0 ≤ℤ z) (numbers_at n w.unboxed.common t.costs.low w.unboxed.lows f 0 (omega arith) ∙ sym (corner_value w.unboxed.common t.costs.low w.unboxed.lows (corner_of w.unboxed.common t.costs.low w.unboxed.lows) f (at_corner t w high)))
+    (high_number (entry (line_at t line) 0).numerator (number_at (line_numbers t w line) 0) (entry (line_at t line) 0).denominator w.unboxed.common here.lowest.positive w.unboxed.positive stands (high line [] line_in))
 
 -- the same by the member
 member_high : (t : Table) (w : IsWholeTable t) → AreHigh t → (line : ℕ) (member : Member) → line < length (members_of t.costs (length t.rows.items)) → member_at t line ≡ member → pos 0 ≤ℤ value_at (member_form (length t.costs.low) t.rows.items member) (corner_point t w)
 member_high t w high line member line_in is =
     subst (λ (m : Member). pos 0 ≤ℤ value_at (member_form (length t.costs.low) t.rows.items m) (corner_point t w)) is
-    (corner_high t w high line (omega (arith, zip_long (IsLine t.top w.common t.costs t.rows.items w.lows) (members_of t.costs (length t.rows.items)) t.lines.items w.lines, line_in)))
+    (corner_high t w high line (omega (arith, zip_long (IsLine t.top w.unboxed.common t.costs t.rows.items w.unboxed.lows) (members_of t.costs (length t.rows.items)) t.lines.items w.unboxed.lines, line_in)))
 
 -- Where no constant is negative, the corner is a point of the box that meets the rows.
 pub corner_fits : (t : Table) (w : IsWholeTable t) → AreHigh t → IsPointOf t.costs (corner_point t w) × MeetsRows t.rows.items (corner_point t w)
@@ -206,7 +206,7 @@ corner_fits t w high =
     let n = length t.costs.low in
     let p = corner_point t w in
     let many = members_long t.costs (length t.rows.items) in
-    let counted : length p.values ≡ n = corner_long w.common t.costs.low w.lows (counted_lows t w) in
+    let counted : length p.values ≡ n = corner_long w.unboxed.common t.costs.low w.unboxed.lows (counted_lows t w) in
     let above : (k : ℕ) → k < length p.values → slice_index t.costs.low k * p.scale ≤ slice_index p.values k =
     λ k k_in. (
     high_less (slice_index t.costs.low k * p.scale) (slice_index p.values k) (value_at (member_form n t.rows.items (low_member t.costs k)) p)
@@ -220,7 +220,7 @@ corner_fits t w high =
     (member_high t w high (n + k) (high_member t.costs k) (omega (arith, many, counted, k_in)) (high_place t.costs (length t.rows.items) k (Low 0 0) (omega (arith, counted, k_in))))
     ) in (
       record {
-        scale = w.positive;
+        scale = w.unboxed.positive;
         low_count = sym counted;
         high_count = w.box.high_count ∙ sym counted;
         above = above;
@@ -245,3 +245,13 @@ settled_solves old new (Ok solved) keeps w shown =
     subst (λ (rows : List Form). IsSolved old.costs rows solved) keeps.rows
     (subst (λ (costs : CostBox). IsSolved costs new.rows.items solved) keeps.costs (shown_solves new w solved shown))
 settled_solves old new (Err wide) keeps w shown = tt
+
+-- and the form that it found is one of those
+pub settled_among : (old new : Table) (found : Result Solved Wide) → KeepsForms old new → OnOk found (IsWholeTable new) → IfOk found (λ solved. IsShown new.basis.items new.lines.items (Ended solved)) → IfOk found (IsAmongForms old.costs old.rows.items)
+settled_among old new (Ok Feasible) keeps w shown = tt
+settled_among old new (Ok (Refuted form)) keeps w shown =
+    let many = lines_long new w in
+    let below : form < length new.costs.low + length new.costs.low + length new.rows.items = omega (arith, shown.0, many) in
+    subst (λ (rows : List Form). form < length old.costs.low + length old.costs.low + length rows) keeps.rows
+    (subst (λ (costs : CostBox). form < length costs.low + length costs.low + length new.rows.items) keeps.costs below)
+settled_among old new (Err wide) keeps w shown = tt

@@ -11,11 +11,11 @@ use Rattle.wide_fraction.specs.declared.steps.Wide.{Wide}
 use Rattle.exact_simplex.specs.declared.table.Table.{Table}
 use Rattle.exact_simplex.specs.declared.stage.Solved.{Solved}
 use Rattle.exact_simplex.specs.declared.stage.Stage.TheVariants.{Ended, Open, Stopped}
-use Rattle.exact_simplex.specs.TableRows.{nothing}
+use Rattle.fraction_rows.specs.TableRows.{nothing}
 use Rattle.exact_simplex.specs.Tableaus.{FitsBox, starting, wide_at}
-use Rattle.exact_simplex.specs.Turns.{AreRows}
+use Rattle.fraction_rows.specs.Turns.{AreRows}
 use Rattle.exact_simplex.specs.Wholes.{HasRoom, IsShown, IsSound, IsWhole, IsWholeTable, members_of, starting_line}
-use Rattle.exact_simplex.proofs.Filled.{length-mapped}
+use Rattle.fraction_rows.proofs.Filled.{length-mapped}
 use Rattle.exact_simplex.proofs.Bases.{whole_basis}
 use Rattle.exact_simplex.proofs.Starts.{whole_start}
 

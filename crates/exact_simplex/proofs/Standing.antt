@@ -6,10 +6,10 @@ use Rattle.whole_numbers.specs.Fractions.{Fraction, StandsFor, whole, minus, tim
 use Rattle.whole_numbers.proofs.Ring.{var, num, ◌⊖◌, ◌⊗◌, ring, ring_by, nothing, using}
 use Rattle.whole_numbers.proofs.FractionLaws.{times_stands, divided_stands, pivot_entry_stands}
 use Rattle.path_rows.specs.Basis.{entry}
-use Rattle.exact_simplex.specs.TableRows.{AreNumbers, IsNumber, crossed_by, divided_without, nothing as none}
+use Rattle.fraction_rows.specs.TableRows.{AreNumbers, IsNumber, crossed_by, divided_without, nothing as none}
 use Rattle.exact_simplex.specs.Wholes.{Stand}
-use Rattle.exact_simplex.proofs.Numbers.{divided_lowest}
-use Rattle.exact_simplex.proofs.Pivot.{crossed, turned}
+use Rattle.fraction_rows.proofs.Numbers.{divided_lowest}
+use Rattle.exact_simplex.proofs.theory.Pivot.{crossed, turned}
 
 -- The two fractions by which a row is turned: the row's own entry at the pivot's column, which stands for n, and the
 -- pivot's, which stands for a.

@@ -1,22 +1,21 @@
 -- The lines of the starting basis, as they are made.
-use Rattle.std.proofs.Common.{◌≡◌, ℕ, zero, suc, ◌+◌, ◌^◌, ◌<◌, ◌≤◌, cond, Bool, true, false, refl, sym, ◌∙◌, ap, subst, List, [], ◌∷◌, ◌++◌, map, length, arith, append-nil, append_assoc, zero-add}
+use Rattle.std.proofs.Common.{◌≡◌, ℕ, zero, suc, ◌+◌, ◌-◌, ◌^◌, ◌<◌, cond, Bool, true, false, refl, sym, ◌∙◌, ap, subst, List, [], ◌∷◌, ◌++◌, map, length, arith, append-nil, append_assoc, zero-add}
 use Rattle.std.specs.Prelude.{ℤ, pos, negsuc, ◌-ℤ◌, ◌==◌, nat_abs, slice_index, slice_index_or, slice_set}
-use Rattle.std.proofs.Math.Pow.{pow_mono}
 use Rattle.std.proofs.lemmas.List.{length-map, map-append}
 use Rattle.std.proofs.lemmas.Simd.{map-map}
 use Rattle.cost_base.specs.Lists.{numbers_from}
 use Rattle.whole_numbers.specs.Fractions.{Fraction, whole}
-use Rattle.whole_numbers.proofs.Divisors.{gcd-one}
 use Rattle.wide_fraction.specs.Widths.{IsTop}
 use Rattle.cost_base.proofs.ListLemmas.{numbers_from-push}
 use Rattle.path_rows.specs.declared.form.CostBox.{CostBox}
 use Rattle.path_rows.specs.Basis.{low_member, unit}
-use Rattle.exact_simplex.specs.TableRows.{AreNumbers, IsNumber, nothing}
-use Rattle.exact_simplex.specs.Turns.{AreRows}
+use Rattle.fraction_rows.specs.TableRows.{AreNumbers, nothing}
+use Rattle.fraction_rows.specs.Turns.{AreRows}
 use Rattle.exact_simplex.specs.Wholes.{high_member, members_of, starting_line}
-use Rattle.exact_simplex.proofs.Columns.{same_test, other_test}
-use Rattle.exact_simplex.proofs.Filled.{length-mapped, mapped_same, mapped_written}
-use Rattle.exact_simplex.proofs.Units.{high_value, low_value}
+use Rattle.fraction_rows.proofs.Columns.{same_test, other_test}
+use Rattle.fraction_rows.proofs.Filled.{length-mapped, mapped_same, mapped_written}
+use Rattle.fraction_rows.proofs.Tops.{whole_number}
+use Rattle.exact_simplex.proofs.theory.Units.{high_value, low_value}
 
 -- a list to which what belongs to each number in turn is put
 pub put_more : {X : Type 0} (start olds news : List X) (f : ℕ → X) (k : ℕ) (x : X) → news ≡ olds ++ x ∷ [] → olds ≡ start ++ map f (numbers_from 0 k) → x ≡ f k → news ≡ start ++ map f (numbers_from 0 (k + 1))
@@ -44,6 +43,12 @@ blank_at a (suc n) (suc k) = blank_at (a + 1) n k
 pub constant_set : (row now : List Fraction) (width : ℕ) (value : Fraction) → row ≡ nothing ∷ map (λ column. nothing) (numbers_from 0 width) → now ≡ slice_set row 0 value → now ≡ value ∷ map (λ column. nothing) (numbers_from 0 width)
 constant_set row now width value row_is now_is = now_is ∙ ap (λ qs. slice_set qs 0 value) row_is
 
+-- a line of zeros, as long as the old one
+pub cleared_is : (old cleared : List Fraction) (width : ℕ) → length old ≡ suc width → cleared ≡ nothing ∷ map (λ column. nothing) (numbers_from 0 (length old - 1)) → cleared ≡ nothing ∷ map (λ column. nothing) (numbers_from 0 width)
+cleared_is old cleared width long is =
+    let same : length old - 1 ≡ width = omega (arith, long) in
+    is ∙ ap (λ (n : ℕ). nothing ∷ map (λ column. nothing) (numbers_from 0 n)) same
+
 unit_set : (width v : ℕ) (c : ℤ) → v < width → slice_set (map (λ column. nothing) (numbers_from 0 width)) v (whole c) ≡ map whole (unit width v c)
 unit_set width v c v_in =
     sym (map-map whole (λ k. cond (k == v) c (pos 0)) (numbers_from 0 width)
@@ -62,26 +67,6 @@ entry_set row now width v constant coefficient value v_in row_is value_is now_is
 pub unit_line_long : (line : List Fraction) (width v : ℕ) (constant coefficient : ℤ) → line ≡ whole constant ∷ map whole (unit width v coefficient) → length line ≡ suc width
 unit_line_long line width v constant coefficient line_is =
     ap length line_is ∙ ap suc (length-map (unit width v coefficient) whole ∙ length-mapped (λ k. cond (k == v) coefficient (pos 0)) 0 width)
-
--- a top has at most 127 bits, and isn't 0
-pub top_small : (top : ℕ) → IsTop top → top < 2 ^ 127
-top_small top is_top =
-    let most : 2 ^ is_top.0 ≤ 2 ^ 127 = pow_mono is_top.2 in
-    omega (arith, is_top.3)
-
-pub top_some : (top : ℕ) → IsTop top → 1 ≤ top
-top_some top is_top =
-    let most : 2 ^ 28 ≤ 2 ^ is_top.0 = pow_mono is_top.1 in
-    omega (arith, is_top.3)
-
--- a whole number below 2^27 is a number of each table
-pub whole_number : (top : ℕ) (m : ℤ) → IsTop top → nat_abs m < 2 ^ 27 → IsNumber top (whole m)
-whole_number top m is_top small =
-    let most : 2 ^ 28 ≤ 2 ^ is_top.0 = pow_mono is_top.1 in
-    record {
-      lowest = record { positive = omega arith; lowest = gcd-one (nat_abs m) };
-      within = record { numerator = omega (arith, is_top.3, most, small); denominator = omega (arith, is_top.3, most) };
-    }
 
 wholes_numbers : (top : ℕ) (f : ℕ → ℤ) (ks : List ℕ) → IsTop top → ((k : ℕ) → nat_abs (f k) < 2 ^ 27) → AreNumbers top (map whole (map f ks))
 wholes_numbers top f [] is_top small = tt

@@ -15,16 +15,16 @@ use Rattle.path_rows.specs.Forms.{no_form, value}
 use Rattle.path_rows.specs.Boxes.{IsBox}
 use Rattle.path_rows.specs.Basis.{IsFormOf, LeadsPositive, coordinate, forms_of, low_member, member_form, mixture, one_form, unit}
 use Rattle.exact_simplex.specs.Tableaus.{FitsBox, starting}
-use Rattle.exact_simplex.specs.Turns.{AreRows}
+use Rattle.fraction_rows.specs.Turns.{AreRows}
 use Rattle.exact_simplex.specs.Wholes.{AllLong, AreMixtures, IsLine, IsWhole, Stand, from_lows, high_member, low_forms, members_of, number_at, number_of, numbers_of, starting_line}
-use Rattle.exact_simplex.proofs.Filled.{length-mapped, mapped_at, mapped_same}
-use Rattle.exact_simplex.proofs.Blends.{listed_at}
-use Rattle.exact_simplex.proofs.Lex.{zero_leads}
-use Rattle.exact_simplex.proofs.Resolved.{unit_other, unit_same}
-use Rattle.exact_simplex.proofs.Units.{low_value, unit_from_lows}
+use Rattle.fraction_rows.proofs.Filled.{length-mapped, mapped_at, mapped_same}
+use Rattle.exact_simplex.proofs.theory.Blends.{listed_at}
+use Rattle.exact_simplex.proofs.theory.Lex.{zero_leads}
+use Rattle.exact_simplex.proofs.theory.Resolved.{unit_other, unit_same}
+use Rattle.exact_simplex.proofs.theory.Units.{low_value, unit_from_lows}
 use Rattle.exact_simplex.proofs.WholeTurns.{coefficients_long}
 use Rattle.exact_simplex.proofs.Bases.{low_forms_long}
-use Rattle.exact_simplex.proofs.Zips.{zip_from}
+use Rattle.exact_simplex.proofs.theory.Zips.{zip_from}
 
 -- the numbers of x - low for m variables from a on, over themselves
 abbrev start_rows : ℕ → ℕ → ℕ → List (List ℤ)
@@ -195,15 +195,19 @@ whole_start top costs rows box fit numbers =
     record {
       box = box;
       fit = fit;
-      count = length-mapped (low_member costs) 0 n;
-      members = all_mapped (IsFormOf costs rows) (low_member costs) n (λ k k_in. (k_in, refl));
-      common = 1;
-      positive = omega arith;
-      lows = start_rows n 0 n;
-      long = starts_long n 0 n;
-      mixtures = starting_mixtures costs rows;
-      own = λ k k_in. starting_own costs rows k (suc k) k_in (omega (arith, k_in)) ∙ unit_same n k k_in;
-      elsewhere = λ k place k_in place_in apart. starting_own costs rows k place k_in (omega (arith, place_in)) ∙ elsewhere_none n k place apart;
-      lead = λ k k_in. starting_leads n 0 n k k (sym (zero-add k)) k_in k_in;
-      lines = starting_lines top costs rows (members_of costs (length rows)) fit (members_are costs rows) numbers;
+      unboxed = record {
+        high_count = box.high_count;
+        counts = λ k d k_in. (fit k d k_in).count;
+        count = length-mapped (low_member costs) 0 n;
+        members = all_mapped (IsFormOf costs rows) (low_member costs) n (λ k k_in. (k_in, refl));
+        common = 1;
+        positive = omega arith;
+        lows = start_rows n 0 n;
+        long = starts_long n 0 n;
+        mixtures = starting_mixtures costs rows;
+        own = λ k k_in. starting_own costs rows k (suc k) k_in (omega (arith, k_in)) ∙ unit_same n k k_in;
+        elsewhere = λ k place k_in place_in apart. starting_own costs rows k place k_in (omega (arith, place_in)) ∙ elsewhere_none n k place apart;
+        lead = λ k k_in. starting_leads n 0 n k k (sym (zero-add k)) k_in k_in;
+        lines = starting_lines top costs rows (members_of costs (length rows)) fit (members_are costs rows) numbers;
+      };
     }

@@ -6,9 +6,9 @@ use Rattle.whole_numbers.proofs.Ring.{var, ◌⊕◌, ◌⊖◌, ◌⊗◌, ring
 use Rattle.path_rows.specs.Steps.{IsPivot}
 use Rattle.exact_simplex.specs.declared.table.Table.{Table}
 use Rattle.exact_simplex.specs.Pivots.{IsNotAfter, LeadsNoNegative, line_at, numbers_in, turned_column}
-use Rattle.exact_simplex.proofs.Corner.{leads_negative, leads_zero}
-use Rattle.exact_simplex.proofs.Lex.{scaled, scaled_follows, sum_follows, summed}
-use Rattle.exact_simplex.proofs.TurnedLeads.{length-numbers_in}
+use Rattle.exact_simplex.proofs.theory.Corner.{leads_negative, leads_zero}
+use Rattle.exact_simplex.proofs.theory.Lex.{scaled, scaled_follows, sum_follows, summed}
+use Rattle.exact_simplex.proofs.theory.TurnedLeads.{length-numbers_in}
 use Rattle.exact_simplex.proofs.Pivots.{entry_number}
 
 negative_multiple : (b n : ℕ) → 0 < b → (pos b *ℤ negsuc n) <ℤ pos 0
@@ -57,10 +57,10 @@ pub not_after_chain : (t : Table) (line first middle last : ℕ) → line < leng
 not_after_chain t line first middle last line_in middle_pivot last_pivot before after w a at_first =
     let b = entry_number t w line middle line_in middle_pivot in
     let c = entry_number t w line last line_in last_pivot in
-    let xs = numbers_in (suc first) w.lows in
-    let ys = numbers_in (suc middle) w.lows in
-    let zs = numbers_in (suc last) w.lows in
+    let xs = numbers_in (suc first) w.unboxed.lows in
+    let ys = numbers_in (suc middle) w.unboxed.lows in
+    let zs = numbers_in (suc last) w.unboxed.lows in
     subst (λ z. LeadsNoNegative (turned_column a zs z xs)) (sym c.1)
-    (columns_chain a b.0 c.0 xs ys zs b.2 (length-numbers_in (suc first) w.lows (suc middle)) (length-numbers_in (suc first) w.lows (suc last))
+    (columns_chain a b.0 c.0 xs ys zs b.2 (length-numbers_in (suc first) w.unboxed.lows (suc middle)) (length-numbers_in (suc first) w.unboxed.lows (suc last))
     (subst (λ z. LeadsNoNegative (turned_column a ys z xs)) b.1 (before w a at_first))
     (subst (λ z. LeadsNoNegative (turned_column b.0 zs z ys)) c.1 (after w b.0 b.1)))

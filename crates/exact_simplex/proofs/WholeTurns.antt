@@ -12,20 +12,20 @@ use Rattle.path_rows.specs.declared.tree.Member.{Member}
 use Rattle.path_rows.specs.declared.tree.Member.TheVariants.{Low, High, Row}
 use Rattle.path_rows.specs.Forms.{no_form}
 use Rattle.path_rows.specs.Basis.{IsFormOf, IsMixture, entry, forms_of, member_form}
-use Rattle.exact_simplex.specs.TableRows.{AreNumbers, divided_without}
+use Rattle.fraction_rows.specs.TableRows.{AreNumbers, divided_without}
 use Rattle.exact_simplex.specs.Tableaus.{FitsBox}
-use Rattle.exact_simplex.specs.Turns.{AreRows, turned_by, unless_none}
+use Rattle.fraction_rows.specs.Turns.{AreRows, turned_by, unless_none}
 use Rattle.exact_simplex.specs.Wholes.{AllLong, IsLine, IsWhole, Stand, low_forms, members_of, number_at, number_of, numbers_of}
 use Rattle.exact_simplex.specs.Pivots.{IsLeast}
-use Rattle.exact_simplex.proofs.Filled.{length-mapped}
-use Rattle.exact_simplex.proofs.RowLaws.{number_at as number_there}
-use Rattle.exact_simplex.proofs.Resolved.{resolved, stand_length}
-use Rattle.exact_simplex.proofs.Blends.{form_mixture}
-use Rattle.exact_simplex.proofs.Pivot.{turned}
+use Rattle.fraction_rows.proofs.Filled.{length-mapped}
+use Rattle.fraction_rows.proofs.RowLaws.{number_at as number_there}
+use Rattle.exact_simplex.proofs.theory.Resolved.{resolved, stand_length}
+use Rattle.exact_simplex.proofs.theory.Blends.{form_mixture}
+use Rattle.exact_simplex.proofs.theory.Pivot.{turned}
 use Rattle.exact_simplex.proofs.Standing.{IsTurn, kept_stands, turned_row, turned_stands}
-use Rattle.exact_simplex.proofs.Turns.{turned_rows}
-use Rattle.exact_simplex.proofs.TurnedNumbers.{IsEntry, elsewhere_turned, long_turned, mixtures_turned, numbers_at, numbers_long, numbers_turned, own_turned}
-use Rattle.exact_simplex.proofs.TurnedLeads.{leads_turned}
+use Rattle.exact_simplex.proofs.theory.Turns.{turned_rows}
+use Rattle.exact_simplex.proofs.theory.TurnedNumbers.{IsEntry, elsewhere_turned, long_turned, mixtures_turned, numbers_at, numbers_long, numbers_turned, own_turned}
+use Rattle.exact_simplex.proofs.theory.TurnedLeads.{leads_turned}
 
 -- a form of the box has a coefficient for each variable
 pub coefficients_long : (costs : CostBox) (rows : List Form) (member : Member) → All (FitsBox costs) rows → IsFormOf costs rows member → length (member_form (length costs.low) rows member).coefficients ≡ length costs.low
@@ -112,42 +112,46 @@ lines_turned top costs rows D lows entering es j a (member ∷ members) (fs ∷ 
     at_j : number_at (numbers_of (length costs.low) D costs.low lows (member_form (length costs.low) rows entering)) (suc j) ≡ pos a
     at_j = numbers_at (length costs.low) D costs.low lows (member_form (length costs.low) rows entering) (suc j) (omega (arith, p.j_in)) ∙ p.at_j
 
-unfoldable pub whole_turned : (top : ℕ) (costs : CostBox) (rows : List Form) (basis : List Member) (table : List (List Fraction)) (entering : Member) (es : List Fraction) (j a : ℕ) (w : IsWhole top costs rows basis table) → IsPivotOf top costs rows w.common w.lows entering es j a → AreRows top (suc (length costs.low)) (map (turned_line es (suc j)) table) → IsWhole top costs rows (slice_set basis j entering) (map (turned_line es (suc j)) table)
+unfoldable pub whole_turned : (top : ℕ) (costs : CostBox) (rows : List Form) (basis : List Member) (table : List (List Fraction)) (entering : Member) (es : List Fraction) (j a : ℕ) (w : IsWhole top costs rows basis table) → IsPivotOf top costs rows w.unboxed.common w.unboxed.lows entering es j a → AreRows top (suc (length costs.low)) (map (turned_line es (suc j)) table) → IsWhole top costs rows (slice_set basis j entering) (map (turned_line es (suc j)) table)
 whole_turned top costs rows basis table entering es j a w p news =
     let n = length costs.low in
-    let D = w.common in
+    let D = w.unboxed.common in
     let f = member_form n rows entering in
-    let rs = numbers_of n D costs.low w.lows f in
+    let rs = numbers_of n D costs.low w.unboxed.lows f in
     let bs = forms_of costs rows basis in
-    let counted : length rs ≡ suc n = numbers_long n D costs.low w.lows f in
-    let long : AllLong (length rs) w.lows = subst (λ (m : ℕ). AllLong m w.lows) (sym counted) w.long in
-    let at_j : number_at rs (suc j) ≡ pos a = numbers_at n D costs.low w.lows f (suc j) (omega (arith, p.j_in)) ∙ p.at_j in
-    let as_many : length bs ≡ n = length-map basis (member_form n rows) ∙ w.count in
-    let entry_is : IsEntry n D a costs.low w.lows f rs j =
+    let counted : length rs ≡ suc n = numbers_long n D costs.low w.unboxed.lows f in
+    let long : AllLong (length rs) w.unboxed.lows = subst (λ (m : ℕ). AllLong m w.unboxed.lows) (sym counted) w.unboxed.long in
+    let at_j : number_at rs (suc j) ≡ pos a = numbers_at n D costs.low w.unboxed.lows f (suc j) (omega (arith, p.j_in)) ∙ p.at_j in
+    let as_many : length bs ≡ n = length-map basis (member_form n rows) ∙ w.unboxed.count in
+    let entry_is : IsEntry n D a costs.low w.unboxed.lows f rs j =
     record {
       counted = counted;
       long = long;
       at_j = at_j;
-      numbers = λ i i_in. sym (numbers_at n D costs.low w.lows f i (omega (arith, counted, i_in)));
+      numbers = λ i i_in. sym (numbers_at n D costs.low w.unboxed.lows f i (omega (arith, counted, i_in)));
       j_in = p.j_in;
     } in
     let forms_are : forms_of costs rows (slice_set basis j entering) ≡ slice_set bs j f = map-set (member_form n rows) basis j entering in
     let mixture_is : IsMixture f bs D rs =
-    form_mixture D n costs.low (low_forms n 0 costs.low) w.lows bs f w.long w.mixtures (resolved costs.low f (coefficients_long costs rows entering w.fit p.member)) in
+    form_mixture D n costs.low (low_forms n 0 costs.low) w.unboxed.lows bs f w.unboxed.long w.unboxed.mixtures (resolved costs.low f (coefficients_long costs rows entering w.fit p.member)) in
     record {
       box = w.box;
       fit = w.fit;
-      count = length-set basis j entering ∙ w.count;
-      members = All-set (IsFormOf costs rows) basis j entering p.member w.members;
-      common = D * a;
-      positive = grind (arith, w.positive, p.positive);
-      lows = turned_rows w.lows rs (suc j) D;
-      long = subst (λ (m : ℕ). AllLong m (turned_rows w.lows rs (suc j) D)) counted (long_turned D (suc j) rs w.lows long);
-      mixtures = rw forms_are (mixtures_turned D a bs j f rs (low_forms n 0 costs.low) w.lows (omega (arith, as_many, p.j_in)) (counted ∙ ap suc (sym as_many)) at_j mixture_is (subst (λ (m : ℕ). AllLong (suc m) w.lows) (sym as_many) w.long) w.mixtures);
-      own = rw forms_are (own_turned n D a costs.low w.lows bs f rs j entry_is as_many w.own w.elsewhere);
-      elsewhere = rw forms_are (elsewhere_turned n D a costs.low w.lows bs f rs j entry_is as_many w.elsewhere);
-      lead = leads_turned n a D w.lows rs (slice_index_or bs j no_form).coefficients j counted long at_j p.positive w.positive p.j_in (w.own j p.j_in) (λ k k_in other. w.elsewhere j (suc k) p.j_in (omega (arith, k_in)) (next_apart other)) p.least w.lead;
-      lines = lines_turned top costs rows D w.lows entering es j a (members_of costs (length rows)) table w.positive w.long p w.lines news;
+      unboxed = record {
+        high_count = w.unboxed.high_count;
+        counts = w.unboxed.counts;
+        count = length-set basis j entering ∙ w.unboxed.count;
+        members = All-set (IsFormOf costs rows) basis j entering p.member w.unboxed.members;
+        common = D * a;
+        positive = grind (arith, w.unboxed.positive, p.positive);
+        lows = turned_rows w.unboxed.lows rs (suc j) D;
+        long = subst (λ (m : ℕ). AllLong m (turned_rows w.unboxed.lows rs (suc j) D)) counted (long_turned D (suc j) rs w.unboxed.lows long);
+        mixtures = rw forms_are (mixtures_turned D a bs j f rs (low_forms n 0 costs.low) w.unboxed.lows (omega (arith, as_many, p.j_in)) (counted ∙ ap suc (sym as_many)) at_j mixture_is (subst (λ (m : ℕ). AllLong (suc m) w.unboxed.lows) (sym as_many) w.unboxed.long) w.unboxed.mixtures);
+        own = rw forms_are (own_turned n D a costs.low w.unboxed.lows bs f rs j entry_is as_many w.unboxed.own w.unboxed.elsewhere);
+        elsewhere = rw forms_are (elsewhere_turned n D a costs.low w.unboxed.lows bs f rs j entry_is as_many w.unboxed.elsewhere);
+        lead = leads_turned n a D w.unboxed.lows rs (slice_index_or bs j no_form).coefficients j counted long at_j p.positive w.unboxed.positive p.j_in (w.unboxed.own j p.j_in) (λ k k_in other. w.unboxed.elsewhere j (suc k) p.j_in (omega (arith, k_in)) (next_apart other)) p.least w.unboxed.lead;
+        lines = lines_turned top costs rows D w.unboxed.lows entering es j a (members_of costs (length rows)) table w.unboxed.positive w.unboxed.long p w.unboxed.lines news;
+      };
     }
   where
     next_apart : {x y : ℕ} → x ≢ y → suc x ≢ suc y

@@ -1,22 +1,10 @@
--- The least point of a box that meets rows, and the corner of a table, which is one.
+-- The corner of a table, which is the least point of its box that meets its rows.
 use Rattle.std.specs.Prelude.{ℕ, ◌+◌, ◌*◌, ◌/◌, List, nat_abs, length, take, slice_index}
 use Rattle.whole_numbers.specs.Fractions.{Fraction}
-use Rattle.area_graph.specs.declared.Point.{Point}
-use Rattle.path_rows.specs.declared.form.Form.{Form}
-use Rattle.path_rows.specs.declared.form.CostBox.{CostBox}
 use Rattle.path_rows.specs.Basis.{entry}
-use Rattle.path_rows.specs.Boxes.{IsPointOf}
-use Rattle.path_rows.specs.Earnest.{Before}
 use Rattle.path_rows.specs.Steps.{corner_denominators}
 use Rattle.exact_simplex.specs.declared.table.Table.{Table}
-use Rattle.exact_simplex.specs.Tableaus.{MeetsRows}
 use Rattle.exact_simplex.specs.Pivots.{line_at}
-
--- a point of the box that meets the rows, and before which no such point comes
-pub record IsLeastPoint (costs : CostBox) (rows : List Form) (point : Point) : Type 0 where
-  pub is : IsPointOf costs point
-  pub meets : MeetsRows rows point
-  pub least : (other : Point) → IsPointOf costs other → MeetsRows rows other → Before other point → ⊥
 
 -- the constant of x - low for a variable
 abbrev pub constant_at : Table → ℕ → Fraction

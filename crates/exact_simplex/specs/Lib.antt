@@ -1,12 +1,8 @@
-pub mod TableRows
-pub mod Entries
 pub mod Tableaus
-pub mod Turns
 pub mod Wholes
 pub mod Moves
 pub mod Pivots
 pub mod Ranks
-pub mod Sums
 pub mod Corners
 pub mod Multipliers
 pub mod RowLines

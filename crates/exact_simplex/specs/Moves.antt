@@ -1,6 +1,5 @@
 -- What a table keeps while its bounds move, and what a move makes of its lines.
-use Rattle.std.specs.Prelude.{◌≡◌, ◌≢◌, ℕ, suc, ◌<◌, ◌≤◌, List, [], ℤ, pos, ◌-ℤ◌, Option, None, Some, map, length, slice_index, slice_index_or, slice_set, All, Any}
-use Rattle.std.specs.List.{AllZip}
+use Rattle.std.specs.Prelude.{◌≡◌, ◌≢◌, ℕ, suc, ◌<◌, List, [], ℤ, pos, ◌-ℤ◌, Option, None, Some, map, length, slice_index, slice_index_or, slice_set, Any}
 use Rattle.cost_base.specs.declared.StepName.{StepName}
 use Rattle.cost_base.specs.declared.StepName.TheVariants.{Add, Mul, Sub}
 use Rattle.whole_numbers.specs.Fractions.{Fraction, listed, minus, plus, times, whole}
@@ -9,37 +8,16 @@ use Rattle.path_rows.specs.declared.form.Form.{Form}
 use Rattle.path_rows.specs.declared.form.CostBox.{CostBox}
 use Rattle.path_rows.specs.declared.tree.Member.{Member}
 use Rattle.path_rows.specs.declared.tree.Member.TheVariants.{Low, High}
-use Rattle.path_rows.specs.Forms.{no_form}
-use Rattle.path_rows.specs.Basis.{IsFormOf, LeadsPositive, entry, forms_of}
+use Rattle.path_rows.specs.Basis.{entry}
 use Rattle.exact_simplex.specs.declared.table.Table.{Table}
-use Rattle.exact_simplex.specs.TableRows.{IsWideStep, nothing}
-use Rattle.exact_simplex.specs.Turns.{AreRows}
+use Rattle.fraction_rows.specs.TableRows.{IsWideStep, nothing}
+use Rattle.fraction_rows.specs.Turns.{AreRows}
 use Rattle.exact_simplex.specs.Tableaus.{IsShiftStep, Shift, moved}
-use Rattle.exact_simplex.specs.Wholes.{AllLong, AreMixtures, HasRoom, IsLine, low_forms, members_of, number_at, number_of}
+use Rattle.exact_simplex.specs.Wholes.{HasRoom, members_of}
 
 -- a form that is less by a number
 abbrev pub fallen : Form → ℤ → Form
 fallen f fall = record { constant = f.constant -ℤ fall; coefficients = f.coefficients }
-
--- What a table keeps while its bounds move: all that a whole one does, but the ranges may be empty, and the rows' values
--- at the low corner may be large.
-pub record IsUnboxed (top : ℕ) (costs : CostBox) (rows : List Form) (basis : List Member) (table : List (List Fraction)) : Type 0 where
-  pub high_count : length costs.high ≡ length costs.low
-  pub counts : All (λ f. length f.coefficients ≡ length costs.low) rows
-  pub count : length basis ≡ length costs.low
-  pub members : All (IsFormOf costs rows) basis
-  pub common : ℕ
-  pub positive : 0 < common
-  pub lows : List (List ℤ)
-  pub long : AllLong (suc (length costs.low)) lows
-  pub mixtures : AreMixtures common (forms_of costs rows basis) (low_forms (length costs.low) 0 costs.low) lows
-  pub own : (k : ℕ) → k < length costs.low → number_of common costs.low lows (slice_index_or (forms_of costs rows basis) k no_form) (suc k) ≡ pos common
-  pub elsewhere : (k place : ℕ) → k < length costs.low → place ≤ length costs.low → place ≢ suc k → number_of common costs.low lows (slice_index_or (forms_of costs rows basis) k no_form) place ≡ pos 0
-  pub lead : (k : ℕ) → k < length costs.low → LeadsPositive (map (λ ts. number_at ts (suc k)) lows)
-  pub lines : AllZip (IsLine top common costs rows lows) (members_of costs (length rows)) table
-
-abbrev pub IsUnboxedTable : Table → Type 0
-IsUnboxedTable t = IsUnboxed t.top t.costs t.rows.items t.basis.items t.lines.items
 
 -- the column of a member in the basis, if it is there
 abbrev pub IsColumnOf : List Member → Member → Option ℕ → Type 0

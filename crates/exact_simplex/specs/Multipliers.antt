@@ -9,7 +9,7 @@ use Rattle.path_rows.specs.Steps.{IsTooWide, denominators, lcm_of, made_whole, t
 use Rattle.exact_simplex.specs.declared.stage.SimplexStop.{SimplexStop}
 use Rattle.exact_simplex.specs.declared.stage.SimplexStop.TheVariants.{TooWide, OutOfMemory}
 use Rattle.exact_simplex.specs.declared.table.Table.{Table}
-use Rattle.exact_simplex.specs.Entries.{IsPassing}
+use Rattle.fraction_rows.specs.Entries.{IsPassing}
 use Rattle.exact_simplex.specs.Tableaus.{wide_at}
 
 -- fractions of a member, with the row's number where it is a row; a bound has none

@@ -43,11 +43,11 @@ member_at t line = slice_index_or (members_of t.costs (length t.rows.items)) lin
 
 -- the numbers of that form
 abbrev pub line_numbers : (t : Table) → IsWholeTable t → ℕ → List ℤ
-line_numbers t w line = numbers_of (length t.costs.low) w.common t.costs.low w.lows (member_form (length t.costs.low) t.rows.items (member_at t line))
+line_numbers t w line = numbers_of (length t.costs.low) w.unboxed.common t.costs.low w.unboxed.lows (member_form (length t.costs.low) t.rows.items (member_at t line))
 
 -- the column is the least for the form of a line
 abbrev pub IsLeastIn : Table → ℕ → ℕ → Type 0
-IsLeastIn t line column = (w : IsWholeTable t) → IsLeast (length t.costs.low) w.lows (line_numbers t w line) column
+IsLeastIn t line column = (w : IsWholeTable t) → IsLeast (length t.costs.low) w.unboxed.lows (line_numbers t w line) column
 
 -- the two tables are of one box and of the same rows
 pub record KeepsForms (old new : Table) : Type 0 where
@@ -58,7 +58,7 @@ pub record KeepsForms (old new : Table) : Type 0 where
 -- By the line's form the first column doesn't come after the second, each over the form's number in it.
 abbrev pub IsNotAfter : Table → ℕ → ℕ → ℕ → Type 0
 IsNotAfter t line first second =
-    (w : IsWholeTable t) → (a : ℕ) → number_at (line_numbers t w line) (suc first) ≡ pos a → LeadsNoNegative (turned_column a (numbers_in (suc second) w.lows) (number_at (line_numbers t w line) (suc second)) (numbers_in (suc first) w.lows))
+    (w : IsWholeTable t) → (a : ℕ) → number_at (line_numbers t w line) (suc first) ≡ pos a → LeadsNoNegative (turned_column a (numbers_in (suc second) w.unboxed.lows) (number_at (line_numbers t w line) (suc second)) (numbers_in (suc first) w.unboxed.lows))
 
 -- what a test tells whether the other column comes before
 abbrev pub IsOrdered : Bool → Table → ℕ → ℕ → ℕ → Type 0

@@ -7,9 +7,9 @@ use Rattle.path_rows.specs.declared.form.CostBox.{CostBox}
 use Rattle.path_rows.specs.Basis.{entry}
 use Rattle.path_rows.specs.Steps.{start_of_sum}
 use Rattle.exact_simplex.specs.declared.table.Table.{Table}
-use Rattle.exact_simplex.specs.Entries.{IsPassing}
-use Rattle.exact_simplex.specs.Sums.{IsSumStep, sum_from}
-use Rattle.exact_simplex.specs.TableRows.{AreNumbers}
+use Rattle.fraction_rows.specs.Entries.{IsPassing}
+use Rattle.fraction_rows.specs.Sums.{IsSumStep, sum_from}
+use Rattle.fraction_rows.specs.TableRows.{AreNumbers}
 
 -- the sum of the form's terms at a place, by the lines of x - low for each variable
 abbrev pub sum_at_place : CostBox → Form → List (List Fraction) → ℕ → Fraction

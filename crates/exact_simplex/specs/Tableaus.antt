@@ -1,5 +1,5 @@
 -- What a tableau holds, and what its calls may answer and leave.
-use Rattle.std.specs.Prelude.{◌≡◌, ℕ, suc, ◌^◌, ◌<◌, ◌≤◌, ◌⊎◌, List, [], ◌∷◌, ◌++◌, ℤ, pos, ◌-ℤ◌, ◌≤ℤ◌, nat_abs, map, length, take, drop, slice_get, slice_index, All, Any, Some}
+use Rattle.std.specs.Prelude.{◌≡◌, ℕ, suc, ◌+◌, ◌^◌, ◌<◌, ◌≤◌, ◌⊎◌, List, [], ◌∷◌, ◌++◌, ℤ, pos, ◌-ℤ◌, ◌≤ℤ◌, nat_abs, map, length, take, drop, slice_get, slice_index, All, Any, Some}
 use Rattle.cost_base.specs.Lists.{numbers_from}
 use Rattle.cost_base.specs.declared.StepName.{StepName}
 use Rattle.cost_base.specs.declared.StepName.TheVariants.{Add, Sub, Mul}
@@ -79,6 +79,11 @@ IsTold held OutOfMemory = Unit {0}
 abbrev pub IsSolved : CostBox → List Form → Solved → Type 0
 IsSolved costs rows Feasible = (point : Point) × (IsPointOf costs point × MeetsRows rows point)
 IsSolved costs rows (Refuted form) = (point : Point) → IsPointOf costs point → MeetsRows rows point → ⊥
+
+-- a refuted form's number is one of those of the box's forms: x - low and high - x for each variable, and the rows
+abbrev pub IsAmongForms : CostBox → List Form → Solved → Type 0
+IsAmongForms costs rows Feasible = Unit {0}
+IsAmongForms costs rows (Refuted form) = form < length costs.low + length costs.low + length rows
 
 -- a member with the bound of another box
 abbrev pub moved_member : CostBox → Member → Member

@@ -11,7 +11,7 @@ use Rattle.path_rows.specs.Forms.{no_form, value}
 use Rattle.path_rows.specs.Boxes.{IsBox}
 use Rattle.path_rows.specs.Basis.{IsBasis, IsFormOf, IsMixture, LeadsPositive, entry, forms_of, low_member, member_form}
 use Rattle.path_rows.specs.Steps.{IsStuck}
-use Rattle.exact_simplex.specs.TableRows.{AreNumbers}
+use Rattle.fraction_rows.specs.TableRows.{AreNumbers}
 use Rattle.exact_simplex.specs.declared.table.Table.{Table}
 use Rattle.exact_simplex.specs.declared.stage.Stage.{Stage}
 use Rattle.exact_simplex.specs.declared.stage.Stage.TheVariants.{Open, Ended, Stopped}
@@ -66,12 +66,13 @@ pub record IsLine (top D : ℕ) (costs : CostBox) (rows : List Form) (lows : Lis
   pub numbers : AreNumbers top line
   pub stand : Stand D line (numbers_of (length costs.low) D costs.low lows (member_form (length costs.low) rows member))
 
--- The table of a box and of rows at a basis. With a common denominator D and the numbers of x - low for each variable:
+-- The lines of a box and of rows at a basis. With a common denominator D and the numbers of x - low for each variable:
 -- these mix the forms of the basis; the form of each column has D in it and 0 elsewhere; each column leads positive;
--- and each line stands for its form's numbers.
-pub record IsWhole (top : ℕ) (costs : CostBox) (rows : List Form) (basis : List Member) (table : List (List Fraction)) : Type 0 where
-  pub box : IsBox (length costs.low) costs
-  pub fit : All (FitsBox costs) rows
+-- and each line stands for its form's numbers. The ranges may be empty, and the rows' values at the low corner may be
+-- large: this is what a table keeps while its bounds move.
+pub record IsUnboxed (top : ℕ) (costs : CostBox) (rows : List Form) (basis : List Member) (table : List (List Fraction)) : Type 0 where
+  pub high_count : length costs.high ≡ length costs.low
+  pub counts : All (λ f. length f.coefficients ≡ length costs.low) rows
   pub count : length basis ≡ length costs.low
   pub members : All (IsFormOf costs rows) basis
   pub common : ℕ
@@ -83,6 +84,12 @@ pub record IsWhole (top : ℕ) (costs : CostBox) (rows : List Form) (basis : Lis
   pub elsewhere : (k place : ℕ) → k < length costs.low → place ≤ length costs.low → place ≢ suc k → number_of common costs.low lows (slice_index_or (forms_of costs rows basis) k no_form) place ≡ pos 0
   pub lead : (k : ℕ) → k < length costs.low → LeadsPositive (map (λ ts. number_at ts (suc k)) lows)
   pub lines : AllZip (IsLine top common costs rows lows) (members_of costs (length rows)) table
+
+-- The table of a box and of rows at a basis: the rows fit the box.
+pub record IsWhole (top : ℕ) (costs : CostBox) (rows : List Form) (basis : List Member) (table : List (List Fraction)) : Type 0 where
+  pub box : IsBox (length costs.low) costs
+  pub fit : All (FitsBox costs) rows
+  pub unboxed : IsUnboxed top costs rows basis table
 
 -- The line of a member's form at the starting basis: its value at the low corner, and its coefficients.
 abbrev pub starting_line : CostBox → List Form → Member → List Fraction
@@ -100,6 +107,9 @@ IsShown basis table (Stopped wide) = Unit {0}
 -- the table of a struct is whole
 abbrev pub IsWholeTable : Table → Type 0
 IsWholeTable t = IsWhole t.top t.costs t.rows.items t.basis.items t.lines.items
+
+abbrev pub IsUnboxedTable : Table → Type 0
+IsUnboxedTable t = IsUnboxed t.top t.costs t.rows.items t.basis.items t.lines.items
 
 -- the two rows in which a pivot works are as wide as the lines
 pub record HasRoom (t : Table) : Type 0 where

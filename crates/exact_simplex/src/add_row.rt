@@ -1,28 +1,25 @@
 //! One more row: its form, and its line at the present basis.
-ghost use Rattle.std.specs.Prelude.{◌≡◌, suc, ◌^◌, ◌<◌, ◌≤◌, ◌∷◌, ◌*ℤ◌, ◌+ℤ◌, ◌≤ℤ◌, length, map, nat_abs, pos, IfErr, IfOk, OnOk};
+ghost use Rattle.std.specs.Prelude.{◌≡◌, suc, ◌^◌, ◌<◌, ◌≤◌, ◌∷◌, ◌*ℤ◌, ◌+ℤ◌, ◌≤ℤ◌, length, map, nat_abs, pos, All, IfErr, IfOk, OnOk};
 ghost use Rattle.cost_base.specs.Lists.{numbers_from};
 ghost use Rattle.path_rows.specs.Forms.{value};
 ghost use Rattle.path_rows.specs.Steps.{IsTooWide, start_of_sum};
 ghost use Rattle.exact_simplex.specs.RowLines.{HasPlace, HoldsRow, HoldsSame, IsRowLine, IsRowStep, sum_at_place};
-ghost use Rattle.exact_simplex.specs.Sums.{variables_from};
-ghost use Rattle.exact_simplex.specs.TableRows.{IsNumber, nothing};
+ghost use Rattle.fraction_rows.specs.TableRows.{IsNumber, nothing};
 ghost use Rattle.exact_simplex.specs.Tableaus.{FitsBox, wide_at};
-ghost use Rattle.exact_simplex.specs.Turns.{AreRows};
+ghost use Rattle.fraction_rows.specs.Turns.{AreRows};
 ghost use Rattle.exact_simplex.specs.Wholes.{HasRoom, IsWholeTable};
 
-use crate::row::TableRow;
-use crate::sum::{sum_at, used_variables};
 use crate::table::Table;
-use cost_base::{Listed, OutOfMemory};
+use cost_base::OutOfMemory;
+use fraction_rows::{TableRow, sum_at};
 use path_rows::{CostBox, Form};
 use std::alloc::Global;
 use wide_fraction::{Frac, Top, Wide};
 
-/// A form, the variables whose coefficients in it aren't 0, and a line of zeros that is to become its line.
+/// A form, and a line of zeros that is to become its line.
 #[derive(Drop)]
 pub struct BlankRow {
     form: Form,
-    variables: Vec<usize>,
     line: TableRow,
 }
 
@@ -37,17 +34,27 @@ fn corner_term(coefficient: i64, low: u16) -> i128
 }
 
 /// The form's value at the low corner of the box.
+pub fn corner_sum(form: &Form, costs: &CostBox) -> i128
+    requires count { length form.now.coefficients ≡ length costs.now.low }
+    requires sizes { All (λ c. nat_abs c ≤ 2 ^ 26) form.now.coefficients }
+    ensures { result ≡ value form.now costs.now.low }
+{
+    let low = costs.low.as_slice();
+    let terms = form.terms();
+    let mut sum = i128::from(form.constant());
+    for term in terms {
+        let var = term.var as usize;
+        sum += corner_term(term.coefficient, low[var]);
+    }
+    sum
+}
+
+/// That value of a form that fits.
 pub fn corner_value(form: &Form, costs: &CostBox) -> i64
     requires { FitsBox costs.now form.now }
     ensures { result ≡ value form.now costs.now.low }
 {
-    let low = costs.low.as_slice();
-    let coefficients = form.coefficients.as_slice();
-    let mut sum = i128::from(form.constant);
-    for var in 0..coefficients.len() {
-        sum += corner_term(coefficients[var], low[var]);
-    }
-    sum as i64
+    corner_sum(form, costs) as i64
 }
 
 /// What the form's sum at a place starts with: its value at the low corner for the constant, and 0 for a column.
@@ -67,14 +74,12 @@ fn start_at(form: &Form, costs: &CostBox, place: u32, top: Top) -> Frac
 /// What the form's line has at a place, by the lines of x - low for each variable.
 fn sum_of_form(
     form: &Form,
-    variables: &[usize],
     costs: &CostBox,
     lines: &[TableRow],
     place: u32,
     top: Top,
 ) -> Result<Frac, Wide>
     requires fits { FitsBox costs.now form.now }
-    requires variables { variables.now ≡ variables_from 0 form.now.coefficients }
     requires lines { AreRows top (suc (length costs.now.low)) lines.now }
     requires many { length costs.now.low ≤ length lines.now }
     requires place { place < suc (length costs.now.low) }
@@ -83,14 +88,7 @@ fn sum_of_form(
     ensures wide { IfErr result (IsRowStep top costs.now form.now lines.now) }
 {
     let start = start_at(form, costs, place, top);
-    sum_at(
-        start,
-        form.coefficients.as_slice(),
-        variables,
-        lines,
-        place,
-        top,
-    )
+    sum_at(start, form, lines, place, top)
 }
 
 /// Puts the form's line in place of a line of zeros: first its constant, and then its columns in order.
@@ -101,13 +99,11 @@ fn sum_of_form(
 fn fill_line(
     line: &mut TableRow,
     form: &Form,
-    variables: &[usize],
     costs: &CostBox,
     lines: &[TableRow],
     top: Top,
 ) -> Result<(), Wide>
     requires fits { FitsBox costs.now form.now }
-    requires variables { variables.now ≡ variables_from 0 form.now.coefficients }
     requires few { length costs.now.low < 2 ^ 32 }
     requires lines { AreRows top (suc (length costs.now.low)) lines.now }
     requires many { length costs.now.low ≤ length lines.now }
@@ -115,31 +111,17 @@ fn fill_line(
     ensures line { OnOk result (IsRowLine top costs.now form.now lines.now line.new) }
     ensures wide { IfErr result (IsRowStep top costs.now form.now lines.now) }
 {
-    line.set_constant(sum_of_form(form, variables, costs, lines, 0, top)?);
+    line.set_constant(sum_of_form(form, costs, lines, 0, top)?);
     let width = costs.low.as_slice().len() as u32;
     for column in 0..width {
-        let entry = sum_of_form(form, variables, costs, lines, column + 1, top)?;
+        let entry = sum_of_form(form, costs, lines, column + 1, top)?;
         line.push(column, entry);
     }
     Ok(())
 }
 
-/// An equal form.
-fn copy_form(alloc: Global, form: &Form) -> Result<Form, OutOfMemory>
-    ensures { IfOk result (λ copy. copy ≡ form.now) }
-{
-    match form.coefficients.as_slice().to_vec(alloc) {
-        Ok(coefficients) => Ok(Form {
-            constant: form.constant,
-            coefficients: Listed::from_items(coefficients),
-        }),
-        Err(_) => Err(OutOfMemory),
-    }
-}
-
 impl Table {
-    /// Makes room for one more row, and the row's parts: a copy of the form, the variables whose coefficients aren't 0,
-    /// and a line of zeros.
+    /// Makes room for one more row, and the row's parts: a copy of the form, and a line of zeros.
     ///
     /// # Errors
     ///
@@ -149,11 +131,9 @@ impl Table {
         ensures same { HoldsSame self.old self.new }
         ensures place { OnOk result (HasPlace self.new) }
         ensures form { IfOk result (λ row. row.form ≡ form.now) }
-        ensures variables { IfOk result (λ row. row.variables.items ≡ variables_from 0 row.form.coefficients) }
         ensures blank { IfOk result (λ row. row.line ≡ nothing ∷ map (λ column. nothing) (numbers_from 0 (length self.old.costs.low))) }
     {
-        let copy = copy_form(alloc, form)?;
-        let variables = used_variables(alloc, copy.coefficients.as_slice())?;
+        let copy = form.copy(alloc)?;
         let line = TableRow::zero(alloc, self.costs.low.as_slice().len() as u32)?;
         if self.rows.reserve(1).is_err() {
             return Err(OutOfMemory);
@@ -161,11 +141,7 @@ impl Table {
         if self.lines.reserve(1).is_err() {
             return Err(OutOfMemory);
         }
-        Ok(BlankRow {
-            form: copy,
-            variables,
-            line,
-        })
+        Ok(BlankRow { form: copy, line })
     }
 
     /// Adds a row for which there is room, with its line at the present basis.
@@ -178,25 +154,14 @@ impl Table {
         requires room { HasRoom self.old }
         requires place { HasPlace self.old }
         requires fits { FitsBox self.old.costs row.form }
-        requires variables { row.variables.items ≡ variables_from 0 row.form.coefficients }
         requires blank { row.line ≡ nothing ∷ map (λ column. nothing) (numbers_from 0 (length self.old.costs.low)) }
         ensures holds { HoldsRow self.old row.form self.new }
         ensures whole { OnOk result (IsWholeTable self.new) }
         ensures wide { IfErr result (λ wide. IsTooWide self.new.top self.new.costs self.new.rows.items (wide_at wide self.new.basis.items)) }
     {
-        let BlankRow {
-            form,
-            variables,
-            mut line,
-        } = row;
-        let filled = fill_line(
-            &mut line,
-            &form,
-            variables.as_slice(),
-            &self.costs,
-            self.lines.as_slice(),
-            self.top,
-        );
+        let BlankRow { form, mut line } = row;
+        let lines = self.lines.as_slice();
+        let filled = fill_line(&mut line, &form, &self.costs, lines, self.top);
         self.rows.push_reserved(form);
         self.lines.push_reserved(line);
         filled

@@ -1,18 +1,18 @@
 //! The choice of a pivot's column.
 ghost use Rattle.std.specs.Prelude.{◌≡◌, ◌≢◌, ℕ, suc, ◌+◌, ◌<◌, length, pos, ◌<ℤ◌, Some, IfErr, IfOk};
 ghost use Rattle.cost_base.specs.declared.StepName.TheVariants.{Div, Mul};
-ghost use Rattle.whole_numbers.specs.Fractions.{divided};
+ghost use Rattle.whole_numbers.specs.Fractions.{IsLowest, divided};
 ghost use Rattle.wide_fraction.specs.Widths.{IsWithin};
 ghost use Rattle.path_rows.specs.Basis.{entry};
 ghost use Rattle.path_rows.specs.Steps.{IsPivot, IsTooWide};
-ghost use Rattle.exact_simplex.specs.TableRows.{AreNumbers};
-ghost use Rattle.exact_simplex.specs.Entries.{IsPassing};
+ghost use Rattle.fraction_rows.specs.TableRows.{AreNumbers};
+ghost use Rattle.fraction_rows.specs.Entries.{IsPassing};
 ghost use Rattle.exact_simplex.specs.Pivots.{IsBestBelow, IsOrdered, entries_order, line_at};
 ghost use Rattle.exact_simplex.specs.Tableaus.{wide_at};
 ghost use Rattle.exact_simplex.specs.Wholes.{HasRoom, IsWholeTable};
 
-use crate::row::TableRow;
 use crate::table::Table;
+use fraction_rows::TableRow;
 use std::cmp::Ordering;
 use wide_fraction::{Frac, Top, Wide, cmp, div, mul};
 
@@ -30,7 +30,8 @@ fn entry_quotient(line: &TableRow, column: u32, other: u32, top: Top) -> Result<
     div(line.entry(other), line.entry(column), top)
 }
 
-/// How the entry in the other column stands to the one in the column, times the quotient.
+/// How the entry in the other column stands to the one in the column, times the quotient. No step is taken where both
+/// are 0.
 fn entry_order(
     line: &TableRow,
     column: u32,
@@ -42,12 +43,18 @@ fn entry_order(
     requires other { suc other < length line.now }
     requires numbers { AreNumbers top line.now }
     requires quotient { IsWithin top quotient }
+    requires lowest { IsLowest quotient }
     ensures order { IfOk result (λ found. found ≡ entries_order line.now column other quotient) }
     ensures named { IfErr result (λ wide. wide ≡ record { step = Mul; left = entry line.now (suc column); right = quotient }) }
     ensures passes { IfErr result (λ wide. IsPassing top wide) }
 {
-    let multiple = mul(line.entry(column), quotient, top)?;
-    Ok(cmp(line.entry(other), multiple))
+    let own = line.entry(column);
+    let others = line.entry(other);
+    if own.is_zero() && others.is_zero() {
+        return Ok(Ordering::Equal);
+    }
+    let multiple = mul(own, quotient, top)?;
+    Ok(cmp(others, multiple))
 }
 
 impl Table {

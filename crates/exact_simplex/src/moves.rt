@@ -1,21 +1,21 @@
 //! The move of a table to another box, bound by bound.
 ghost use Rattle.std.specs.Prelude.{◌≡◌, ℕ, suc, ◌^◌, ◌<◌, length, map, nat_abs, slice_set, IfErr, IfSome, OnErr, OnOk};
-ghost use Rattle.exact_simplex.specs.Moves.{HasShape, IsColumnOf, IsMoved, IsRaiseStep, IsShifted, IsShiftedWide, IsUnboxedTable, IsWideShift, KeepsRows, RaisesWide, ShiftsWide, high_shift_of, low_shift_of, put_at, raised_line, shifted_lines};
+ghost use Rattle.exact_simplex.specs.Moves.{HasShape, IsColumnOf, IsMoved, IsRaiseStep, IsShifted, IsShiftedWide, IsWideShift, KeepsRows, RaisesWide, ShiftsWide, high_shift_of, low_shift_of, put_at, raised_line, shifted_lines};
 ghost use Rattle.exact_simplex.specs.Pivots.{KeepsForms};
-ghost use Rattle.exact_simplex.specs.TableRows.{AreNumbers, IsNumber, IsWideStep};
-ghost use Rattle.exact_simplex.specs.Entries.{IsPassing};
+ghost use Rattle.fraction_rows.specs.TableRows.{AreNumbers, IsNumber, IsWideStep};
+ghost use Rattle.fraction_rows.specs.Entries.{IsPassing};
 ghost use Rattle.cost_base.specs.declared.StepName.TheVariants.{Sub};
 ghost use Rattle.whole_numbers.specs.Fractions.{minus};
-ghost use Rattle.exact_simplex.specs.Turns.{AreRows};
-ghost use Rattle.exact_simplex.specs.Wholes.{HasRoom, held_of};
+ghost use Rattle.fraction_rows.specs.Turns.{AreRows};
+ghost use Rattle.exact_simplex.specs.Wholes.{HasRoom, IsUnboxedTable, held_of};
 ghost use Rattle.exact_simplex.specs.Tableaus.{IsWideMove};
 ghost use Rattle.exact_simplex.specs.declared.stage.Stage.TheVariants.{Open};
 ghost use Rattle.path_rows.specs.Basis.{entry};
 ghost use Rattle.path_rows.specs.Boxes.{with_high, with_low};
 
-use crate::row::TableRow;
 use crate::start::range_of;
 use crate::table::Table;
+use fraction_rows::TableRow;
 use path_rows::{CostBox, Member};
 use wide_fraction::{Frac, Top, Wide, add, mul, sub};
 

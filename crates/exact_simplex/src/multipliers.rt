@@ -4,7 +4,7 @@ ghost use Rattle.whole_numbers.specs.Fractions.{sum_of};
 ghost use Rattle.wide_fraction.specs.Widths.{IsWithin};
 ghost use Rattle.path_rows.specs.Boxes.{Refutes};
 ghost use Rattle.path_rows.specs.Steps.{IsStuck, unless_zero};
-ghost use Rattle.exact_simplex.specs.Entries.{AllNumbers, IsPassing};
+ghost use Rattle.fraction_rows.specs.Entries.{AllNumbers, IsPassing};
 ghost use Rattle.exact_simplex.specs.Multipliers.{IsMultiplierStep, IsTallyStep, IsToldOf, IsWideMultiplier, common_of, fractions, fractions_of, numbered, whole_parts, wholes};
 ghost use Rattle.exact_simplex.specs.Pivots.{line_at, member_at};
 ghost use Rattle.exact_simplex.specs.Wholes.{HasRoom, IsWholeTable};

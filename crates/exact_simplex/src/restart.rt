@@ -1,46 +1,23 @@
 //! A table that is started anew, in the place that it has.
-ghost use Rattle.std.specs.Prelude.{◌≡◌, suc, ◌^◌, ◌<◌, ◌∷◌, length, map, nat_abs, slice_set, All};
+ghost use Rattle.std.specs.Prelude.{◌≡◌, suc, ◌^◌, ◌<◌, ◌∷◌, length, map, slice_set, All};
 ghost use Rattle.whole_numbers.specs.Fractions.{whole};
 ghost use Rattle.path_rows.specs.Basis.{IsFormOf, unit};
 ghost use Rattle.path_rows.specs.Boxes.{IsBox};
 ghost use Rattle.path_rows.specs.Forms.{value};
 ghost use Rattle.exact_simplex.specs.Moves.{HasShape, KeepsAllButLines, KeepsRows};
 ghost use Rattle.exact_simplex.specs.Pivots.{member_at};
-ghost use Rattle.exact_simplex.specs.TableRows.{AreNumbers};
+ghost use Rattle.fraction_rows.specs.TableRows.{AreNumbers};
 ghost use Rattle.exact_simplex.specs.declared.stage.Stage.TheVariants.{Open};
 ghost use Rattle.exact_simplex.specs.Tableaus.{FitsBox, IsRebased, starting};
 ghost use Rattle.exact_simplex.specs.Wholes.{HasRoom, IsWholeTable, held_of, members_of, starting_line};
 
 use crate::add_row::corner_value;
-use crate::row::TableRow;
-use crate::start::range_of;
+use crate::start::{put_unit_line, range_of};
 use crate::table::Table;
 use cost_base::Listed;
+use fraction_rows::TableRow;
 use path_rows::{CostBox, Form, Member};
 use wide_fraction::{Frac, Top};
-
-/// Makes the line the starting one of a form with one coefficient: its constant there, and the coefficient in its
-/// column.
-fn put_unit_line(
-    line: &mut TableRow,
-    width: u32,
-    var: u32,
-    constant: i64,
-    coefficient: i64,
-    top: Top,
-)
-    requires width { length line.old ≡ suc width }
-    requires var { var < width }
-    requires constant_small { nat_abs constant < 2 ^ 27 }
-    requires coefficient_small { nat_abs coefficient < 2 ^ 27 }
-    ensures line { line.new ≡ whole constant ∷ map whole (unit width var coefficient) }
-    ensures numbers { AreNumbers top line.new }
-{
-    let _ = top.value();
-    line.clear();
-    line.set_constant(Frac::whole(constant));
-    line.push(var, Frac::whole(coefficient));
-}
 
 /// Makes the line the starting one of a row's form: its value at the low corner, and its coefficients.
 fn put_form_line(line: &mut TableRow, form: &Form, costs: &CostBox, top: Top)
@@ -53,10 +30,9 @@ fn put_form_line(line: &mut TableRow, form: &Form, costs: &CostBox, top: Top)
     let _ = top.value();
     line.clear();
     line.set_constant(Frac::whole(corner_value(form, costs)));
-    let coefficients = form.coefficients.as_slice();
-    let width = coefficients.len() as u32;
-    for var in 0..width {
-        line.push(var, Frac::whole(coefficients[var as usize]));
+    let terms = form.terms();
+    for term in terms {
+        line.push(term.var, Frac::whole(term.coefficient));
     }
 }
 

@@ -5,15 +5,15 @@ ghost use Rattle.whole_numbers.specs.Fractions.{whole};
 ghost use Rattle.path_rows.specs.declared.tree.Member.TheVariants.{Low};
 ghost use Rattle.path_rows.specs.Basis.{unit};
 ghost use Rattle.path_rows.specs.Boxes.{IsBox};
-ghost use Rattle.exact_simplex.specs.TableRows.{AreNumbers};
-ghost use Rattle.exact_simplex.specs.Turns.{AreRows};
+ghost use Rattle.fraction_rows.specs.TableRows.{AreNumbers};
+ghost use Rattle.fraction_rows.specs.Turns.{AreRows};
 ghost use Rattle.exact_simplex.specs.declared.stage.Stage.TheVariants.{Open};
 ghost use Rattle.exact_simplex.specs.Tableaus.{starting};
 ghost use Rattle.exact_simplex.specs.Wholes.{IsSound, held_of, members_of, starting_line};
 
-use crate::row::TableRow;
 use crate::table::Table;
 use cost_base::{Listed, OutOfMemory};
+use fraction_rows::TableRow;
 use path_rows::{CostBox, Member};
 use std::alloc::Global;
 use wide_fraction::{Frac, Top};
@@ -52,6 +52,29 @@ pub fn starting_basis(alloc: Global, low: &[u16]) -> Result<Vec<Member>, OutOfMe
     Ok(basis)
 }
 
+/// Makes the line the starting one of a form with one coefficient: its constant there, and the coefficient in its
+/// column.
+pub fn put_unit_line(
+    line: &mut TableRow,
+    width: u32,
+    var: u32,
+    constant: i64,
+    coefficient: i64,
+    top: Top,
+)
+    requires width { length line.old ≡ suc width }
+    requires var { var < width }
+    requires constant_small { nat_abs constant < 2 ^ 27 }
+    requires coefficient_small { nat_abs coefficient < 2 ^ 27 }
+    ensures line { line.new ≡ whole constant ∷ map whole (unit width var coefficient) }
+    ensures numbers { AreNumbers top line.new }
+{
+    let _ = top.value();
+    line.clear();
+    line.set_constant(Frac::whole(constant));
+    line.push(var, Frac::whole(coefficient));
+}
+
 /// The starting line of a form with one coefficient: its constant there, and the coefficient in its column.
 fn bound_row(
     alloc: Global,
@@ -67,10 +90,8 @@ fn bound_row(
     ensures row { IfOk result (λ row. row ≡ whole constant ∷ map whole (unit width var coefficient)) }
     ensures numbers { IfOk result (λ row. AreNumbers top row) }
 {
-    let _ = top.value();
     let mut row = TableRow::zero(alloc, width)?;
-    row.set_constant(Frac::whole(constant));
-    row.push(var, Frac::whole(coefficient));
+    put_unit_line(&mut row, width, var, constant, coefficient, top);
     Ok(row)
 }
 

@@ -7,8 +7,7 @@ ghost use Rattle.exact_simplex.specs.Ranks.{rank};
 ghost use Rattle.exact_simplex.specs.Tableaus.{wide_at};
 ghost use Rattle.exact_simplex.specs.Wholes.{HasRoom, IsWholeTable, members_of};
 
-use crate::row::TableRow;
-use crate::turn::{take_quotients, turn_rows};
+use fraction_rows::{TableRow, take_quotients, turn_rows};
 use path_rows::{CostBox, Form, Member};
 use wide_fraction::{Top, Wide};
 

@@ -1,13 +1,14 @@
 //! The tableau: a table, and how far the work on it is.
-ghost use Rattle.std.specs.Prelude.{◌≡◌, ℕ, suc, ◌^◌, ◌<◌, ◌≤◌, ◌++◌, [], ◌∷◌, length, All, IfErr, IfOk, OnErr, OnOk};
+ghost use Rattle.std.specs.Prelude.{◌≡◌, ℕ, suc, ◌^◌, ◌<◌, ◌≤◌, ◌↔◌, ◌++◌, [], ◌∷◌, length, All, IfErr, IfOk, IsTrue, OnErr, OnOk};
 ghost use Rattle.path_rows.specs.Basis.{IsBasis};
 ghost use Rattle.path_rows.specs.Boxes.{IsBox, Refutes};
+ghost use Rattle.path_rows.specs.Earnest.{IsLeast};
 ghost use Rattle.path_rows.specs.Steps.{IsTooWide};
 ghost use Rattle.exact_simplex.specs.declared.stage.Solved.TheVariants.{Feasible, Refuted};
 ghost use Rattle.exact_simplex.specs.declared.stage.Stage.TheVariants.{Ended, Stopped};
-ghost use Rattle.exact_simplex.specs.Corners.{IsLeastPoint};
-ghost use Rattle.exact_simplex.specs.Tableaus.{FitsBox, IsGoing, IsRebased, IsRefused, IsSolved, IsStop, IsTold, starting, wide_at};
+ghost use Rattle.exact_simplex.specs.Tableaus.{FitsBox, IsAmongForms, IsGoing, IsRebased, IsRefused, IsSolved, IsStop, IsTold, MeetsRows, starting, wide_at};
 
+use crate::fit::{fit_box, fits_box, is_box};
 use crate::start::starting_table;
 use crate::table::Table;
 use crate::{SimplexStop, Solved, Stage};
@@ -86,6 +87,26 @@ impl Tableau {
         }
     }
 
+    /// Whether it takes the form of a row: one coefficient for each variable, each of size at most 2^26, and a value at
+    /// the low corner of size below 2^27.
+    pub fn takes(&self, form: &Form) -> bool
+        ensures { IsTrue result ↔ FitsBox self.now.costs form.now }
+    {
+        fits_box(&self.table.costs, form)
+    }
+
+    /// Whether it can move to another box: one of as many variables, none of whose ranges is empty, over which it would
+    /// take the form of each of its rows.
+    pub fn fits(&self, costs: &CostBox) -> bool
+        ensures { IsTrue result ↔ (IsBox (length self.now.costs.low) costs.now × All (FitsBox costs.now) self.now.rows) }
+    {
+        let width = self.table.costs.low.as_slice().len();
+        if costs.low.as_slice().len() != width || !is_box(costs) {
+            return false;
+        }
+        fit_box(costs, self.table.rows.as_slice())
+    }
+
     /// Adds the form of a row, with its line at the present basis: first the line's constant, and then its columns in
     /// order. A column's sum starts with 0, and that of the constant with the form's value at the low corner; the terms
     /// of the coefficients other than 0 are added in the order of the variables. All memory is taken before.
@@ -120,6 +141,7 @@ impl Tableau {
     pub fn solve(&mut self) -> Result<Solved, Wide>
         ensures going { OnOk result (IsGoing self.old.stage) }
         ensures solved { IfOk result (λ solved. IsSolved self.old.costs self.old.rows solved) }
+        ensures among { IfOk result (IsAmongForms self.old.costs self.old.rows) }
         ensures left { IfOk result (λ solved. self.new ≡ record { top = self.old.top; costs = self.old.costs; rows = self.old.rows; basis = self.new.basis; stage = Ended solved }) }
         ensures stop { IfErr result (λ wide. IsStop self.old self.old.rows self.new wide) }
     {
@@ -140,7 +162,7 @@ impl Tableau {
     pub fn point(&self, into: &mut Point) -> Result<(), Wide>
         requires solved { self.now.stage ≡ Ended Feasible }
         requires places { length into.old.values ≡ length self.now.costs.low }
-        ensures least { OnOk result (IsLeastPoint self.now.costs self.now.rows into.new) }
+        ensures least { OnOk result (IsLeast (MeetsRows self.now.rows) self.now.costs into.new) }
         ensures small { OnOk result (into.new.scale < 2 ^ 100) }
         ensures kept { OnErr result (into.new ≡ into.old) }
         ensures wide { IfErr result (λ wide. IsTooWide self.now.top self.now.costs self.now.rows (wide_at wide self.now.basis)) }

@@ -5,11 +5,11 @@ use Rattle.cost_base.specs.declared.StepName.TheVariants.{Add, Mul}
 use Rattle.whole_numbers.specs.Fractions.{Fraction, times}
 use Rattle.wide_fraction.specs.declared.steps.Wide.{Wide}
 use Rattle.path_rows.specs.Basis.{entry}
-use Rattle.exact_simplex.specs.TableRows.{IsNumber}
+use Rattle.fraction_rows.specs.TableRows.{IsNumber}
 use Rattle.exact_simplex.specs.Moves.{IsRaiseStep}
 use Rattle.exact_simplex.specs.Moves.IsRaiseStep.{product, sum}
-use Rattle.exact_simplex.proofs.RowLaws.{number_at}
-use Rattle.exact_simplex.proofs.Passing.{named_passes}
+use Rattle.fraction_rows.proofs.RowLaws.{number_at}
+use Rattle.fraction_rows.proofs.Passing.{named_passes}
 use Rattle.exact_simplex.proofs.MoveLines.{none_raised, raised_is, raised_numbers}
 use Rattle.exact_simplex.proofs.moves.raise_constant.Goals as goal
 

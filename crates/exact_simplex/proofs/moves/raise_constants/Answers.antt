@@ -5,9 +5,9 @@ use Rattle.std.proofs.lemmas.List.Edits.{map_over_more}
 use Rattle.std.proofs.lemmas.List.{get_or_default}
 use Rattle.std.proofs.lemmas.Result.{err_from_is_err_and}
 use Rattle.whole_numbers.specs.Fractions.{Fraction}
-use Rattle.exact_simplex.specs.TableRows.{IsWideStep}
+use Rattle.fraction_rows.specs.TableRows.{IsWideStep}
 use Rattle.exact_simplex.specs.Moves.{IsRaiseStep, raised_line}
-use Rattle.exact_simplex.proofs.RowLaws.{rows_at, rows_set, later_same}
+use Rattle.fraction_rows.proofs.RowLaws.{rows_at, rows_set, later_same}
 use Rattle.exact_simplex.proofs.moves.raise_constants.Goals as goal
 
 pub raise_constant-requires : goal.raise_constant-requires

@@ -1,6 +1,6 @@
 -- The lines before the index are raised, and the others are as before.
 use Rattle.std.proofs.Common.{◌≡◌, ℕ, ◌++◌, map, take, drop}
-use Rattle.exact_simplex.specs.Turns.{AreRows}
+use Rattle.fraction_rows.specs.Turns.{AreRows}
 use Rattle.exact_simplex.specs.Moves.{raised_line}
 use Rattle.exact_simplex.proofs.moves.raise_constants.Given as goal
 

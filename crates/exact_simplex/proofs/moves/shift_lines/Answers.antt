@@ -1,6 +1,6 @@
 -- The lines stay numbers of the table.
 use Rattle.std.proofs.Common.{◌∙◌, arith}
-use Rattle.exact_simplex.proofs.RowLaws.{rows_at, rows_set}
+use Rattle.fraction_rows.proofs.RowLaws.{rows_at, rows_set}
 use Rattle.exact_simplex.proofs.MoveLines.{zeroed}
 use Rattle.exact_simplex.proofs.moves.shift_lines.Goals as goal
 

@@ -6,7 +6,7 @@ use Rattle.cost_base.specs.declared.StepName.TheVariants.{Scale}
 use Rattle.whole_numbers.specs.Fractions.{Fraction, whole}
 use Rattle.wide_fraction.specs.declared.steps.Wide.{Wide}
 use Rattle.exact_simplex.proofs.MultiplierSteps.{natural_high, read_back, scale_wide, sum_small, sum_whole}
-use Rattle.exact_simplex.proofs.StartLines.{top_small}
+use Rattle.fraction_rows.proofs.Tops.{top_small}
 use Rattle.exact_simplex.proofs.multipliers.check_sum.Goals as goal
 
 pub scale-requires-clause-positive : goal.scale-requires-clause-positive

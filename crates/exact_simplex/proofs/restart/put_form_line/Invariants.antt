@@ -1,8 +1,7 @@
--- The columns before the counter are filled.
-use Rattle.std.proofs.Common.{◌≡◌}
+-- The terms before the counter are put.
 use Rattle.path_rows.specs.Forms.{value}
-use Rattle.exact_simplex.proofs.Restarts.{filled_line}
+use Rattle.exact_simplex.proofs.Restarts.{IsPutTo}
 use Rattle.exact_simplex.proofs.restart.put_form_line.Given as goal
 
-abbrev pub invariant-loop-var : goal.invariant-loop-var
-invariant-loop-var l = l.line ≡ filled_line (value l.form l.costs.low) l.form.coefficients l.var
+abbrev pub invariant-loop-term : goal.invariant-loop-term
+invariant-loop-term l = IsPutTo (value l.form l.costs.low) l.form.coefficients l.terms l.term-index l.line

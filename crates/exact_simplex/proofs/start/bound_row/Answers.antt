@@ -1,36 +1,8 @@
--- The row of zeros gets its constant and its entry.
-use Rattle.std.proofs.Common.{◌≡◌, suc, ◌∙◌, ap, ◌∷◌, length, map, arith, w64}
-use Rattle.std.proofs.lemmas.Int.{to_z-of_z}
-use Rattle.cost_base.specs.Lists.{numbers_from}
-use Rattle.whole_numbers.specs.Fractions.{whole}
-use Rattle.path_rows.specs.Basis.{entry}
-use Rattle.exact_simplex.specs.TableRows.{nothing}
-use Rattle.exact_simplex.proofs.Filled.{length-mapped}
-use Rattle.exact_simplex.proofs.StartLines.{blank_at, constant_set, entry_set, unit_line_numbers}
+-- The row of zeros is as long as its columns and its constant.
+use Rattle.std.proofs.Common.{◌∙◌, ap, suc, length}
+use Rattle.fraction_rows.specs.TableRows.{nothing}
+use Rattle.fraction_rows.proofs.Filled.{length-mapped}
 use Rattle.exact_simplex.proofs.start.bound_row.Goals as goal
 
-pub push-requires-clause-within : goal.push-requires-clause-within
-push-requires-clause-within c =
-    let row_is = constant_set c.in_ok-row.row c.set_constant.new.self c.args.width c.whole.result c.in_ok-row.ensures c.set_constant.ensures in
-    let counted : length c.set_constant.new.self ≡ suc c.args.width = ap length row_is ∙ ap suc (length-mapped (λ column. nothing) 0 c.args.width) in
-    omega (arith, counted, c.requires.var)
-
-pub push-requires-clause-last : goal.push-requires-clause-last
-push-requires-clause-last c later after later_in =
-    ap (λ row. entry row (suc later)) (constant_set c.in_ok-row.row c.set_constant.new.self c.args.width c.whole.result c.in_ok-row.ensures c.set_constant.ensures)
-    ∙ blank_at 0 c.args.width later
-
-pub returns-clause-row : goal.returns-clause-row
-returns-clause-row c =
-    let row_is = constant_set c.in_ok-row.row c.set_constant.new.self c.args.width c.whole.result c.in_ok-row.ensures c.set_constant.ensures in
-    entry_set c.set_constant.new.self c.push.new.self c.args.width c.args.var c.args.constant c.args.coefficient c.whole-2.result c.requires.var
-    (row_is ∙ ap (λ q. q ∷ map (λ column. nothing) (numbers_from 0 c.args.width)) (c.whole.ensures ∙ ap whole (to_z-of_z w64 c.args.constant c.ranges.constant)))
-    (c.whole-2.ensures ∙ ap whole (to_z-of_z w64 c.args.coefficient c.ranges.coefficient)) c.push.ensures
-
-pub returns-clause-numbers : goal.returns-clause-numbers
-returns-clause-numbers c =
-    let row_is = constant_set c.in_ok-row.row c.set_constant.new.self c.args.width c.whole.result c.in_ok-row.ensures c.set_constant.ensures in
-    unit_line_numbers c.args.top c.push.new.self c.args.width c.args.var c.args.constant c.args.coefficient c.value.ensures.width c.requires.constant_small c.requires.coefficient_small
-    (entry_set c.set_constant.new.self c.push.new.self c.args.width c.args.var c.args.constant c.args.coefficient c.whole-2.result c.requires.var
-    (row_is ∙ ap (λ q. q ∷ map (λ column. nothing) (numbers_from 0 c.args.width)) (c.whole.ensures ∙ ap whole (to_z-of_z w64 c.args.constant c.ranges.constant)))
-    (c.whole-2.ensures ∙ ap whole (to_z-of_z w64 c.args.coefficient c.ranges.coefficient)) c.push.ensures)
+pub put_unit_line-requires-clause-width : goal.put_unit_line-requires-clause-width
+put_unit_line-requires-clause-width c = ap length c.in_ok-row.ensures ∙ ap suc (length-mapped (λ column. nothing) 0 c.args.width)

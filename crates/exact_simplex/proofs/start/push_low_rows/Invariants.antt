@@ -4,7 +4,7 @@ use Rattle.std.specs.Prelude.{pos}
 use Rattle.cost_base.specs.Lists.{numbers_from}
 use Rattle.whole_numbers.specs.Fractions.{whole}
 use Rattle.path_rows.specs.Basis.{unit}
-use Rattle.exact_simplex.specs.Turns.{AreRows}
+use Rattle.fraction_rows.specs.Turns.{AreRows}
 use Rattle.exact_simplex.proofs.start.push_low_rows.Given as goal
 
 abbrev pub invariant-loop-var : goal.invariant-loop-var

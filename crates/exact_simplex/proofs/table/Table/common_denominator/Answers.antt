@@ -8,7 +8,7 @@ use Rattle.std.proofs.lemmas.Result.{err_from_is_err_and}
 use Rattle.whole_numbers.specs.Fractions.{Fraction}
 use Rattle.path_rows.specs.Steps.{lcm_of}
 use Rattle.exact_simplex.specs.Corners.{denominators_of}
-use Rattle.exact_simplex.specs.Entries.{IsPassing}
+use Rattle.fraction_rows.specs.Entries.{IsPassing}
 use Rattle.exact_simplex.proofs.Pivots.{lines_long}
 use Rattle.exact_simplex.proofs.CornerScales.{constant_read, denominator_within, denominators_long, multiple_more, multiple_wide, taken_positive, top_bounds}
 use Rattle.exact_simplex.proofs.table.Table.common_denominator.Goals as goal

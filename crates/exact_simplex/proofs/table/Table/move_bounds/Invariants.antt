@@ -1,7 +1,7 @@
 -- The bounds of the variables before the index have moved.
 use Rattle.exact_simplex.specs.Tableaus.{between}
-use Rattle.exact_simplex.specs.Wholes.{HasRoom}
-use Rattle.exact_simplex.specs.Moves.{IsMoved, IsUnboxedTable, KeepsRows}
+use Rattle.exact_simplex.specs.Wholes.{HasRoom, IsUnboxedTable}
+use Rattle.exact_simplex.specs.Moves.{IsMoved, KeepsRows}
 use Rattle.exact_simplex.proofs.table.Table.move_bounds.Given as goal
 
 abbrev pub invariant-loop-var : goal.invariant-loop-var

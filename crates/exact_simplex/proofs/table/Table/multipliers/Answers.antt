@@ -6,7 +6,7 @@ use Rattle.std.proofs.lemmas.List.Sorted.{IsNonDecreasingBy-from_sort_by_key}
 use Rattle.std.proofs.lemmas.Result.{err_from_is_err_and}
 use Rattle.whole_numbers.specs.Fractions.{Fraction}
 use Rattle.path_rows.specs.Boxes.{Refutes}
-use Rattle.exact_simplex.specs.Entries.{AllNumbers}
+use Rattle.fraction_rows.specs.Entries.{AllNumbers}
 use Rattle.exact_simplex.specs.Multipliers.{IsMultiplierStep, IsTallyStep, IsWideMultiplier, fractions, whole_parts, wholes}
 use Rattle.exact_simplex.proofs.Refuting.{IsStuckLine, multipliers_told, multipliers_wide, parts_few, parts_numbers, parts_positive, parts_refute, parts_rise, sum_positive, tally_told}
 use Rattle.exact_simplex.proofs.table.Table.multipliers.Goals as goal

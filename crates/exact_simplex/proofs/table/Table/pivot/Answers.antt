@@ -7,14 +7,14 @@ use Rattle.std.proofs.lemmas.Result.{err_from_is_err_and}
 use Rattle.whole_numbers.specs.Fractions.{Fraction, divided, whole}
 use Rattle.path_rows.specs.declared.tree.Member.{Member}
 use Rattle.path_rows.specs.Basis.{entry}
-use Rattle.exact_simplex.specs.TableRows.{AreNumbers, IsWideStep, divided_without}
-use Rattle.exact_simplex.specs.Turns.{AreRows, IsQuotientStepOf, TurnsWide}
+use Rattle.fraction_rows.specs.TableRows.{AreNumbers, IsWideStep, divided_without}
+use Rattle.fraction_rows.specs.Turns.{AreRows, IsQuotientStepOf, TurnsWide}
 use Rattle.exact_simplex.specs.Wholes.{IsWhole}
 use Rattle.exact_simplex.specs.Pivots.{line_at, member_at}
 use Rattle.exact_simplex.specs.Ranks.{digits_number, heights, past_heights, rank}
-use Rattle.exact_simplex.proofs.RowLaws.{number_at as number_there}
+use Rattle.fraction_rows.proofs.RowLaws.{number_at as number_there}
 use Rattle.exact_simplex.proofs.WholeTurns.{turned_line}
-use Rattle.exact_simplex.proofs.PivotSteps.{quotient_own}
+use Rattle.fraction_rows.proofs.PivotSteps.{quotient_own}
 use Rattle.exact_simplex.proofs.Pivots.{inverse_not_zero, line_long, line_read, member_in, news_turned, pivot_whole, quotients_wide, turning_wide, whole_line, whole_rows}
 use Rattle.exact_simplex.proofs.Ranks.{rank_rises}
 use Rattle.exact_simplex.proofs.table.Table.pivot.Goals as goal
@@ -57,13 +57,13 @@ turn_rows-requires-clause-none_there c =
     let row = c.index.result.now in
     let row_is = line_read t c.args.line row c.index.ensures c.requires.line in
     ap (λ (qs : List Fraction). entry qs (suc c.args.column)) c.in_ok-inverse.ensures.quotients
-    ∙ quotient_own (suc c.args.column) (entry row (suc c.args.column)) row (omega (arith, ap length row_is, line_long t c.requires.whole c.args.line c.requires.line, c.requires.pivot.column, c.requires.whole.count))
+    ∙ quotient_own (suc c.args.column) (entry row (suc c.args.column)) row (omega (arith, ap length row_is, line_long t c.requires.whole c.args.line c.requires.line, c.requires.pivot.column, c.requires.whole.unboxed.count))
 
 pub turn_rows-requires-clause-not_zero : goal.turn_rows-requires-clause-not_zero
 turn_rows-requires-clause-not_zero c none =
     let t = c.args.self.now in
     let row_is = line_read t c.args.line c.index.result.now c.index.ensures c.requires.line in
-    let here = number_there t.top (line_at t c.args.line) (suc c.args.column) (whole_line t c.requires.whole c.args.line c.requires.line).numbers (omega (arith, line_long t c.requires.whole c.args.line c.requires.line, c.requires.pivot.column, c.requires.whole.count)) in
+    let here = number_there t.top (line_at t c.args.line) (suc c.args.column) (whole_line t c.requires.whole c.args.line c.requires.line).numbers (omega (arith, line_long t c.requires.whole c.args.line c.requires.line, c.requires.pivot.column, c.requires.whole.unboxed.count)) in
     inverse_not_zero (entry (line_at t c.args.line) (suc c.args.column)) here.lowest.positive c.requires.pivot.above
     (ap (λ (row : List Fraction). (divided (whole (pos 1)) (entry row (suc c.args.column))).numerator) (sym row_is)
     ∙ ap (λ (q : Fraction). q.numerator) (sym c.in_ok-inverse.ensures.inverse) ∙ none)

@@ -5,7 +5,7 @@ use Rattle.cost_base.specs.declared.StepName.TheVariants.{Div, Mul}
 use Rattle.whole_numbers.specs.Fractions.{Fraction, divided}
 use Rattle.wide_fraction.specs.declared.steps.Wide.{Wide}
 use Rattle.path_rows.specs.Basis.{entry}
-use Rattle.exact_simplex.specs.TableRows.{AreNumbers}
+use Rattle.fraction_rows.specs.TableRows.{AreNumbers}
 use Rattle.exact_simplex.proofs.Pivots.{line_long, line_read, lines_long, whole_line}
 use Rattle.exact_simplex.proofs.Choices.{found_order, greater_ordered, less_ordered, level_more, level_ordered, multiple_wide, ratio_wide}
 use Rattle.exact_simplex.proofs.table.Table.precedes.Goals as goal
@@ -35,14 +35,14 @@ entry_order-requires-clause-column c =
     let t = c.args.self.now in
     let place_in : c.loop-place.place < length t.lines.items = omega (arith, c.loop-place-test.true, ap length c.as_slice-place-end.ensures, lines_long t c.requires.whole) in
     let fs_are = line_read t c.loop-place.place c.index-in-loop-place.result.now c.index-in-loop-place.ensures place_in in
-    omega (arith, ap length fs_are, line_long t c.requires.whole c.loop-place.place place_in, c.requires.column.column, c.requires.whole.count)
+    omega (arith, ap length fs_are, line_long t c.requires.whole c.loop-place.place place_in, c.requires.column.column, c.requires.whole.unboxed.count)
 
 pub entry_order-requires-clause-other : goal.entry_order-requires-clause-other
 entry_order-requires-clause-other c =
     let t = c.args.self.now in
     let place_in : c.loop-place.place < length t.lines.items = omega (arith, c.loop-place-test.true, ap length c.as_slice-place-end.ensures, lines_long t c.requires.whole) in
     let fs_are = line_read t c.loop-place.place c.index-in-loop-place.result.now c.index-in-loop-place.ensures place_in in
-    omega (arith, ap length fs_are, line_long t c.requires.whole c.loop-place.place place_in, c.requires.other.column, c.requires.whole.count)
+    omega (arith, ap length fs_are, line_long t c.requires.whole c.loop-place.place place_in, c.requires.other.column, c.requires.whole.unboxed.count)
 
 pub entry_order-requires-clause-numbers : goal.entry_order-requires-clause-numbers
 entry_order-requires-clause-numbers c =

@@ -5,14 +5,14 @@ use Rattle.path_rows.specs.declared.form.Form.{Form}
 use Rattle.path_rows.specs.declared.form.CostBox.{CostBox}
 use Rattle.path_rows.specs.Boxes.{IsBox}
 use Rattle.exact_simplex.specs.Tableaus.{FitsBox, starting}
-use Rattle.exact_simplex.proofs.Restarts.{held_is, moved_rebased, moved_whole, whole_unboxed}
+use Rattle.exact_simplex.proofs.Restarts.{held_is, moved_rebased}
 use Rattle.exact_simplex.proofs.Between.{keeps_both}
 use Rattle.exact_simplex.proofs.table.Table.rebase.Goals as goal
 
 pub move_bounds-requires : goal.move_bounds-requires
 move_bounds-requires c =
     record {
-      unboxed = whole_unboxed c.args.self.now c.requires.whole;
+      unboxed = c.requires.whole.unboxed;
       room = c.requires.room;
       low = c.requires.ranges.low_count;
       high = c.requires.ranges.high_count;
@@ -32,9 +32,11 @@ returns-in-Ok-clause-whole c =
     let keeps = c.move_bounds.ensures.keeps in
     let costs = c.args.costs.now in
     let same = c.in-Ok.ensures.moved.costs_are in
-    moved_whole c.move_bounds.new.self c.in-Ok.ensures.unboxed
-    (subst (λ (box : CostBox). IsBox (length box.low) box) (sym same) (subst (λ (n : ℕ). IsBox n costs) (sym c.requires.ranges.low_count) c.requires.ranges))
-    (subst (λ (box : CostBox). All (FitsBox box) c.move_bounds.new.self.rows.items) (sym same) (subst (λ (rows : List Form). All (FitsBox costs) rows) (sym keeps.rows) c.requires.fits))
+    record {
+      box = subst (λ (box : CostBox). IsBox (length box.low) box) (sym same) (subst (λ (n : ℕ). IsBox n costs) (sym c.requires.ranges.low_count) c.requires.ranges);
+      fit = subst (λ (box : CostBox). All (FitsBox box) c.move_bounds.new.self.rows.items) (sym same) (subst (λ (rows : List Form). All (FitsBox costs) rows) (sym keeps.rows) c.requires.fits);
+      unboxed = c.in-Ok.ensures.unboxed;
+    }
 
 pub returns-in-Ok-clause-rebased : goal.returns-in-Ok-clause-rebased
 returns-in-Ok-clause-rebased c =

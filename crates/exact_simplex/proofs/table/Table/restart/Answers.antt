@@ -3,7 +3,7 @@ use Rattle.std.proofs.Common.{◌≡◌, ℕ, suc, ◌∙◌, ap, sym, subst, le
 use Rattle.std.proofs.lemmas.List.{with_items_is}
 use Rattle.path_rows.specs.declared.form.CostBox.{CostBox}
 use Rattle.path_rows.specs.Boxes.{IsBox}
-use Rattle.exact_simplex.specs.Turns.{AreRows}
+use Rattle.fraction_rows.specs.Turns.{AreRows}
 use Rattle.exact_simplex.proofs.Restarts.{bounds_are, members_same, restarted, starting_many}
 use Rattle.exact_simplex.proofs.table.Table.restart.Goals as goal
 

@@ -5,10 +5,10 @@ use Rattle.std.proofs.lemmas.List.{with_items_is}
 use Rattle.std.proofs.lemmas.Result.{err_from_is_err_and}
 use Rattle.whole_numbers.specs.Fractions.{Fraction, whole}
 use Rattle.path_rows.specs.declared.tree.Member.{Member}
-use Rattle.exact_simplex.specs.TableRows.{IsNumber}
-use Rattle.exact_simplex.specs.Turns.{AreRows}
+use Rattle.fraction_rows.specs.TableRows.{IsNumber}
+use Rattle.fraction_rows.specs.Turns.{AreRows}
 use Rattle.exact_simplex.specs.Moves.{IsColumnOf, ShiftsWide, shifted_lines}
-use Rattle.exact_simplex.proofs.StartLines.{whole_number}
+use Rattle.fraction_rows.proofs.Tops.{whole_number}
 use Rattle.exact_simplex.proofs.MoveLines.{column_in, column_there, length-put}
 use Rattle.exact_simplex.proofs.table.Table.shift.Goals as goal
 

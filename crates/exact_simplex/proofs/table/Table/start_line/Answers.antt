@@ -12,7 +12,7 @@ use Rattle.path_rows.specs.Boxes.{IsBox}
 use Rattle.exact_simplex.specs.Wholes.{members_of, starting_line}
 use Rattle.exact_simplex.specs.Tableaus.{FitsBox}
 use Rattle.exact_simplex.specs.Pivots.{member_at}
-use Rattle.exact_simplex.proofs.RowLaws.{rows_at, rows_set}
+use Rattle.fraction_rows.proofs.RowLaws.{rows_at, rows_set}
 use Rattle.exact_simplex.proofs.Starts.{members_are}
 use Rattle.exact_simplex.proofs.Restarts.{line_long}
 use Rattle.exact_simplex.proofs.table.Table.start_line.Goals as goal

@@ -5,9 +5,9 @@ use Rattle.wide_fraction.specs.declared.steps.Wide.{Wide}
 use Rattle.path_rows.specs.Steps.{IsTooWide}
 use Rattle.exact_simplex.specs.declared.stage.Solved.{Solved}
 use Rattle.exact_simplex.specs.declared.stage.Stage.TheVariants.{Ended}
-use Rattle.exact_simplex.specs.Tableaus.{Held, IsSolved, wide_at}
+use Rattle.exact_simplex.specs.Tableaus.{Held, IsAmongForms, IsSolved, wide_at}
 use Rattle.exact_simplex.specs.Wholes.{IsShown, IsSound, IsWholeTable}
-use Rattle.exact_simplex.proofs.Solutions.{settled_solves}
+use Rattle.exact_simplex.proofs.Solutions.{settled_among, settled_solves}
 use Rattle.exact_simplex.proofs.Sounds.{ended, stopped}
 use Rattle.exact_simplex.proofs.tableau.Tableau.solve.Goals.{in-Ok, in-Err}
 use Rattle.exact_simplex.proofs.tableau.Tableau.solve.Goals as goal
@@ -30,3 +30,8 @@ pub returns-clause-solved : goal.returns-clause-solved
 returns-clause-solved c =
     subst (λ (h : Held). IfOk c.settle-settled.result (λ solved. IsSolved h.costs h.rows solved)) c.self.view_is
     (settled_solves c.self.inside.table c.settle-settled.new.self c.settle-settled.result c.settle-settled.ensures.keeps c.settle-settled.ensures.whole c.settle-settled.ensures.shown)
+
+pub returns-clause-among : goal.returns-clause-among
+returns-clause-among c =
+    subst (λ (h : Held). IfOk c.settle-settled.result (IsAmongForms h.costs h.rows)) c.self.view_is
+    (settled_among c.self.inside.table c.settle-settled.new.self c.settle-settled.result c.settle-settled.ensures.keeps c.settle-settled.ensures.whole c.settle-settled.ensures.shown)

@@ -1,0 +1,10 @@
+pub mod Numbers
+pub mod Columns
+pub mod Crossings
+pub mod Passing
+pub mod Filled
+pub mod NoStep
+pub mod Tops
+pub mod RowLaws
+pub mod PivotSteps
+pub mod Sums

@@ -1,0 +1,85 @@
+-- The row is divided by its entry, and the inverse is 1 over it.
+use Rattle.std.proofs.Common.{◌≡◌, ◌<◌, ℕ, Ok, Err, suc, ◌∙◌, ap, sym, subst, List, arith}
+use Rattle.std.specs.Prelude.{pos, Result, IfErr, IfOk, OnErr}
+use Rattle.std.proofs.lemmas.Result.{err_from_is_err_and}
+use Rattle.cost_base.specs.declared.StepName.TheVariants.{Div}
+use Rattle.whole_numbers.specs.Fractions.{Fraction, divided, whole}
+use Rattle.wide_fraction.specs.declared.steps.Wide.{Wide}
+use Rattle.wide_fraction.specs.Widths.{IsWithin, Passes}
+use Rattle.path_rows.specs.Basis.{entry}
+use Rattle.fraction_rows.specs.TableRows.{AreNumbers, IsDivideStep, IsNumber, IsWideStep, divided_without}
+use Rattle.fraction_rows.specs.Turns.{IsQuotientStepOf}
+use Rattle.fraction_rows.specs.Turns.IsQuotientStepOf.{dividing, inverting}
+use Rattle.fraction_rows.proofs.Filled.{always_ok}
+use Rattle.fraction_rows.proofs.Numbers.{divided_number}
+use Rattle.fraction_rows.proofs.Passing.{named_passes}
+use Rattle.fraction_rows.proofs.RowLaws.{number_at, one_within}
+use Rattle.fraction_rows.proofs.turn.take_quotients.Goals as goal
+
+pub divide-requires-clause-divisor : goal.divide-requires-clause-divisor
+divide-requires-clause-divisor c =
+    subst (IsNumber c.args.top) (sym c.entry-divisor.ensures) (number_at c.args.top c.args.row.now (suc c.args.column) c.requires.numbers c.requires.column)
+
+pub divide-requires-clause-not_zero : goal.divide-requires-clause-not_zero
+divide-requires-clause-not_zero c zero_is = c.requires.not_zero (ap (λ (q : Fraction). q.numerator) (sym c.entry-divisor.ensures) ∙ zero_is)
+
+pub returns-in_err-divide-clause-wide : goal.returns-in_err-divide-clause-wide
+returns-in_err-divide-clause-wide c =
+    let p = err_from_is_err_and c.from_residual.result c.from_residual.ensures.1 in
+    let wide = c.in_err-divide.field-0.0 in
+    let told = c.in_err-divide.ensures.wide in
+    rw (p.1, p.2) (
+      dividing wide.step wide.left wide.right (subst (λ (q : Fraction). IsDivideStep q c.args.row.now wide.step wide.left wide.right) c.entry-divisor.ensures told.0),
+      told.1,
+    )
+
+pub div-requires-clause-left_within : goal.div-requires-clause-left_within
+div-requires-clause-left_within c =
+    subst (IsWithin c.args.top) (sym c.whole.ensures) (one_within c.args.top (entry c.args.row.now (suc c.args.column)) (number_at c.args.top c.args.row.now (suc c.args.column) c.requires.numbers c.requires.column))
+
+pub div-requires-clause-right_within : goal.div-requires-clause-right_within
+div-requires-clause-right_within c =
+    let own_is = subst (IsNumber c.args.top) (sym c.entry-divisor.ensures) (number_at c.args.top c.args.row.now (suc c.args.column) c.requires.numbers c.requires.column) in
+    own_is.within
+
+pub div-requires-clause-not_zero : goal.div-requires-clause-not_zero
+div-requires-clause-not_zero c zero_is = c.requires.not_zero (ap (λ (q : Fraction). q.numerator) (sym c.entry-divisor.ensures) ∙ zero_is)
+
+pub returns-clause-quotients : goal.returns-clause-quotients
+returns-clause-quotients c =
+    always_ok c.div.result (c.divide.new.into ≡ divided_without (suc c.args.column) (entry c.args.row.now (suc c.args.column)) c.args.row.now 0)
+    (c.in_ok-divide.ensures.divided ∙ ap (λ (q : Fraction). divided_without (suc c.args.column) q c.args.row.now 0) c.entry-divisor.ensures)
+
+pub returns-clause-quotient_numbers : goal.returns-clause-quotient_numbers
+returns-clause-quotient_numbers c =
+    always_ok c.div.result (AreNumbers c.args.top c.divide.new.into) c.in_ok-divide.ensures.numbers
+
+seen_quotient : (r : Result Fraction Wide) (p q first second : Fraction) → p ≡ first → q ≡ second → IfOk r (λ x. x ≡ divided p q) → IfOk r (λ x. x ≡ divided first second)
+seen_quotient (Ok x) p q first second p_is q_is exact = exact ∙ ap (λ (f : Fraction). divided f q) p_is ∙ ap (λ (f : Fraction). divided first f) q_is
+seen_quotient (Err wide) p q first second p_is q_is exact = tt
+
+pub returns-clause-inverse : goal.returns-clause-inverse
+returns-clause-inverse c =
+    seen_quotient c.div.result c.whole.result c.entry-divisor.result (whole (pos 1)) (entry c.args.row.now (suc c.args.column)) c.whole.ensures c.entry-divisor.ensures c.div.ensures.exact
+
+quotient_number : (r : Result Fraction Wide) (top : ℕ) (p q : Fraction) → 0 < p.denominator → IfOk r (λ x. x ≡ divided p q) → IfOk r (λ x. IsWithin top x) → IfOk r (λ x. IsNumber top x)
+quotient_number (Ok x) top p q positive exact within = divided_number top p q x positive exact within
+quotient_number (Err wide) top p q positive exact within = tt
+
+pub returns-clause-number : goal.returns-clause-number
+returns-clause-number c =
+    let exact = seen_quotient c.div.result c.whole.result c.entry-divisor.result (whole (pos 1)) (entry c.args.row.now (suc c.args.column)) c.whole.ensures c.entry-divisor.ensures c.div.ensures.exact in
+    quotient_number c.div.result c.args.top (whole (pos 1)) (entry c.args.row.now (suc c.args.column)) (omega arith) exact c.div.ensures.within
+
+inverse_wide : (r : Result Fraction Wide) (top : ℕ) (fs : List Fraction) (place : ℕ) (p d : Fraction) → p ≡ whole (pos 1) → d ≡ entry fs place → IfErr r (λ wide. wide ≡ record { step = Div; left = p; right = d }) → OnErr r (Passes top Div p d) → IfErr r (λ wide. IsWideStep top (IsQuotientStepOf fs place) wide.step wide.left wide.right)
+inverse_wide (Ok x) top fs place p d p_is d_is named passes = tt
+inverse_wide (Err wide) top fs place p d p_is d_is named passes = (
+  subst (λ (w : Wide). IsQuotientStepOf fs place w.step w.left w.right) (sym named)
+      (subst (λ (q : Fraction). IsQuotientStepOf fs place Div p q) (sym d_is)
+      (subst (λ (q : Fraction). IsQuotientStepOf fs place Div q (entry fs place)) (sym p_is) inverting)),
+  named_passes {X = Fraction} (Err wide) top Div p d named passes,
+)
+
+pub returns-clause-wide : goal.returns-clause-wide
+returns-clause-wide c =
+    inverse_wide c.div.result c.args.top c.args.row.now (suc c.args.column) c.whole.result c.entry-divisor.result c.whole.ensures c.entry-divisor.ensures c.div.ensures.named c.div.ensures.passes

@@ -1,0 +1,65 @@
+-- Words on lists of columns that the work on a row goes along.
+use Rattle.std.specs.Prelude.{◌≡◌, ◌≢◌, ◌⊎◌, ℕ, ◌==◌, ◌<◌, List, [], ◌∷◌, ◌++◌, pos, if◌then◌else◌, Any}
+use Rattle.cost_base.specs.declared.StepName.TheVariants.{Sub, Mul, Div}
+use Rattle.whole_numbers.specs.Fractions.{Fraction, minus, times, divided, listed}
+use Rattle.wide_fraction.specs.declared.steps.Wide.{Wide}
+use Rattle.fraction_rows.specs.TableRows.{IsNumber, Rises, fraction_at, nothing}
+
+-- the list with the fraction put at its end, unless that is 0
+abbrev pub IsPut : List (ℕ × Fraction) → ℕ → Fraction → List (ℕ × Fraction) → Type 0
+IsPut old column value new =
+    ((value.numerator ≡ pos 0) × (new ≡ old)) ⊎ ((value.numerator ≢ pos 0) × (new ≡ old ++ (column, value) ∷ []))
+
+-- the first column, or `past` where there is none
+abbrev pub head_column : List (ℕ × Fraction) → ℕ → ℕ
+head_column [] past = past
+head_column (e ∷ es) past = e.0
+
+-- the first fraction, where it is that of the column
+abbrev pub head_fraction : List (ℕ × Fraction) → ℕ → Fraction
+head_fraction [] column = nothing
+head_fraction (e ∷ es) column = if e.0 == column then e.1 else nothing
+
+-- the list without that one
+abbrev pub after_column : List (ℕ × Fraction) → ℕ → List (ℕ × Fraction)
+after_column [] column = []
+after_column (e ∷ es) column = if e.0 == column then es else e ∷ es
+
+-- a step that makes the one fraction less the factor times the other
+abbrev pub IsTermStep : Fraction → Fraction → Fraction → Wide → Type 0
+IsTermStep old factor quotient wide =
+    (wide ≡ record { step = Mul; left = factor; right = quotient }) ⊎ (wide ≡ record { step = Sub; left = old; right = times factor quotient })
+
+-- the step that makes a fraction over the divisor
+abbrev pub IsQuotientStep : Fraction → Fraction → Wide → Type 0
+IsQuotientStep value divisor wide = wide ≡ record { step = Div; left = value; right = divisor }
+
+-- each fraction is a number of the table
+abbrev pub AllNumbers : ℕ → List (ℕ × Fraction) → Type 0
+AllNumbers top [] = Unit {0}
+AllNumbers top (e ∷ es) = IsNumber top e.1 × AllNumbers top es
+
+-- the new list has at each column what the target makes of the fractions that the two have there
+abbrev pub IsMade : ℕ → (ℕ → Fraction → Fraction → Fraction) → List (ℕ × Fraction) → List (ℕ × Fraction) → List (ℕ × Fraction) → Type 0
+IsMade width target first second new =
+    (column : ℕ) → column < width → fraction_at new column ≡ target column (fraction_at first column) (fraction_at second column)
+
+-- the one fraction less the factor times the other
+abbrev pub crossed_at : Fraction → ℕ → Fraction → Fraction → Fraction
+crossed_at factor column old quotient = minus old (times factor quotient)
+
+-- the fraction over the divisor, and 0 at the column that is left out
+abbrev pub divided_at : ℕ → Fraction → ℕ → Fraction → Fraction → Fraction
+divided_at left_out divisor column value other = if column == left_out then nothing else divided value divisor
+
+-- the step makes a whole number that passes the top
+abbrev pub IsPassing : ℕ → Wide → Type 0
+IsPassing top wide = Any (λ n. top < n) (listed wide.step wide.left wide.right)
+
+-- the columns rise, and none is 0
+abbrev pub AreRising : List (ℕ × Fraction) → Type 0
+AreRising es = (high : ℕ) × Rises 0 high es
+
+-- the pair with another fraction, where it is that of the column
+abbrev pub replaced : ℕ → Fraction → (ℕ × Fraction) → ℕ × Fraction
+replaced column value e = if e.0 == column then (e.0, value) else e

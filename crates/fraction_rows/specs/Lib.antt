@@ -1,0 +1,4 @@
+pub mod TableRows
+pub mod Entries
+pub mod Turns
+pub mod Sums

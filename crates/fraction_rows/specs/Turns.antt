@@ -1,0 +1,39 @@
+-- How a pivot turns one row of the table.
+use Rattle.std.specs.Prelude.{◌≡◌, ℕ, zero, suc, ◌<◌, List, [], ◌∷◌, ℤ, pos, negsuc, length, slice_index_or, slice_set}
+use Rattle.cost_base.specs.declared.StepName.{StepName}
+use Rattle.cost_base.specs.declared.StepName.TheVariants.{Div, Mul}
+use Rattle.whole_numbers.specs.Fractions.{Fraction, times, whole}
+use Rattle.path_rows.specs.Basis.{entry}
+use Rattle.fraction_rows.specs.TableRows.{AreNumbers, IsCrossStep, IsDivideStep, IsWideStep, crossed_by}
+
+abbrev pub unless_none : ℤ → List Fraction → List Fraction → List Fraction
+unless_none (pos zero) kept turned = kept
+unless_none (pos (suc n)) kept turned = turned
+unless_none (negsuc n) kept turned = turned
+
+-- The row after the pivot at the place, by the quotients of the pivot's row and the inverse of its entry there. A row
+-- with 0 there stays as it is.
+abbrev pub turned_by : List Fraction → List Fraction → ℕ → Fraction → List Fraction
+turned_by fs ts place inverse =
+    unless_none (entry fs place).numerator fs (slice_set (crossed_by (entry fs place) fs ts) place (times (entry fs place) inverse))
+
+-- the steps by which a row is turned
+pub data IsTurnStep (fs ts : List Fraction) (place : ℕ) (inverse : Fraction) : StepName → Fraction → Fraction → Type 0 where
+  crossing : (step : StepName) (left right : Fraction) → IsCrossStep (entry fs place) fs ts step left right → IsTurnStep fs ts place inverse step left right
+  entering : IsTurnStep fs ts place inverse Mul (entry fs place) inverse
+
+-- the steps by which the quotients of the pivot's row and the inverse of its entry at the place are made
+pub data IsQuotientStepOf (rs : List Fraction) (place : ℕ) : StepName → Fraction → Fraction → Type 0 where
+  dividing : (step : StepName) (left right : Fraction) → IsDivideStep (entry rs place) rs step left right → IsQuotientStepOf rs place step left right
+  inverting : IsQuotientStepOf rs place Div (whole (pos 1)) (entry rs place)
+
+-- rows of one length, of numbers of the table
+abbrev pub AreRows : ℕ → ℕ → List (List Fraction) → Type 0
+AreRows top count [] = Unit {0}
+AreRows top count (fs ∷ rows) = (length fs ≡ count) × AreNumbers top fs × AreRows top count rows
+
+-- a step by which some row is turned makes a whole number that passes the top
+pub record TurnsWide (top : ℕ) (rows : List (List Fraction)) (ts : List Fraction) (place : ℕ) (inverse : Fraction) (step : StepName) (left right : Fraction) : Type 0 where
+  pub row : ℕ
+  pub row_in : row < length rows
+  pub wide : IsWideStep top (IsTurnStep (slice_index_or rows row []) ts place inverse) step left right

@@ -1,0 +1,198 @@
+//! Lists of columns that rise, each with its fraction.
+ghost use Rattle.std.specs.Prelude.{◌≡◌, ◌≢◌, ℕ, ◌<◌, ◌≤◌, [], map, min, pos, vec_len, IfOk, IfErr, OnOk};
+ghost use Rattle.std.specs.Vec.{vec_capacity};
+ghost use Rattle.whole_numbers.specs.Fractions.{minus, times};
+ghost use Rattle.fraction_rows.specs.TableRows.{IsNumber, Rises, fraction_at, nothing};
+ghost use Rattle.fraction_rows.specs.Entries.{AllNumbers, AreRising, IsMade, IsPassing, IsPut, IsQuotientStep, IsTermStep, after_column, crossed_at, divided_at, head_column, head_fraction, replaced};
+
+use wide_fraction::{Frac, Top, Wide, div, mul, sub};
+
+/// Puts a fraction at the end, unless it is 0. There is room for it.
+pub fn put_entry(entries: &mut Vec<(u32, Frac)>, column: u32, value: Frac)
+    requires room { vec_len entries.old < vec_capacity entries.old }
+    ensures put { IsPut entries.old.items column value entries.new.items }
+    ensures capacity { vec_capacity entries.old ≤ vec_capacity entries.new }
+{
+    if value.is_zero() {
+        return;
+    }
+    match entries.push((column, value)) {
+        Ok(()) => {}
+        Err(_) => unreachable!(),
+    }
+}
+
+/// The next column of a list, or `past` at its end.
+fn next_column(entries: &[(u32, Frac)], past: u32) -> u32
+    ensures { result ≡ head_column entries.now past }
+{
+    match entries {
+        [] => past,
+        [(column, _), ..] => *column,
+    }
+}
+
+/// The fraction of a column that isn't after the next one, and what follows it.
+fn take_at(entries: &[(u32, Frac)], column: u32) -> (Frac, &[(u32, Frac)])
+    ensures fraction { result.0 ≡ head_fraction entries.now column }
+    ensures rest { result.1.now ≡ after_column entries.now column }
+{
+    match entries {
+        [(at, value), rest @ ..] if *at == column => (*value, rest),
+        _ => (Frac::whole(0), entries),
+    }
+}
+
+/// The next column of two lists, or `past` at the end of both.
+fn next_of(first: &[(u32, Frac)], second: &[(u32, Frac)], past: u32) -> u32
+    ensures { result ≡ min (head_column first.now past) (head_column second.now past) }
+{
+    next_column(first, past).min(next_column(second, past))
+}
+
+/// A fraction less the factor times another one.
+pub fn crossed(old: Frac, factor: Frac, quotient: Frac, top: Top) -> Result<Frac, Wide>
+    requires old { IsNumber top old }
+    requires factor { IsNumber top factor }
+    requires quotient { IsNumber top quotient }
+    ensures exact { IfOk result (λ q. q ≡ minus old (times factor quotient)) }
+    ensures number { IfOk result (λ q. IsNumber top q) }
+    ensures step { IfErr result (λ wide. IsTermStep old factor quotient wide) }
+    ensures passes { IfErr result (λ wide. IsPassing top wide) }
+{
+    if quotient.is_zero() {
+        return Ok(old);
+    }
+    sub(old, mul(factor, quotient, top)?, top)
+}
+
+/// Makes the list that has at each column the fraction of `olds` less the factor times that of `quotients`.
+pub fn cross_entries(
+    olds: &[(u32, Frac)],
+    factor: Frac,
+    quotients: &[(u32, Frac)],
+    width: u32,
+    made: &mut Vec<(u32, Frac)>,
+    top: Top,
+) -> Result<(), Wide>
+    requires olds { Rises 0 width olds.now }
+    requires quotients { Rises 0 width quotients.now }
+    requires old_numbers { AllNumbers top olds.now }
+    requires quotient_numbers { AllNumbers top quotients.now }
+    requires factor { IsNumber top factor }
+    requires empty { made.old.items ≡ [] }
+    requires room { width ≤ vec_capacity made.old }
+    ensures made { OnOk result (IsMade width (crossed_at factor) olds.now quotients.now made.new.items) }
+    ensures rises { Rises 0 width made.new.items }
+    ensures numbers { AllNumbers top made.new.items }
+    ensures room { width ≤ vec_capacity made.new }
+    ensures step { IfErr result (λ wide. (column : ℕ) × (column < width) × IsTermStep (fraction_at olds.now column) factor (fraction_at quotients.now column) wide) }
+    ensures passes { IfErr result (λ wide. IsPassing top wide) }
+{
+    let mut olds_left = olds;
+    let mut quotients_left = quotients;
+    'columns: loop {
+        let column = next_of(olds_left, quotients_left, width);
+        if width <= column {
+            return Ok(());
+        }
+        let (old, olds_rest) = take_at(olds_left, column);
+        let (quotient, quotients_rest) = take_at(quotients_left, column);
+        let value = crossed(old, factor, quotient, top)?;
+        put_entry(made, column, value);
+        olds_left = olds_rest;
+        quotients_left = quotients_rest;
+    }
+}
+
+/// A fraction over the divisor, and 0 at the column that is left out.
+fn quotient_at(
+    left_out: u32,
+    divisor: Frac,
+    column: u32,
+    value: Frac,
+    top: Top,
+) -> Result<Frac, Wide>
+    requires value { IsNumber top value }
+    requires divisor { IsNumber top divisor }
+    requires not_zero { divisor.numerator ≢ pos 0 }
+    ensures exact { IfOk result (λ q. q ≡ divided_at left_out divisor column value nothing) }
+    ensures number { IfOk result (λ q. IsNumber top q) }
+    ensures step { IfErr result (λ wide. IsQuotientStep value divisor wide) }
+    ensures passes { IfErr result (λ wide. IsPassing top wide) }
+{
+    if column == left_out {
+        return Ok(Frac::whole(0));
+    }
+    div(value, divisor, top)
+}
+
+/// Makes the list that has at each column the fraction of `olds` over the divisor, and 0 at the column that is left out.
+pub fn divide_entries(
+    olds: &[(u32, Frac)],
+    divisor: Frac,
+    left_out: u32,
+    width: u32,
+    made: &mut Vec<(u32, Frac)>,
+    top: Top,
+) -> Result<(), Wide>
+    requires olds { Rises 0 width olds.now }
+    requires old_numbers { AllNumbers top olds.now }
+    requires divisor { IsNumber top divisor }
+    requires not_zero { divisor.numerator ≢ pos 0 }
+    requires empty { made.old.items ≡ [] }
+    requires room { width ≤ vec_capacity made.old }
+    ensures made { OnOk result (IsMade width (divided_at left_out divisor) olds.now [] made.new.items) }
+    ensures rises { Rises 0 width made.new.items }
+    ensures numbers { AllNumbers top made.new.items }
+    ensures room { width ≤ vec_capacity made.new }
+    ensures step { IfErr result (λ wide. (column : ℕ) × (column < width) × IsQuotientStep (fraction_at olds.now column) divisor wide) }
+    ensures passes { IfErr result (λ wide. IsPassing top wide) }
+{
+    let mut left = olds;
+    'columns: loop {
+        let column = next_column(left, width);
+        if width <= column {
+            return Ok(());
+        }
+        let (value, rest) = take_at(left, column);
+        let quotient = quotient_at(left_out, divisor, column, value, top)?;
+        put_entry(made, column, quotient);
+        left = rest;
+    }
+}
+
+/// The fraction of a column, found by halving.
+pub fn find_fraction(entries: &[(u32, Frac)], column: u32) -> Frac
+    requires { AreRising entries.now }
+    ensures { result ≡ fraction_at entries.now column }
+{
+    let mut left = entries;
+    'halves: while 1 < left.len() {
+        let middle = left.len() / 2;
+        let (first, second) = left.split_at(middle);
+        if column < next_column(second, column) {
+            left = first;
+        } else {
+            left = second;
+        }
+    }
+    take_at(left, column).0
+}
+
+/// The pair with another fraction, where it is that of the column.
+fn replaced(entry: (u32, Frac), column: u32, value: Frac) -> (u32, Frac)
+    ensures { result ≡ replaced column value entry }
+{
+    let (at, old) = entry;
+    if at == column { (at, value) } else { (at, old) }
+}
+
+/// Puts another fraction at a column.
+pub fn replace_fraction(entries: &mut [(u32, Frac)], column: u32, value: Frac)
+    ensures { entries.new ≡ map (replaced column value) entries.old }
+{
+    for entry in entries.iter_mut() {
+        *entry = replaced(*entry, column, value);
+    }
+}

@@ -1,0 +1,11 @@
+//! Sparse rows of checked fractions: sums of rows, and the part of each row in a pivot.
+#![tactic(auto)]
+
+mod entries;
+mod row;
+mod sum;
+mod turn;
+
+pub use row::TableRow;
+pub use sum::sum_at;
+pub use turn::{take_quotients, turn_row, turn_rows};

@@ -1,0 +1,199 @@
+//! A row of the table: a constant beside a list of columns that rise, with no zero.
+ghost use Rattle.std.specs.Prelude.{◌≡◌, ◌≢◌, ℕ, suc, ◌<◌, ◌≤◌, ◌-◌, ◌∷◌, length, map, pos, slice_set, IfOk, IfErr, OnOk};
+ghost use Rattle.cost_base.specs.Lists.{numbers_from};
+ghost use Rattle.whole_numbers.specs.Fractions.{IsLowest};
+ghost use Rattle.path_rows.specs.Basis.{entry};
+ghost use Rattle.fraction_rows.specs.TableRows.{AreNumbers, IsCrossStep, IsDivideStep, IsNumber, IsWideStep, Rises, crossed_by, divided_without, filled, nothing};
+
+use crate::entries::{
+    cross_entries, crossed, divide_entries, find_fraction, put_entry, replace_fraction,
+};
+use cost_base::OutOfMemory;
+use std::alloc::Global;
+use std::marker::Model;
+use wide_fraction::{Frac, Top, Wide, div};
+
+/// A row of the table. Contracts see the list of its fractions: the constant at place 0, and after it the entry of each
+/// column, zeros too. It holds the columns that aren't 0 alone, and has room for all of them, so that no step on it
+/// takes memory.
+#[derive(Drop)]
+pub struct TableRow {
+    constant: Frac,
+    width: u32,
+    entries: Vec<(u32, Frac)>,
+}
+
+impl Model for TableRow {
+    ghost use Rattle.std.specs.Prelude.{ℕ, ◌≤◌, List, ◌∷◌};
+    ghost use Rattle.std.specs.Vec.{vec_capacity};
+    ghost use Rattle.whole_numbers.specs.Fractions.{Fraction};
+    ghost use Rattle.fraction_rows.specs.TableRows.{Rises, filled};
+
+    ghost Value = { List Fraction };
+
+    ghost view = { λ r. r.constant ∷ filled r.width r.entries.items };
+
+    ghost invariant = { λ r. record {
+      rises : Rises 0 r.width r.entries.items;
+      room : r.width ≤ vec_capacity r.entries;
+    } };
+}
+
+impl TableRow {
+    /// The row of zeros, with room for `width` columns.
+    ///
+    /// # Errors
+    ///
+    /// `OutOfMemory` where the row got no memory.
+    pub fn zero(alloc: Global, width: u32) -> Result<TableRow, OutOfMemory>
+        ensures { IfOk result (λ row. row ≡ nothing ∷ map (λ column. nothing) (numbers_from 0 width)) }
+    {
+        match Vec::with_capacity(alloc, width as usize) {
+            Ok(entries) => Ok(TableRow {
+                constant: Frac::whole(0),
+                width,
+                entries,
+            }),
+            Err(_) => Err(OutOfMemory),
+        }
+    }
+
+    /// The constant.
+    pub fn constant(&self) -> Frac
+        ensures { result ≡ entry self.now 0 }
+    {
+        self.constant
+    }
+
+    /// The constant at place 0, and after it the entry of each column.
+    pub fn at(&self, place: u32) -> Frac
+        requires { place < length self.now }
+        ensures { result ≡ entry self.now place }
+    {
+        match place.checked_sub(1) {
+            None => self.constant(),
+            Some(column) => self.entry(column),
+        }
+    }
+
+    /// The entry of a column.
+    pub fn entry(&self, column: u32) -> Frac
+        requires { suc column < length self.now }
+        ensures { result ≡ entry self.now (suc column) }
+    {
+        find_fraction(self.entries.as_slice(), column)
+    }
+
+    /// The columns that aren't 0, in rising order.
+    pub fn entries(&self) -> &[(u32, Frac)]
+        ensures value { self.now ≡ entry self.now 0 ∷ filled (length self.now - 1) result.now }
+        ensures rises { Rises 0 (length self.now - 1) result.now }
+    {
+        self.entries.as_slice()
+    }
+
+    /// Puts another constant.
+    pub fn set_constant(&mut self, constant: Frac)
+        ensures { self.new ≡ slice_set self.old 0 constant }
+    {
+        self.constant = constant;
+    }
+
+    /// Makes all of it 0. It keeps its room.
+    pub fn clear(&mut self)
+        ensures { self.new ≡ nothing ∷ map (λ column. nothing) (numbers_from 0 (length self.old - 1)) }
+    {
+        self.constant = Frac::whole(0);
+        self.entries.clear();
+    }
+
+    /// Puts the entry of a column from which on all entries are 0.
+    pub fn push(&mut self, column: u32, value: Frac)
+        requires within { suc column < length self.old }
+        requires last { (later : ℕ) → column ≤ later → suc later < length self.old → entry self.old (suc later) ≡ nothing }
+        requires number { IsLowest value }
+        ensures { self.new ≡ slice_set self.old (suc column) value }
+    {
+        put_entry(&mut self.entries, column, value);
+    }
+
+    /// Puts another entry, none of which is 0, at a column.
+    pub fn replace(&mut self, column: u32, value: Frac)
+        requires within { suc column < length self.old }
+        requires before { entry self.old (suc column) ≢ nothing }
+        requires not_zero { value.numerator ≢ pos 0 }
+        ensures { self.new ≡ slice_set self.old (suc column) value }
+    {
+        replace_fraction(&mut self.entries, column, value);
+    }
+
+    /// Makes the row whose fractions are those of this one, each less the factor times that of `quotients` at its place.
+    /// The steps are taken by the places, the constant first, and for a place the product before the difference; none is
+    /// taken where the quotient is 0.
+    ///
+    /// # Errors
+    ///
+    /// `Wide` where one of these steps makes a whole number that passes `top`.
+    pub fn cross(
+        &self,
+        factor: Frac,
+        quotients: &TableRow,
+        into: &mut TableRow,
+        top: Top,
+    ) -> Result<(), Wide>
+        requires quotients { length quotients.now ≡ length self.now }
+        requires into { length into.old ≡ length self.now }
+        requires numbers { AreNumbers top self.now }
+        requires quotient_numbers { AreNumbers top quotients.now }
+        requires factor { IsNumber top factor }
+        ensures crossed { OnOk result (into.new ≡ crossed_by factor self.now quotients.now) }
+        ensures numbers { OnOk result (AreNumbers top into.new) }
+        ensures width { length into.new ≡ length into.old }
+        ensures wide { IfErr result (λ wide. IsWideStep top (IsCrossStep factor self.now quotients.now) wide.step wide.left wide.right) }
+    {
+        into.entries.clear();
+        into.constant = crossed(self.constant, factor, quotients.constant, top)?;
+        cross_entries(
+            self.entries.as_slice(),
+            factor,
+            quotients.entries.as_slice(),
+            self.width,
+            &mut into.entries,
+            top,
+        )
+    }
+
+    /// Makes the row whose fractions are those of this one over the divisor, with 0 at the column that is left out. The
+    /// steps are taken by the places, the constant first; none is taken where the fraction is 0.
+    ///
+    /// # Errors
+    ///
+    /// `Wide` where one of these steps makes a whole number that passes `top`.
+    pub fn divide(
+        &self,
+        divisor: Frac,
+        left_out: u32,
+        into: &mut TableRow,
+        top: Top,
+    ) -> Result<(), Wide>
+        requires into { length into.old ≡ length self.now }
+        requires numbers { AreNumbers top self.now }
+        requires divisor { IsNumber top divisor }
+        requires not_zero { divisor.numerator ≢ pos 0 }
+        ensures divided { OnOk result (into.new ≡ divided_without (suc left_out) divisor self.now 0) }
+        ensures numbers { OnOk result (AreNumbers top into.new) }
+        ensures width { length into.new ≡ length into.old }
+        ensures wide { IfErr result (λ wide. IsWideStep top (IsDivideStep divisor self.now) wide.step wide.left wide.right) }
+    {
+        into.entries.clear();
+        into.constant = div(self.constant, divisor, top)?;
+        divide_entries(
+            self.entries.as_slice(),
+            divisor,
+            left_out,
+            self.width,
+            &mut into.entries,
+            top,
+        )
+    }
+}

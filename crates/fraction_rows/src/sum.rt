@@ -1,0 +1,70 @@
+//! The sum of a row's terms at a place of the table.
+ghost use Rattle.std.specs.Prelude.{◌≡◌, ℕ, ◌^◌, ◌<◌, ◌≤◌, length, nat_abs, All, IfErr, IfOk};
+ghost use Rattle.whole_numbers.specs.Fractions.{plus, times, whole};
+ghost use Rattle.path_rows.specs.Basis.{entry};
+ghost use Rattle.fraction_rows.specs.Entries.{IsPassing};
+ghost use Rattle.fraction_rows.specs.Sums.{IsSumStep, IsTermSum, sum_from};
+ghost use Rattle.fraction_rows.specs.TableRows.{AreNumbers, IsNumber};
+ghost use Rattle.fraction_rows.specs.Turns.{AreRows};
+
+use crate::row::TableRow;
+use path_rows::Form;
+use wide_fraction::{Frac, Top, Wide, add, mul};
+
+/// The sum with the term of one more coefficient, by the line of its variable. No step is taken where the line has 0 at
+/// the place.
+fn add_term(
+    sum: Frac,
+    coefficient: i64,
+    line: &TableRow,
+    place: u32,
+    top: Top,
+) -> Result<Frac, Wide>
+    requires sum { IsNumber top sum }
+    requires line { AreNumbers top line.now }
+    requires place { place < length line.now }
+    requires small { nat_abs coefficient ≤ 2 ^ 26 }
+    ensures exact { IfOk result (λ q. q ≡ plus sum (times (whole coefficient) (entry line.now place))) }
+    ensures number { IfOk result (λ q. IsNumber top q) }
+    ensures step { IfErr result (λ wide. IsTermSum sum coefficient (entry line.now place) wide) }
+    ensures passes { IfErr result (λ wide. IsPassing top wide) }
+{
+    let _ = top.value();
+    let value = line.at(place);
+    if value.is_zero() {
+        return Ok(sum);
+    }
+    let term = mul(Frac::whole(coefficient), value, top)?;
+    add(sum, term, top)
+}
+
+/// The sum of the form's terms at a place, from a start on, by the lines of its variables. The steps are taken in the
+/// order of the variables, for those whose coefficients aren't 0.
+///
+/// # Errors
+///
+/// `Wide` where one of these steps makes a whole number that passes `top`.
+pub fn sum_at(
+    start: Frac,
+    form: &Form,
+    lines: &[TableRow],
+    place: u32,
+    top: Top,
+) -> Result<Frac, Wide>
+    requires start { IsNumber top start }
+    requires small { All (λ c. nat_abs c ≤ 2 ^ 26) form.now.coefficients }
+    requires lines { (count : ℕ) × (place < count) × AreRows top count lines.now }
+    requires many { length form.now.coefficients ≤ length lines.now }
+    ensures exact { IfOk result (λ q. q ≡ sum_from start form.now.coefficients lines.now place) }
+    ensures number { IfOk result (λ q. IsNumber top q) }
+    ensures step { IfErr result (λ wide. IsSumStep start form.now.coefficients lines.now place wide) }
+    ensures passes { IfErr result (λ wide. IsPassing top wide) }
+{
+    let terms = form.terms();
+    let mut sum = start;
+    for term in terms {
+        let var = term.var as usize;
+        sum = add_term(sum, term.coefficient, &lines[var], place, top)?;
+    }
+    Ok(sum)
+}

@@ -1,0 +1,109 @@
+//! One row's part in a pivot.
+ghost use Rattle.std.specs.Prelude.{◌≡◌, ◌≢◌, suc, ◌<◌, length, map, pos, IfErr, IfOk, OnOk};
+ghost use Rattle.whole_numbers.specs.Fractions.{divided, whole};
+ghost use Rattle.path_rows.specs.Basis.{entry};
+ghost use Rattle.fraction_rows.specs.TableRows.{AreNumbers, IsNumber, IsWideStep, divided_without, nothing};
+ghost use Rattle.fraction_rows.specs.Turns.{AreRows, IsQuotientStepOf, IsTurnStep, TurnsWide, turned_by};
+
+use crate::row::TableRow;
+use std::mem;
+use wide_fraction::{Frac, Top, Wide, div, mul};
+
+/// Turns a row at the pivot's column, by the quotients of the pivot's row, which have 0 there, and the inverse of its
+/// entry there. The steps are taken by the places, the constant first, and the pivot's column last; none is taken
+/// where the row has 0 in that column. `scratch` is a row of the same width, in which the new row is made.
+///
+/// # Errors
+///
+/// `Wide` where one of these steps makes a whole number that passes `top`. Then the row is as before.
+pub fn turn_row(
+    row: &mut TableRow,
+    column: u32,
+    quotients: &TableRow,
+    inverse: Frac,
+    scratch: &mut TableRow,
+    top: Top,
+) -> Result<(), Wide>
+    requires column { suc column < length row.old }
+    requires quotients { length quotients.now ≡ length row.old }
+    requires scratch { length scratch.old ≡ length row.old }
+    requires numbers { AreNumbers top row.old }
+    requires quotient_numbers { AreNumbers top quotients.now }
+    requires none_there { entry quotients.now (suc column) ≡ nothing }
+    requires inverse { IsNumber top inverse }
+    requires not_zero { inverse.numerator ≢ pos 0 }
+    ensures turned { OnOk result (row.new ≡ turned_by row.old quotients.now (suc column) inverse) }
+    ensures numbers { OnOk result (AreNumbers top row.new) }
+    ensures width { length row.new ≡ length row.old }
+    ensures scratch_width { length scratch.new ≡ length scratch.old }
+    ensures wide { IfErr result (λ wide. IsWideStep top (IsTurnStep row.old quotients.now (suc column) inverse) wide.step wide.left wide.right) }
+{
+    let own = row.entry(column);
+    if own.is_zero() {
+        return Ok(());
+    }
+    row.cross(own, quotients, scratch, top)?;
+    let entered = mul(own, inverse, top)?;
+    scratch.replace(column, entered);
+    mem::swap(row, scratch);
+    Ok(())
+}
+
+/// Makes the quotients of the pivot's row by its entry at the pivot's column, with 0 at that column, and gives the
+/// inverse of that entry. The steps are taken by the places, the constant first, and the inverse last.
+///
+/// # Errors
+///
+/// `Wide` where one of these steps makes a whole number that passes `top`.
+pub fn take_quotients(
+    row: &TableRow,
+    column: u32,
+    quotients: &mut TableRow,
+    top: Top,
+) -> Result<Frac, Wide>
+    requires column { suc column < length row.now }
+    requires width { length quotients.old ≡ length row.now }
+    requires numbers { AreNumbers top row.now }
+    requires not_zero { (entry row.now (suc column)).numerator ≢ pos 0 }
+    ensures quotients { OnOk result (quotients.new ≡ divided_without (suc column) (entry row.now (suc column)) row.now 0) }
+    ensures quotient_numbers { OnOk result (AreNumbers top quotients.new) }
+    ensures inverse { IfOk result (λ inverse. inverse ≡ divided (whole (pos 1)) (entry row.now (suc column))) }
+    ensures number { IfOk result (λ inverse. IsNumber top inverse) }
+    ensures width { length quotients.new ≡ length quotients.old }
+    ensures wide { IfErr result (λ wide. IsWideStep top (IsQuotientStepOf row.now (suc column)) wide.step wide.left wide.right) }
+{
+    let divisor = row.entry(column);
+    row.divide(divisor, column, quotients, top)?;
+    div(Frac::whole(1), divisor, top)
+}
+
+/// Turns each row in order, as `turn_row` does.
+///
+/// # Errors
+///
+/// `Wide` where a step of some row makes a whole number that passes `top`.
+pub fn turn_rows(
+    rows: &mut [TableRow],
+    column: u32,
+    quotients: &TableRow,
+    inverse: Frac,
+    scratch: &mut TableRow,
+    top: Top,
+) -> Result<(), Wide>
+    requires column { suc column < length quotients.now }
+    requires rows { AreRows top (length quotients.now) rows.old }
+    requires scratch { length scratch.old ≡ length quotients.now }
+    requires quotient_numbers { AreNumbers top quotients.now }
+    requires none_there { entry quotients.now (suc column) ≡ nothing }
+    requires inverse { IsNumber top inverse }
+    requires not_zero { inverse.numerator ≢ pos 0 }
+    ensures turned { OnOk result (rows.new ≡ map (λ fs. turned_by fs quotients.now (suc column) inverse) rows.old) }
+    ensures numbers { OnOk result (AreRows top (length quotients.now) rows.new) }
+    ensures scratch_width { length scratch.new ≡ length scratch.old }
+    ensures wide { IfErr result (λ wide. TurnsWide top rows.old quotients.now (suc column) inverse wide.step wide.left wide.right) }
+{
+    for row in rows.iter_mut() {
+        turn_row(row, column, quotients, inverse, scratch, top)?;
+    }
+    Ok(())
+}

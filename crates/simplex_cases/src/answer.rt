@@ -1,0 +1,195 @@
+//! What a tableau answers to a line of a script.
+ghost use Rattle.std.specs.Prelude.{◌≡◌};
+ghost use Rattle.exact_simplex.specs.declared.stage.Solved.TheVariants.{Feasible, Refuted};
+ghost use Rattle.exact_simplex.specs.declared.stage.Stage.TheVariants.{Ended};
+
+use crate::command::{Command, read_command};
+use area_graph::Point;
+use cost_base::{Listed, StepName};
+use exact_simplex::{SimplexStop, Solved, Tableau, is_box};
+use path_rows::{CostBox, Form, Member, Parts};
+use std::alloc::{AllocError, Global};
+use std::fmt;
+use wide_fraction::{Frac, Top, Wide};
+
+/// A step as it is written: its name and its two fractions.
+#[derive(Drop)]
+struct Step(Wide);
+
+impl fmt::Display for Step {
+    fn fmt<W: fmt::Write>(&self, f: &mut fmt::Formatter<W>) -> fmt::Result {
+        let name = match self.0.step {
+            StepName::Add => "add",
+            StepName::Sub => "sub",
+            StepName::Mul => "mul",
+            StepName::Div => "div",
+            StepName::Lcm => "lcm",
+            StepName::Scale => "scale",
+        };
+        let left = self.0.left;
+        let right = self.0.right;
+        write!(
+            f,
+            "wide {name} {}/{} ",
+            left.numerator(),
+            left.denominator()
+        )?;
+        write!(f, "{}/{}", right.numerator(), right.denominator())
+    }
+}
+
+/// A member of a basis, as it is written: its kind and number, and the bound that it has.
+#[derive(Drop)]
+struct Named(Member);
+
+impl fmt::Display for Named {
+    fn fmt<W: fmt::Write>(&self, f: &mut fmt::Formatter<W>) -> fmt::Result {
+        match self.0 {
+            Member::Low(var, bound) => write!(f, " low{var}={bound}"),
+            Member::High(var, bound) => write!(f, " high{var}={bound}"),
+            Member::Row(row) => write!(f, " row{row}"),
+        }
+    }
+}
+
+/// A row's multiplier, as it is written.
+#[derive(Drop)]
+struct Part(u64, u128);
+
+impl fmt::Display for Part {
+    fn fmt<W: fmt::Write>(&self, f: &mut fmt::Formatter<W>) -> fmt::Result {
+        write!(f, " {}*row{}", self.1, self.0)
+    }
+}
+
+/// The members of the basis.
+fn basis(alloc: Global, tableau: &Tableau) -> Result<String, AllocError> {
+    let Ok(members) = tableau.basis(alloc) else {
+        return Err(AllocError);
+    };
+    let mut text = String::from_str(alloc, ":")?;
+    for member in members.as_slice() {
+        let named = format!(in alloc; "{}", Named(*member))?;
+        text.push_str(named.as_str())?;
+    }
+    Ok(text)
+}
+
+/// Another tableau in place of the one at hand.
+fn start(
+    alloc: Global,
+    tableau: &mut Option<Tableau>,
+    bits: u32,
+    costs: &CostBox,
+) -> Result<String, AllocError> {
+    let Some(top) = Top::new(bits) else {
+        return String::from_str(alloc, ": no width");
+    };
+    if !is_box(costs) {
+        return String::from_str(alloc, ": no box");
+    }
+    let Ok(started) = Tableau::start(alloc, costs, top) else {
+        return Err(AllocError);
+    };
+    *tableau = Some(started);
+    String::from_str(alloc, ": started")
+}
+
+/// One more row, where it fits.
+fn add(alloc: Global, tableau: &mut Tableau, form: &Form) -> Result<String, AllocError> {
+    if !tableau.takes(form) {
+        return String::from_str(alloc, ": doesn't fit");
+    }
+    match tableau.add_row(alloc, form) {
+        Ok(()) => String::from_str(alloc, ": added"),
+        Err(SimplexStop::TooWide(wide)) => format!(in alloc; ": {}", Step(wide)),
+        Err(SimplexStop::OutOfMemory) => Err(AllocError),
+    }
+}
+
+/// Other ranges, where the rows fit them.
+fn change(alloc: Global, tableau: &mut Tableau, costs: &CostBox) -> Result<String, AllocError> {
+    if !tableau.fits(costs) {
+        return String::from_str(alloc, ": doesn't fit");
+    }
+    match tableau.rebase(costs) {
+        Ok(()) => String::from_str(alloc, ": moved"),
+        Err(wide) => format!(in alloc; ": {}", Step(wide)),
+    }
+}
+
+/// The least point of a tableau that was found feasible.
+fn least(alloc: Global, tableau: &Tableau) -> Result<String, AllocError>
+    requires { tableau.now.stage ≡ Ended Feasible }
+{
+    let Ok(members) = tableau.basis(alloc) else {
+        return Err(AllocError);
+    };
+    let mut point = Point {
+        scale: 1,
+        values: Listed::from_items(vec![in alloc; 0u128; members.len()]?),
+    };
+    if let Err(wide) = tableau.point(&mut point) {
+        return format!(in alloc; ": feasible, {}", Step(wide));
+    }
+    let mut text = String::from_str(alloc, ": feasible, least point ")?;
+    for value in point.values.as_slice() {
+        let written = format!(in alloc; "{value} ")?;
+        text.push_str(written.as_str())?;
+    }
+    let scale = format!(in alloc; "over {}", point.scale)?;
+    text.push_str(scale.as_str())?;
+    Ok(text)
+}
+
+/// The multipliers of a tableau that was found refuted at a form.
+fn multipliers(alloc: Global, tableau: &Tableau, form: u64) -> Result<String, AllocError>
+    requires { tableau.now.stage ≡ Ended (Refuted form) }
+{
+    let mut parts = Parts::from_items(Vec::new(alloc));
+    match tableau.multipliers(alloc, form, &mut parts) {
+        Err(SimplexStop::OutOfMemory) => Err(AllocError),
+        Err(SimplexStop::TooWide(wide)) => {
+            format!(in alloc; ": refuted at form {form}, {}", Step(wide))
+        }
+        Ok(()) => {
+            let mut text = format!(in alloc; ": refuted at form {form}, multipliers")?;
+            for (row, multiplier) in parts.as_slice() {
+                let part = format!(in alloc; "{}", Part(*row, *multiplier))?;
+                text.push_str(part.as_str())?;
+            }
+            Ok(text)
+        }
+    }
+}
+
+/// What solving answers.
+fn solve(alloc: Global, tableau: &mut Tableau) -> Result<String, AllocError> {
+    match tableau.solve() {
+        Ok(Solved::Feasible) => least(alloc, tableau),
+        Ok(Solved::Refuted(form)) => multipliers(alloc, tableau, form),
+        Err(wide) => format!(in alloc; ": {}", Step(wide)),
+    }
+}
+
+/// What the tableau at hand answers to a line, to stand behind the line.
+pub fn answer(
+    alloc: Global,
+    tableau: &mut Option<Tableau>,
+    line: &str,
+) -> Result<String, AllocError> {
+    let asked = read_command(alloc, line)?;
+    if let Command::Start(bits, costs) = asked {
+        return start(alloc, tableau, bits, &costs);
+    }
+    let Some(tableau) = tableau else {
+        return String::from_str(alloc, "");
+    };
+    match asked {
+        Command::Row(form) => add(alloc, tableau, &form),
+        Command::Move(costs) => change(alloc, tableau, &costs),
+        Command::Solve => solve(alloc, tableau),
+        Command::Basis => basis(alloc, tableau),
+        _ => String::from_str(alloc, ""),
+    }
+}
