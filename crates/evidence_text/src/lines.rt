@@ -152,7 +152,7 @@ fn write_tighten(var: u32, side: Side, value: u16, row: u64, line: &mut LineBuff
     line.push_number(u128::from(row));
 }
 
-pub(crate) fn side_word(side: Side) -> &'static [u8]
+pub fn side_word(side: Side) -> &'static [u8]
     ensures { result.now ≡ side_word side }
 {
     match side {
@@ -183,7 +183,7 @@ fn write_halve(var: u32, value: u16, wide: &WideAt, line: &mut LineBuffer)
     push_members(wide.basis.as_slice(), line);
 }
 
-pub(crate) fn step_word(step: StepName) -> &'static [u8]
+pub fn step_word(step: StepName) -> &'static [u8]
     ensures { result.now ≡ step_word step }
 {
     match step {
