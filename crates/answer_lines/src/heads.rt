@@ -1,14 +1,14 @@
 //! Reading the lines of an answer that have at most one number.
 ghost use Rattle.std.specs.Prelude.{◌≡◌, ◌≢◌, ℕ, ◌+◌, ◌<◌, List, [], ◌∷◌, MatchOption, MatchResult, codes};
 ghost use Rattle.path_rows.specs.Bounds.{IsThing, IsCost, IsRowNumber, BoundsVerdict, BoundsFloor};
-ghost use Rattle.evidence_text.specs.Parts.{verdict_line, floor_line, rows_line, part_word, tree_line};
+ghost use Rattle.evidence_text.specs.Parts.{verdict_line, floor_line, rows_line, tree_line};
 ghost use Rattle.answer_lines.specs.Grammar.{AtHead, AtVerdict, AtCosts, AtFloor, AtSections, AtRows, AtRow, AtTree, AtEnd, AfterEnd};
 ghost use Rattle.answer_lines.specs.Places.{LacksLawful};
 ghost use Rattle.answer_lines.specs.Going.{Goes};
 
 use crate::text_left::TextLeft;
 use crate::words::{Pieces, number_after};
-use evidence_text::TreePart;
+use evidence_text::{TreePart, part_word};
 use path_rows::{Floor, Verdict};
 
 /// The verdict that a line says.
@@ -70,22 +70,12 @@ pub fn rows_next(text: TextLeft<'_>) -> Option<(u64, TextLeft<'_>)>
 pub fn tree_head_of(line: &[u8], part: TreePart) -> Option<(u16, u32)>
     ensures { MatchOption result ((cap count : ℕ) → IsCost cap → IsThing count → line.now ≢ tree_line part cap count) (λ r. line.now ≡ tree_line part r.0 r.1) }
 {
-    let numbers = Pieces::new(line).behind(word_of(part))?;
+    let numbers = Pieces::new(line).behind(part_word(part))?;
     let (cap, behind) = numbers.number(65_535)?;
     let (count, rest) = behind.number(4_294_967_295)?;
     if rest.is_done() {
         Some((cap as u16, count as u32))
     } else {
         None
-    }
-}
-
-/// The word that a part with a tree begins with.
-fn word_of(part: TreePart) -> &'static [u8]
-    ensures { result.now ≡ part_word part }
-{
-    match part {
-        TreePart::Proof => b"proof",
-        TreePart::Unfinished => b"open",
     }
 }

@@ -12,7 +12,7 @@ pub use entries::{
     GREATEST_MULTIPLIER, GREATEST_ROW, GREATEST_VALUE, GREATEST_VAR, entry_of, member_of, part_of,
 };
 pub use heads::{floor_next, floor_of, rows_next, tree_head_of, verdict_next};
-pub use ratios::{GREATEST_SIZE, greatest_common_divisor, integer_of};
+pub use ratios::{GREATEST_SIZE, integer_of};
 pub use rows::row_of;
 pub use text_left::{LONGEST, TextLeft};
 pub use words::{Pieces, after, name_after, number_after};

@@ -4,11 +4,11 @@ ghost use Rattle.cost_base.specs.declared.Ratio.{Ratio};
 ghost use Rattle.cost_base.specs.Decimal.{decimal};
 ghost use Rattle.std.specs.Prelude.{negsuc, pos};
 ghost use Rattle.path_rows.specs.Text.{integer, ratio_word, IsPrinted};
-ghost use Rattle.whole_numbers.specs.Fractions.{gcd};
 
 use crate::words::after;
 use cost_base::Ratio;
 use text_lines::{cut, printed_number};
+use whole_numbers::greatest_common_divisor;
 
 /// The greatest number of a fraction, in size: 2^127 - 1.
 pub const GREATEST_SIZE: u128 = 170_141_183_460_469_231_731_687_303_715_884_105_727;
@@ -65,18 +65,4 @@ fn negative_of(digits: &[u8]) -> Option<i128>
     } else {
         Some(-(size as i128))
     }
-}
-
-/// The greatest common divisor, by Euclid's steps.
-pub fn greatest_common_divisor(left: u128, right: u128) -> u128
-    ensures { result ≡ gcd left right }
-{
-    let mut larger = left;
-    let mut smaller = right;
-    while smaller != 0 {
-        let rest = larger % smaller;
-        larger = smaller;
-        smaller = rest;
-    }
-    larger
 }

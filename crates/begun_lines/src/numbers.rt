@@ -4,8 +4,8 @@ ghost use Rattle.cost_base.specs.Decimal.{decimal};
 ghost use Rattle.whole_numbers.specs.Fractions.{gcd};
 ghost use Rattle.begun_lines.specs.BegunLines.{IsMissing, IsNumber, IsAmong, Extends};
 
-use answer_lines::greatest_common_divisor;
 use text_lines::{number_bytes, printed_number};
+use whole_numbers::greatest_common_divisor;
 
 /// The numbers that may stand at a place of a line: those of a range that have no divisor in common with `coprime_to`.
 #[derive(Clone, Copy)]

@@ -3,7 +3,7 @@ ghost use Rattle.std.specs.Prelude.{◌≡◌, ℕ, zero, suc, ◌+◌, ◌-◌,
 ghost use Rattle.path_rows.specs.Text.{entry_line, tree_lines, FitsEntry, FitsTree};
 ghost use Rattle.path_rows.specs.Trees.{subtree_count};
 ghost use Rattle.answer_lines.specs.Grammar.{Place, IsPartNext, AtTree};
-ghost use Rattle.evidence_text.specs.Parts.{part_word, no_tree_line};
+ghost use Rattle.evidence_text.specs.Parts.{part_word};
 ghost use Rattle.answer_lines.specs.Places.{LacksLawful, Begins};
 ghost use Rattle.evidence_reader.specs.Stops.{Stops};
 ghost use Rattle.answer_lines.specs.Going.{Goes};
@@ -14,7 +14,7 @@ use crate::stop::AnswerStop;
 use answer_lines::{TextLeft, entry_of, tree_head_of};
 use begun_lines::{begins_entry, begins_open, begins_proof};
 use cost_base::OutOfMemory;
-use evidence_text::TreePart;
+use evidence_text::{TreePart, no_tree_line};
 use path_rows::{CapTree, Entry, Tree};
 use std::alloc::Global;
 
@@ -88,16 +88,6 @@ fn part_head_of(part: TreePart, line: &[u8]) -> Option<PartHead>
     }
     let (cap, count) = tree_head_of(line, part)?;
     Some(PartHead::TreeHead(cap, count))
-}
-
-/// The line of a part that has no tree.
-fn no_tree_line(part: TreePart) -> &'static [u8]
-    ensures { result.now ≡ no_tree_line part }
-{
-    match part {
-        TreePart::Proof => b"proof none",
-        TreePart::Unfinished => b"open none",
-    }
 }
 
 /// The tree of so many lines behind the first line of its part, and the text behind it.

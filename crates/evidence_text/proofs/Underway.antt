@@ -87,7 +87,8 @@ pub items_turn : {X : Type 0} (f : X → List ℕ) (xs : List X) (i : ℕ) (item
 items_turn f xs i item h e = at_drop_more (λ rest. map f rest) xs i item h ∙ ap (λ x. f x ∷ map f (drop (i + 1) xs)) (sym e)
 
 -- the lines of the costs that are left, one more cost taken
-pub costs_turn : (before : Option (List ℕ)) (costs : List CostLine) (i : ℕ) (item : CostLine) → i < length costs → item ≡ get_or costs i item → cost_lines before (drop i costs) ≡ router_lines before item.router ++ (interface_lines item ++ cost_lines (Some item.router) (drop (i + 1) costs))
+pub costs_turn : (before : Option (List ℕ)) (costs : List CostLine) (i : ℕ) (item : CostLine) → i < length costs → item ≡ get_or costs i item → cost_lines before (drop i costs) ≡ (router_lines before item.router ++ interface_lines item) ++ cost_lines (Some item.router) (drop (i + 1) costs)
 costs_turn before costs i item h e =
     at_drop_more (λ rest. cost_lines before rest) costs i item h
     ∙ ap (λ (x : CostLine). router_lines before x.router ++ (interface_lines x ++ cost_lines (Some x.router) (drop (i + 1) costs))) (sym e)
+    ∙ sym (append_assoc (router_lines before item.router) (interface_lines item) (cost_lines (Some item.router) (drop (i + 1) costs)))

@@ -11,7 +11,7 @@ pub returns-in_err-numbers : goal.returns-in_err-numbers
 returns-in_err-numbers c =
     rw c.from_residual.ensures
     (λ cap count small few e. c.in_err-numbers.ensures (decimal cap ∷ decimal count ∷ [])
-    (c.new.ensures ∙ tree-words c.args.line.now c.args.part cap count e ∙ ap (λ w. w ∷ decimal cap ∷ decimal count ∷ []) (sym c.word_of.ensures)))
+    (c.new.ensures ∙ tree-words c.args.line.now c.args.part cap count e ∙ ap (λ w. w ∷ decimal cap ∷ decimal count ∷ []) (sym c.part_word.ensures.is)))
 
 pub returns-in_err-cap : goal.returns-in_err-cap
 returns-in_err-cap c =
@@ -34,8 +34,8 @@ returns-then-is_done c =
     more-is (words_left c.in_ok-numbers.numbers) (decimal c.in_ok-cap.cap) (words_left c.in_ok-cap.behind) (decimal c.in_ok-count.count ∷ []) c.in_ok-cap.ensures.1
     (more-is (words_left c.in_ok-cap.behind) (decimal c.in_ok-count.count) (words_left c.in_ok-count.rest) [] c.in_ok-count.ensures.1 done) in
     from-words c.args.line.now (part_word c.args.part) (decimal c.in_ok-cap.cap ∷ decimal c.in_ok-count.count ∷ [])
-    (sym c.new.ensures ∙ more-is (words_left c.new.result) c.word_of.result.now (words_left c.in_ok-numbers.numbers) (decimal c.in_ok-cap.cap ∷ decimal c.in_ok-count.count ∷ []) c.in_ok-numbers.ensures at_cap
-    ∙ ap (λ w. w ∷ decimal c.in_ok-cap.cap ∷ decimal c.in_ok-count.count ∷ []) c.word_of.ensures)
+    (sym c.new.ensures ∙ more-is (words_left c.new.result) c.part_word.result.now (words_left c.in_ok-numbers.numbers) (decimal c.in_ok-cap.cap ∷ decimal c.in_ok-count.count ∷ []) c.in_ok-numbers.ensures at_cap
+    ∙ ap (λ w. w ∷ decimal c.in_ok-cap.cap ∷ decimal c.in_ok-count.count ∷ []) c.part_word.ensures.is)
 
 pub returns-else-is_done : goal.returns-else-is_done
 returns-else-is_done c =

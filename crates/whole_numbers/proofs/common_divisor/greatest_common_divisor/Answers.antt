@@ -1,7 +1,7 @@
 use Rattle.std.proofs.Common.{◌<◌, ℕ, subst, sym, ◌∙◌, ap, inl, inr}
 use Rattle.whole_numbers.specs.Fractions.{gcd}
 use Rattle.whole_numbers.proofs.Divisors.{gcd-one, one-gcd, gcd_positive}
-use Rattle.wide_fraction.proofs.words.greatest_common_divisor.Goals as goal
+use Rattle.whole_numbers.proofs.common_divisor.greatest_common_divisor.Goals as goal
 
 pub returns-then-right-eq1-clause-value : goal.returns-then-right-eq1-clause-value
 returns-then-right-eq1-clause-value c =

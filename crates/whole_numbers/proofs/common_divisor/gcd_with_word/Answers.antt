@@ -1,7 +1,7 @@
 use Rattle.std.proofs.Common.{sym, ◌∙◌, ap}
 use Rattle.whole_numbers.specs.Fractions.{gcd}
 use Rattle.whole_numbers.proofs.Divisors.{gcd_step}
-use Rattle.wide_fraction.proofs.words.gcd_with_word.Goals as goal
+use Rattle.whole_numbers.proofs.common_divisor.gcd_with_word.Goals as goal
 
 pub returns-else-word-eq0 : goal.returns-else-word-eq0
 returns-else-word-eq0 c =

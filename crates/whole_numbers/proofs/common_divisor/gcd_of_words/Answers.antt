@@ -1,7 +1,7 @@
 use Rattle.std.proofs.Common.{sym, ◌∙◌, ap}
 use Rattle.whole_numbers.specs.Fractions.{gcd}
 use Rattle.whole_numbers.proofs.Divisors.{gcd_step, gcd-zero}
-use Rattle.wide_fraction.proofs.words.gcd_of_words.Goals as goal
+use Rattle.whole_numbers.proofs.common_divisor.gcd_of_words.Goals as goal
 
 pub loop-smaller-preserved : goal.loop-smaller-preserved
 loop-smaller-preserved c = sym (gcd_step c.loop-smaller.larger c.loop-smaller.smaller) ∙ c.loop-smaller.invariant

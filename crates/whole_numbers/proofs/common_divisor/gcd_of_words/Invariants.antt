@@ -1,6 +1,6 @@
 use Rattle.std.proofs.Common.{◌≡◌}
 use Rattle.whole_numbers.specs.Fractions.{gcd}
-use Rattle.answer_lines.proofs.ratios.greatest_common_divisor.Given as goal
+use Rattle.whole_numbers.proofs.common_divisor.gcd_of_words.Given as goal
 
 abbrev pub invariant-loop-smaller : goal.invariant-loop-smaller
 invariant-loop-smaller l = gcd l.larger l.smaller ≡ gcd l.left l.right
