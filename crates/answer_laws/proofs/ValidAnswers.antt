@@ -8,7 +8,7 @@ use Rattle.path_rows.specs.declared.answer.Costs.{Costs}
 use Rattle.path_rows.specs.declared.answer.Floor.{Floor}
 use Rattle.path_rows.specs.declared.answer.Floor.TheVariants.{Absent, Empty, Var}
 use Rattle.path_rows.specs.declared.answer.Verdict.{Verdict}
-use Rattle.path_rows.specs.declared.answer.Verdict.TheVariants.{Optimal, Impossible, Budget}
+use Rattle.path_rows.specs.declared.answer.Verdict.TheVariants.{Optimal, Impossible}
 use Rattle.path_rows.specs.Problems.{DesignProblem}
 use Rattle.path_rows.specs.Boxes.{capped}
 use Rattle.path_rows.specs.Trees.{IsSoundTree}

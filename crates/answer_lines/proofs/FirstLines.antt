@@ -1,9 +1,8 @@
 -- The first line of a text, where it is lawful and where it isn't.
 use Rattle.std.proofs.Common.{◌≡◌, ℕ, ◌+◌, ◌≤◌, List, [], ◌∷◌, ◌++◌, length, refl, sym, ap, subst, ◌∙◌, arith, append_assoc, append-nil}
 use Rattle.text_lines.specs.Lines.{IsOneLine}
-use Rattle.evidence_text.specs.Lines.{text_of}
 use Rattle.answer_lines.specs.Grammar.{Place, Next}
-use Rattle.answer_lines.specs.Lawful.{LeadOn, IsRead}
+use Rattle.answer_lines.specs.Lawful.{IsRead}
 use Rattle.answer_lines.specs.Places.{IsFirst, LacksFirst, LacksLawful}
 use Rattle.answer_lines.proofs.LineFronts.{first-one}
 
