@@ -1,5 +1,5 @@
 -- Going on from place to place.
-use Rattle.std.proofs.Common.{◌≡◌, ℕ, ◌+◌, List, [], ◌∷◌, ◌++◌, sym, ap, subst, ◌∙◌, arith, append_assoc, length-append}
+use Rattle.std.proofs.Common.{◌≡◌, ℕ, List, [], ◌∷◌, ◌++◌, sym, ap, subst, ◌∙◌, arith, append_assoc, length-append}
 use Rattle.evidence_text.specs.Lines.{text_of}
 use Rattle.answer_lines.specs.Grammar.{Place}
 use Rattle.answer_lines.specs.Lawful.{LeadOn, IsRead}
