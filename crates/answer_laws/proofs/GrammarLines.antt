@@ -4,12 +4,12 @@ use Rattle.cost_base.specs.Decimal.{decimal}
 use Rattle.path_rows.specs.Text.{spaced, verdict_words, floor_word, entry_line}
 use Rattle.text_lines.specs.Lines.{IsOneLine}
 use Rattle.text_lines.proofs.WordLaws.{word-line}
-use Rattle.evidence_text.specs.Words.{entry_words}
-use Rattle.evidence_text.specs.Grammar.{Place, AtHead, AtVerdict, AtCosts, AtSections, AtInterface, AtCost, AtExit, AtFloor, AtRows, AtRow, AtTree, AtEnd, AfterEnd, Next, IsInterfaceNext, IsInterfaceAgain, IsFloorNext, IsPartNext}
+use Rattle.answer_lines.specs.Words.{entry_words}
+use Rattle.answer_lines.specs.Grammar.{Place, AtHead, AtVerdict, AtCosts, AtSections, AtInterface, AtCost, AtExit, AtFloor, AtRows, AtRow, AtTree, AtEnd, AfterEnd, Next, IsInterfaceNext, IsInterfaceAgain, IsFloorNext, IsPartNext}
 use Rattle.evidence_text.specs.Parts.{part_word}
 use Rattle.evidence_text.specs.declared.TreePart.{TreePart}
 use Rattle.evidence_text.specs.declared.TreePart.TheVariants.{Proof, Unfinished}
-use Rattle.evidence_text.proofs.EntryWords.{entry_line-words}
+use Rattle.answer_lines.proofs.EntryWords.{entry_line-words}
 use Rattle.answer_laws.proofs.WholeWords.{written, AreWhole, spaced-whole, number-whole, numbers-whole, verdict-whole, floor-whole, entry-whole}
 
 part-one : (part : TreePart) → IsOneLine (part_word part)

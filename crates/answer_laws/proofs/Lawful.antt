@@ -16,15 +16,15 @@ use Rattle.path_rows.specs.Answers.{AnswerParts}
 use Rattle.path_rows.specs.Bounds.{IsCost, IsRowNumber, BoundsVerdict, BoundsFloor, BoundsRow, BoundsEntry, BoundsCosts, BoundsTree, HasBounds}
 use Rattle.path_rows.specs.Text.{row_line, entry_line, cost_lines, costs_lines, tree_lines, answer_lines, FitsEntry, FitsCostLine, FitsCosts, FitsTree, IsAnswer}
 use Rattle.path_rows.specs.Trees.{subtree_count, WholeTrees}
-use Rattle.evidence_text.specs.Grammar.{Place, Next, IsInterfaceNext, AtHead, AtVerdict, AtCosts, AtSections, AtInterface, AtCost, AtExit, AtFloor, AtRows, AtRow, AtTree, AtEnd, AfterEnd, router_line}
+use Rattle.answer_lines.specs.Grammar.{Place, Next, IsInterfaceNext, AtHead, AtVerdict, AtCosts, AtSections, AtInterface, AtCost, AtExit, AtFloor, AtRows, AtRow, AtTree, AtEnd, AfterEnd, router_line}
 use Rattle.evidence_text.specs.Parts.{head_lines, interface_line, cost_line, floor_line, rows_lines, part_word, end_lines}
-use Rattle.evidence_text.specs.Refusals.{LeadOn}
-use Rattle.evidence_text.specs.Stages.{before_part}
+use Rattle.answer_lines.specs.Lawful.{LeadOn}
+use Rattle.evidence_reader.specs.Stages.{before_part}
 use Rattle.evidence_text.specs.declared.TreePart.{TreePart}
 use Rattle.evidence_text.specs.declared.TreePart.TheVariants.{Proof, Unfinished}
 use Rattle.evidence_text.proofs.AnswerOrder.{answer_lines-ordered, ordered}
-use Rattle.evidence_text.proofs.SectionLines.{router_before}
-use Rattle.evidence_text.proofs.TreeLines.{part_says}
+use Rattle.evidence_reader.proofs.SectionLines.{router_before}
+use Rattle.evidence_reader.proofs.TreeLines.{part_says}
 
 -- lines in the grammar, one after another, however long they are
 abbrev GoOn : Place → List (List ℕ) → Place → Type 0

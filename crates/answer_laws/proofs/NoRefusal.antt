@@ -5,10 +5,12 @@ use Rattle.std.proofs.lemmas.List.Elements.{All-head, All-tail}
 use Rattle.path_rows.specs.Answers.{AnswerParts}
 use Rattle.path_rows.specs.Text.{answer_lines, text}
 use Rattle.text_lines.specs.Lines.{IsOneLine}
-use Rattle.evidence_text.specs.Grammar.{Place, AtHead, AfterEnd, Next}
+use Rattle.answer_lines.specs.Grammar.{Place, AtHead, AfterEnd, Next}
 use Rattle.evidence_text.specs.Lines.{text_of}
-use Rattle.evidence_text.specs.Refusals.{Leads, LeadOn, IsBadLine, IsEarlyEnd, IsFault, IsRefused, bad_line, early_end, after_end}
-use Rattle.evidence_text.proofs.LineFronts.{first_line-one}
+use Rattle.answer_lines.specs.Lawful.{Leads, LeadOn}
+use Rattle.evidence_reader.specs.declared.stop.AnswerFault.{AnswerFault}
+use Rattle.evidence_reader.specs.Refusals.{IsBadLine, IsEarlyEnd, IsFault, IsRefused, bad_line, early_end, after_end}
+use Rattle.answer_lines.proofs.LineFronts.{first_line-one}
 use Rattle.answer_laws.specs.Laws.{AnswersAreRead}
 use Rattle.answer_laws.proofs.GrammarLines.{next_is_one_line}
 use Rattle.answer_laws.proofs.Lawful.{answer-leads}
@@ -63,21 +65,21 @@ no_early place line left rest is (inl none) = some-line line left (sym none ∙ 
 no_early place line left rest is (inr last) = not-one line left (subst IsOneLine is last.0)
 
 -- a text that goes on lawfully to its end has no fault
-no_fault : (place : Place) (rest : List ℕ) (number : ℕ) (lines : List (List ℕ)) → LeadOn place lines AfterEnd → rest ≡ text_of lines → IsFault place rest number → ⊥
-no_fault place rest number [] lead is (bad_line inside bad) = inside lead
-no_fault place rest number [] lead is (early_end inside early) = inside lead
-no_fault place rest number [] lead is (after_end at some) = some is
-no_fault place rest number (line ∷ lines) lead is (bad_line inside bad) = no_bad place lead.0 line (text_of lines) rest lead.1 (is ∙ text-first line lines) bad
-no_fault place rest number (line ∷ lines) lead is (early_end inside early) = no_early place line (text_of lines) rest (is ∙ text-first line lines) early
-no_fault place rest number (line ∷ lines) lead is (after_end at some) = subst (λ p. Next p line lead.0) at lead.1.is
+no_fault : (place : Place) (rest : List ℕ) (kind : AnswerFault) (lines : List (List ℕ)) → LeadOn place lines AfterEnd → rest ≡ text_of lines → IsFault place rest kind → ⊥
+no_fault place rest kind [] lead is (bad_line inside bad) = inside lead
+no_fault place rest kind [] lead is (early_end inside early) = inside lead
+no_fault place rest kind [] lead is (after_end at some) = some is
+no_fault place rest kind (line ∷ lines) lead is (bad_line inside bad) = no_bad place lead.0 line (text_of lines) rest lead.1 (is ∙ text-first line lines) bad
+no_fault place rest kind (line ∷ lines) lead is (early_end inside early) = no_early place line (text_of lines) rest (is ∙ text-first line lines) early
+no_fault place rest kind (line ∷ lines) lead is (after_end at some) = subst (λ p. Next p line lead.0) at lead.1.is
 
 -- where its lines are lawful, an answer's text is not refused
-not_refused : (a : AnswerParts) (number line : ℕ) → LeadOn AtHead (answer_lines a) AfterEnd → IsRefused AtHead 0 (text a) number line → ⊥
-not_refused a number line lead refused =
+not_refused : (a : AnswerParts) (kind : AnswerFault) (line : ℕ) → LeadOn AtHead (answer_lines a) AfterEnd → IsRefused AtHead 0 (text a) kind line → ⊥
+not_refused a kind line lead refused =
     let left : IsLeft refused.place AfterEnd refused.rest =
     left-lawful AtHead refused.place AfterEnd refused.lines (answer_lines a) refused.rest refused.lead lead (sym refused.parts) in
-    no_fault refused.place refused.rest number left.0 left.1 left.2 refused.fault
+    no_fault refused.place refused.rest kind left.0 left.1 left.2 refused.fault
 
 -- no answer's text is refused
 pub texts_read : AnswersAreRead
-texts_read a number line value refused = not_refused a number line (answer-leads a value.fits value.bounds value.count) refused
+texts_read a kind line value refused = not_refused a kind line (answer-leads a value.fits value.bounds value.count) refused

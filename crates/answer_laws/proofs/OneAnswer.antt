@@ -10,8 +10,8 @@ use Rattle.path_rows.specs.Text.{answer_lines, text, FitsCosts}
 use Rattle.text_lines.specs.Lines.{lines, IsOneLine}
 use Rattle.text_lines.proofs.LineLaws.{lines-concat}
 use Rattle.evidence_text.proofs.AnswerOrder.{answer_lines-ordered, ordered, after_proof, after_rows, after_floor}
-use Rattle.evidence_text.proofs.Chains.{head-is, tail-is}
-use Rattle.evidence_text.proofs.SpacedWords.{spaceless-from}
+use Rattle.answer_lines.proofs.Chains.{head-is, tail-is}
+use Rattle.answer_lines.proofs.SpacedWords.{spaceless-from}
 use Rattle.answer_laws.specs.Laws.{without_start, without_starts, OneAnswer}
 use Rattle.answer_laws.proofs.AnswerLines.{ordered-one}
 use Rattle.answer_laws.proofs.SameWords.{verdict-same}

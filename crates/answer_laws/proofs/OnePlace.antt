@@ -10,12 +10,12 @@ use Rattle.path_rows.specs.Text.{spaced, part_words, entry_line}
 use Rattle.path_rows.specs.Trees.{subtree_count}
 use Rattle.text_lines.specs.Numbers.{split}
 use Rattle.text_lines.proofs.Printed.{decimal-same, decimal-digits}
-use Rattle.evidence_text.specs.Grammar.{Place, AtHead, AtVerdict, AtCosts, AtSections, AtInterface, AtCost, AtExit, AtFloor, AtRows, AtRow, AtTree, AtEnd, AfterEnd, Next, IsRouterNext, IsInterfaceAgain, IsFloorNext, IsPartNext}
+use Rattle.answer_lines.specs.Grammar.{Place, AtHead, AtVerdict, AtCosts, AtSections, AtInterface, AtCost, AtExit, AtFloor, AtRows, AtRow, AtTree, AtEnd, AfterEnd, Next, IsRouterNext, IsInterfaceAgain, IsFloorNext, IsPartNext}
 use Rattle.evidence_text.specs.Parts.{part_word, no_tree_line, tree_line, interface_line}
 use Rattle.evidence_text.specs.declared.TreePart.{TreePart}
 use Rattle.evidence_text.specs.declared.TreePart.TheVariants.{Proof, Unfinished}
-use Rattle.evidence_text.proofs.Chains.{head-is, tail-is}
-use Rattle.evidence_text.proofs.LineWords.{tree-words}
+use Rattle.answer_lines.proofs.Chains.{head-is, tail-is}
+use Rattle.answer_lines.proofs.LineWords.{tree-words}
 
 -- one line doesn't begin with two bytes
 first-apart : (line : List ℕ) (a b : ℕ) (xs ys : List ℕ) → (a ≡ b → ⊥) → line ≡ a ∷ xs → line ≡ b ∷ ys → ⊥

@@ -15,11 +15,11 @@ use Rattle.path_rows.specs.declared.answer.Floor.{Floor}
 use Rattle.path_rows.specs.declared.answer.CapTree.{CapTree}
 use Rattle.path_rows.specs.Text.{cost_lines, costs_lines, row_line, entry_line, tree_lines}
 use Rattle.text_lines.proofs.Printed.{decimal-same}
-use Rattle.evidence_text.specs.Grammar.{router_line}
+use Rattle.answer_lines.specs.Grammar.{router_line}
 use Rattle.evidence_text.specs.Parts.{interface_line, cost_line, floor_line, rows_lines}
-use Rattle.evidence_text.specs.Words.{IsSpaceless}
-use Rattle.evidence_text.proofs.Chains.{head-is, tail-is}
-use Rattle.evidence_text.proofs.SpacedWords.{spaceless-from, decimal-spaceless}
+use Rattle.answer_lines.specs.Words.{IsSpaceless}
+use Rattle.answer_lines.proofs.Chains.{head-is, tail-is}
+use Rattle.answer_lines.proofs.SpacedWords.{spaceless-from, decimal-spaceless}
 use Rattle.answer_laws.specs.Laws.{without_start}
 use Rattle.answer_laws.proofs.SameWords.{no_digits, second-same, later-same, floor-same, row-same, entry-same}
 

@@ -25,13 +25,13 @@ use Rattle.path_rows.specs.Text.{spaced, verdict_words, floor_word, row_line, si
 use Rattle.text_lines.specs.Lines.{grow}
 use Rattle.text_lines.specs.Numbers.{split}
 use Rattle.text_lines.proofs.Printed.{decimal-digits, decimal_value-decimal}
-use Rattle.evidence_text.specs.Words.{IsSpaceless, entry_words}
-use Rattle.evidence_text.proofs.Chains.{tail-is, not-both}
-use Rattle.evidence_text.proofs.EntryWords.{entry_line-words}
-use Rattle.evidence_text.proofs.LineEntries.{pieces-entry}
-use Rattle.evidence_text.proofs.LineFronts.{split-front}
-use Rattle.evidence_text.proofs.LineWords.{row-words}
-use Rattle.evidence_text.proofs.SpacedWords.{spaceless-from, decimal-spaceless, split-spaced}
+use Rattle.answer_lines.specs.Words.{IsSpaceless, entry_words}
+use Rattle.answer_lines.proofs.Chains.{tail-is, not-both}
+use Rattle.answer_lines.proofs.EntryWords.{entry_line-words}
+use Rattle.answer_lines.proofs.LineEntries.{pieces-entry}
+use Rattle.answer_lines.proofs.LineFronts.{split-front}
+use Rattle.answer_lines.proofs.LineWords.{row-words}
+use Rattle.answer_lines.proofs.SpacedWords.{spaceless-from, decimal-spaceless, split-spaced}
 use Rattle.answer_laws.specs.Laws.{without_start}
 
 -- a word that isn't all digits is no number's

@@ -8,14 +8,14 @@ use Rattle.path_rows.specs.declared.answer.Costs.{Costs}
 use Rattle.path_rows.specs.declared.answer.Floor.{Floor}
 use Rattle.path_rows.specs.declared.answer.Floor.TheVariants.{Absent, Empty, Var}
 use Rattle.path_rows.specs.declared.answer.Verdict.{Verdict}
-use Rattle.path_rows.specs.declared.answer.Verdict.TheVariants.{Optimal, Impossible, Budget}
+use Rattle.path_rows.specs.declared.answer.Verdict.TheVariants.{Optimal, Impossible}
 use Rattle.path_rows.specs.Problems.{DesignProblem}
 use Rattle.path_rows.specs.Boxes.{capped}
 use Rattle.path_rows.specs.Trees.{IsSoundTree}
 use Rattle.path_rows.specs.Rows.{IsRow, box_of, form_of_row, forms_of_rows}
 use Rattle.path_rows.specs.Answers.{AnswerParts, ClaimHolds, IsValid, Proves, ShowsLeast}
-use Rattle.evidence_text.specs.Grammar.{AtHead}
-use Rattle.evidence_text.specs.Refusals.{IsRefused}
+use Rattle.answer_lines.specs.Grammar.{AtHead}
+use Rattle.evidence_reader.specs.Refusals.{IsRefused}
 use Rattle.answer_laws.specs.Laws.{without_start, without_starts, InvalidAnswersStayInvalid, RefusedTextsAreInvalid}
 use Rattle.answer_laws.proofs.NoRefusal.{texts_read}
 use Rattle.answer_laws.proofs.OneAnswer.{texts_tell}
@@ -75,7 +75,7 @@ valid_up_to_starts : (p : DesignProblem) (a b : AnswerParts) → without_starts 
 valid_up_to_starts p a b same valid = valid_with p b (subst (IsValid p) same (valid_without p a valid))
 
 pub refused_invalid : RefusedTextsAreInvalid
-refused_invalid p bytes number line refused a value same valid = texts_read a number line value (subst (λ (b : List ℕ). IsRefused AtHead 0 b number line) same refused)
+refused_invalid p bytes kind line refused a value same valid = texts_read a kind line value (subst (λ (b : List ℕ). IsRefused AtHead 0 b kind line) same refused)
 
 pub invalid_stays : InvalidAnswersStayInvalid
 invalid_stays p a fits invalid b value same valid = invalid (valid_up_to_starts p b a (texts_tell b a value.fits fits (sym same)) valid)

@@ -21,8 +21,8 @@ use Rattle.path_rows.specs.declared.answer.Floor.TheVariants.{Absent, Empty, Var
 use Rattle.path_rows.specs.Text.{spaced, verdict_words, floor_word, side_word, step_word, integer, ratio_word, members_words, part_words, entry_line}
 use Rattle.text_lines.specs.Lines.{IsOneLine}
 use Rattle.text_lines.proofs.WordLaws.{word-line, decimal-word}
-use Rattle.evidence_text.specs.Words.{entry_words}
-use Rattle.evidence_text.proofs.EntryWords.{entry_line-words}
+use Rattle.answer_lines.specs.Words.{entry_words}
+use Rattle.answer_lines.proofs.EntryWords.{entry_line-words}
 
 -- a byte that a line may hold
 abbrev pub IsNoLF : ℕ → Type 0

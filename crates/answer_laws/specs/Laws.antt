@@ -5,8 +5,10 @@ use Rattle.path_rows.specs.Problems.{DesignProblem}
 use Rattle.path_rows.specs.Answers.{AnswerParts, IsValid}
 use Rattle.path_rows.specs.Bounds.{HasBounds, IsRowNumber}
 use Rattle.path_rows.specs.Text.{IsAnswer, answer_lines, text}
-use Rattle.evidence_text.specs.Grammar.{Place, AtHead, AfterEnd, Next}
-use Rattle.evidence_text.specs.Refusals.{IsRefused, LeadOn}
+use Rattle.answer_lines.specs.Grammar.{Place, AtHead, AfterEnd, Next}
+use Rattle.answer_lines.specs.Lawful.{LeadOn}
+use Rattle.evidence_reader.specs.declared.stop.AnswerFault.{AnswerFault}
+use Rattle.evidence_reader.specs.Refusals.{IsRefused}
 
 -- a value of the type of answers; its rows stand in a vector, so their number has 64 bits
 pub record IsAnswerValue (a : AnswerParts) : Type 0 where
@@ -24,7 +26,7 @@ AnswersAreLawful = (a : AnswerParts) → IsAnswerValue a → LeadOn AtHead (answ
 
 -- no answer's text is refused
 abbrev pub AnswersAreRead : Type 0
-AnswersAreRead = (a : AnswerParts) (number line : ℕ) → IsAnswerValue a → IsRefused AtHead 0 (text a) number line → ⊥
+AnswersAreRead = (a : AnswerParts) (kind : AnswerFault) (line : ℕ) → IsAnswerValue a → IsRefused AtHead 0 (text a) kind line → ⊥
 
 -- the row with a rival that starts at 0
 abbrev pub without_start : Row → Row
@@ -44,7 +46,7 @@ IsNoValidText p bytes = (a : AnswerParts) → IsAnswerValue a → bytes ≡ text
 
 -- a text that is refused is no valid answer's
 abbrev pub RefusedTextsAreInvalid : Type 0
-RefusedTextsAreInvalid = (p : DesignProblem) (bytes : List ℕ) (number line : ℕ) → IsRefused AtHead 0 bytes number line → IsNoValidText p bytes
+RefusedTextsAreInvalid = (p : DesignProblem) (bytes : List ℕ) (kind : AnswerFault) (line : ℕ) → IsRefused AtHead 0 bytes kind line → IsNoValidText p bytes
 
 -- nor is the text of an answer that isn't valid
 abbrev pub InvalidAnswersStayInvalid : Type 0

@@ -1,8 +1,13 @@
 -- The parts of an answer's text, in their order.
-use Rattle.std.proofs.Common.{◌≡◌, ℕ, List, ◌∷◌, ◌++◌, codes, append_assoc, ◌∙◌}
+use Rattle.std.proofs.Common.{◌≡◌, ℕ, List, [], ◌∷◌, ◌++◌, codes, append_assoc, ◌∙◌, sym, ap, subst, Option}
+use Rattle.path_rows.specs.declared.answer.CapTree.{CapTree}
+use Rattle.path_rows.specs.declared.answer.Costs.{Costs}
+use Rattle.path_rows.specs.declared.form.Row.{Row}
 use Rattle.path_rows.specs.Answers.{AnswerParts}
-use Rattle.path_rows.specs.Text.{costs_lines, tree_lines, answer_lines}
+use Rattle.path_rows.specs.Text.{costs_lines, tree_lines, answer_lines, text}
+use Rattle.evidence_text.specs.Lines.{text_of, AreShort}
 use Rattle.evidence_text.specs.Parts.{head_lines, floor_line, rows_lines, end_lines}
+use Rattle.evidence_text.proofs.TextLaws.{text_of-append, short_front, short_rest}
 
 -- what follows the proof
 abbrev pub after_proof : AnswerParts → List (List ℕ)
@@ -40,3 +45,59 @@ answer_lines-ordered a =
     ∙ append_assoc ((A ++ B) ++ C) D (E ++ end_lines)
     ∙ append_assoc (A ++ B) C (D ++ (E ++ end_lines))
     ∙ append_assoc A B (C ++ (D ++ (E ++ end_lines)))
+
+-- the text of an answer, part after part
+parts_text : (a : AnswerParts) → text a ≡ text_of (head_lines a.verdict) ++ (text_of (costs_lines a.costs) ++ (text_of (floor_line a.floor ∷ []) ++ (text_of (rows_lines a.rows) ++ (text_of (tree_lines (codes "proof") a.proof) ++ (text_of (tree_lines (codes "open") a.unfinished) ++ text_of end_lines)))))
+parts_text a =
+    let H : List ℕ = text_of (head_lines a.verdict) in
+    let C : List ℕ = text_of (costs_lines a.costs) in
+    let F : List ℕ = text_of (floor_line a.floor ∷ []) in
+    let R : List ℕ = text_of (rows_lines a.rows) in
+    let P : List ℕ = text_of (tree_lines (codes "proof") a.proof) in
+    ap text_of (answer_lines-ordered a)
+    ∙ text_of-append (head_lines a.verdict) (after_head a)
+    ∙ ap (λ t. H ++ t) (text_of-append (costs_lines a.costs) (after_costs a))
+    ∙ ap (λ t. H ++ (C ++ t)) (text_of-append (floor_line a.floor ∷ []) (after_floor a))
+    ∙ ap (λ t. H ++ (C ++ (F ++ t))) (text_of-append (rows_lines a.rows) (after_rows a))
+    ∙ ap (λ t. H ++ (C ++ (F ++ (R ++ t)))) (text_of-append (tree_lines (codes "proof") a.proof) (after_proof a))
+    ∙ ap (λ t. H ++ (C ++ (F ++ (R ++ (P ++ t))))) (text_of-append (tree_lines (codes "open") a.unfinished) end_lines)
+
+-- the same, with the parts as a caller holds them
+pub text-parts : (a answer : AnswerParts) (costs : Option Costs) (rows : List Row) (proof unfinished : Option CapTree) → a ≡ answer → costs ≡ a.costs → rows ≡ a.rows → proof ≡ a.proof → unfinished ≡ a.unfinished →
+    text answer ≡ text_of (head_lines a.verdict) ++ (text_of (costs_lines costs) ++ (text_of (floor_line a.floor ∷ []) ++ (text_of (rows_lines rows) ++ (text_of (tree_lines (codes "proof") proof) ++ (text_of (tree_lines (codes "open") unfinished) ++ text_of end_lines)))))
+text-parts a answer costs rows proof unfinished same e f g h =
+    let part_costs = ap (λ (x : Option Costs). record { verdict = a.verdict; costs = x; floor = a.floor; rows = rows; proof = proof; unfinished = unfinished }) e in
+    let part_rows = ap (λ (x : List Row). record { verdict = a.verdict; costs = a.costs; floor = a.floor; rows = x; proof = proof; unfinished = unfinished }) f in
+    let part_proof = ap (λ (x : Option CapTree). record { verdict = a.verdict; costs = a.costs; floor = a.floor; rows = a.rows; proof = x; unfinished = unfinished }) g in
+    let part_unfinished = ap (λ (x : Option CapTree). record { verdict = a.verdict; costs = a.costs; floor = a.floor; rows = a.rows; proof = a.proof; unfinished = x }) h in
+    let held : AnswerParts = record { verdict = a.verdict; costs = costs; floor = a.floor; rows = rows; proof = proof; unfinished = unfinished } in
+    let is : held ≡ a = part_costs ∙ part_rows ∙ part_proof ∙ part_unfinished in
+    ap text (sym same ∙ sym is) ∙ parts_text held
+
+-- each part of an answer has short lines
+pub record AreShortParts (a : AnswerParts) : Type 0 where
+  pub head : AreShort (head_lines a.verdict)
+  pub costs : AreShort (costs_lines a.costs)
+  pub floor : AreShort (floor_line a.floor ∷ [])
+  pub rows : AreShort (rows_lines a.rows)
+  pub proof : AreShort (tree_lines (codes "proof") a.proof)
+  pub unfinished : AreShort (tree_lines (codes "open") a.unfinished)
+  pub end : AreShort end_lines
+
+pub short_parts : (a : AnswerParts) → AreShort (answer_lines a) → AreShortParts a
+short_parts a short =
+    let all : AreShort (ordered a) = subst AreShort (answer_lines-ordered a) short in
+    let behind_head = short_rest (head_lines a.verdict) (after_head a) all in
+    let behind_costs = short_rest (costs_lines a.costs) (after_costs a) behind_head in
+    let behind_floor = short_rest (floor_line a.floor ∷ []) (after_floor a) behind_costs in
+    let behind_rows = short_rest (rows_lines a.rows) (after_rows a) behind_floor in
+    let behind_proof = short_rest (tree_lines (codes "proof") a.proof) (after_proof a) behind_rows in
+    record {
+      head = short_front (head_lines a.verdict) (after_head a) all;
+      costs = short_front (costs_lines a.costs) (after_costs a) behind_head;
+      floor = short_front (floor_line a.floor ∷ []) (after_floor a) behind_costs;
+      rows = short_front (rows_lines a.rows) (after_rows a) behind_floor;
+      proof = short_front (tree_lines (codes "proof") a.proof) (after_proof a) behind_rows;
+      unfinished = short_front (tree_lines (codes "open") a.unfinished) end_lines behind_proof;
+      end = short_rest (tree_lines (codes "open") a.unfinished) end_lines behind_proof;
+    }

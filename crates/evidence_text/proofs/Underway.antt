@@ -1,6 +1,6 @@
 -- Lines put one after another.
-use Rattle.std.proofs.Common.{◌≡◌, ℕ, ◌+◌, ◌<◌, ◌≤◌, List, [], ◌∷◌, ◌++◌, length, map, get_or, drop, refl, sym, ap, ◌∙◌, subst, append_assoc, append-nil, length-append, arith, Option, Some, None, Result, Ok, Err}
-use Rattle.std.proofs.lemmas.List.{get_or_append_left, get_or-append-add, at_drop_more}
+use Rattle.std.proofs.Common.{◌≡◌, ℕ, ◌+◌, ◌<◌, ◌≤◌, List, [], ◌∷◌, ◌++◌, length, map, get_or, drop, refl, sym, ap, ◌∙◌, subst, append_assoc, append-nil, arith, Option, Some, None, Result, Ok, Err}
+use Rattle.std.proofs.lemmas.List.{at_drop_more}
 use Rattle.std.proofs.lemmas.Bool.{false≢true}
 use Rattle.std.specs.Result.{IsErr}
 use Rattle.cost_base.specs.Outside.{GotWhole, GotPart}
@@ -9,6 +9,7 @@ use Rattle.path_rows.specs.declared.answer.CostLine.{CostLine}
 use Rattle.path_rows.specs.Text.{router_lines, cost_lines}
 use Rattle.evidence_text.specs.Parts.{interface_lines}
 use Rattle.evidence_text.specs.Lines.{text_of, AreShort, IsPut}
+use Rattle.evidence_text.proofs.TextLaws.{text_of-append, short_front, short_rest}
 
 -- of the whole text the sink got all but the lines that are left, which are short
 pub record IsUnderway (before now : Option (List ℕ)) (faults_before faults_now : ℕ) (left : List (List ℕ)) (total : List ℕ) : Type 0 where
@@ -17,21 +18,6 @@ pub record IsUnderway (before now : Option (List ℕ)) (faults_before faults_now
   pub later : faults_before ≤ faults_now
   pub same : so_far ++ text_of left ≡ total
   pub short : AreShort left
-
--- the lines of two lists, one after the other
-pub text_of-append : (xs ys : List (List ℕ)) → text_of (xs ++ ys) ≡ text_of xs ++ text_of ys
-text_of-append [] ys = refl
-text_of-append (x ∷ xs) ys = ap (λ bytes. (x ++ 10 ∷ []) ++ bytes) (text_of-append xs ys) ∙ sym (append_assoc (x ++ 10 ∷ []) (text_of xs) (text_of ys))
-
--- the first lines of short lines are short
-pub short_front : (lines rest : List (List ℕ)) → AreShort (lines ++ rest) → AreShort lines
-short_front lines rest h =
-    λ k d l. subst (λ (line : List ℕ). length line ≤ 65536) (get_or_append_left lines rest d k l) (h k d (omega (arith, length-append lines rest)))
-
--- the lines that follow some of them are short
-pub short_rest : (lines rest : List (List ℕ)) → AreShort (lines ++ rest) → AreShort rest
-short_rest lines rest h =
-    λ k d l. subst (λ (line : List ℕ). length line ≤ 65536) (get_or-append-add lines rest k d) (h (length lines + k) d (omega (arith, length-append lines rest)))
 
 -- the lines that come next are short
 pub next_short : {a b : Option (List ℕ)} {f0 f1 : ℕ} {left : List (List ℕ)} {total : List ℕ} (lines rest : List (List ℕ)) → left ≡ lines ++ rest → IsUnderway a b f0 f1 left total → AreShort lines
@@ -101,7 +87,8 @@ pub items_turn : {X : Type 0} (f : X → List ℕ) (xs : List X) (i : ℕ) (item
 items_turn f xs i item h e = at_drop_more (λ rest. map f rest) xs i item h ∙ ap (λ x. f x ∷ map f (drop (i + 1) xs)) (sym e)
 
 -- the lines of the costs that are left, one more cost taken
-pub costs_turn : (before : Option (List ℕ)) (costs : List CostLine) (i : ℕ) (item : CostLine) → i < length costs → item ≡ get_or costs i item → cost_lines before (drop i costs) ≡ router_lines before item.router ++ (interface_lines item ++ cost_lines (Some item.router) (drop (i + 1) costs))
+pub costs_turn : (before : Option (List ℕ)) (costs : List CostLine) (i : ℕ) (item : CostLine) → i < length costs → item ≡ get_or costs i item → cost_lines before (drop i costs) ≡ (router_lines before item.router ++ interface_lines item) ++ cost_lines (Some item.router) (drop (i + 1) costs)
 costs_turn before costs i item h e =
     at_drop_more (λ rest. cost_lines before rest) costs i item h
     ∙ ap (λ (x : CostLine). router_lines before x.router ++ (interface_lines x ++ cost_lines (Some x.router) (drop (i + 1) costs))) (sym e)
+    ∙ sym (append_assoc (router_lines before item.router) (interface_lines item) (cost_lines (Some item.router) (drop (i + 1) costs)))

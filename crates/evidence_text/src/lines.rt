@@ -10,6 +10,37 @@ use crate::line_buffer::LineBuffer;
 use cost_base::Name;
 use path_rows::{Entry, Floor, Member, Ratio, Row, Side, StepName, Verdict, WideAt};
 
+/// What is printed as one line.
+pub(crate) trait Printed {
+    /// The line that is printed.
+    ghost printed: { Self → List ℕ };
+
+    /// Writes the line.
+    fn write(&self, line: &mut LineBuffer)
+        requires { length (printed self.now) ≤ 65536 }
+        ensures { line.new ≡ printed self.now };
+}
+
+impl Printed for Row {
+    ghost use Rattle.path_rows.specs.Text.{row_line};
+
+    ghost printed = { row_line };
+
+    fn write(&self, line: &mut LineBuffer) {
+        write_row(self, line);
+    }
+}
+
+impl Printed for Entry {
+    ghost use Rattle.path_rows.specs.Text.{entry_line};
+
+    ghost printed = { entry_line };
+
+    fn write(&self, line: &mut LineBuffer) {
+        write_entry(self, line);
+    }
+}
+
 /// Writes the line of the verdict.
 pub(crate) fn write_verdict(verdict: Verdict, line: &mut LineBuffer)
     requires { length (verdict_line verdict) ≤ 65536 }
@@ -80,7 +111,7 @@ pub(crate) fn write_rows(count: usize, line: &mut LineBuffer)
 }
 
 /// Writes the line of a row.
-pub(crate) fn write_row(row: &Row, line: &mut LineBuffer)
+fn write_row(row: &Row, line: &mut LineBuffer)
     requires { length (row_line row.now) ≤ 65536 }
     ensures { line.new ≡ row_line row.now }
 {
@@ -98,14 +129,25 @@ fn push_numbers(numbers: &[u32], line: &mut LineBuffer)
     }
 }
 
-/// Writes the line of a part that has no tree.
-pub(crate) fn write_no_tree(part: TreePart, line: &mut LineBuffer)
-    requires { length (no_tree_line part) ≤ 65536 }
-    ensures { line.new ≡ no_tree_line part }
+/// The line of a part that has no tree.
+pub fn no_tree_line(part: TreePart) -> &'static [u8]
+    ensures is { result.now ≡ no_tree_line part }
+    ensures short { length result.now ≤ 65536 }
 {
     match part {
-        TreePart::Proof => line.start(b"proof none"),
-        TreePart::Unfinished => line.start(b"open none"),
+        TreePart::Proof => b"proof none",
+        TreePart::Unfinished => b"open none",
+    }
+}
+
+/// The word that a part with a tree begins with.
+pub fn part_word(part: TreePart) -> &'static [u8]
+    ensures is { result.now ≡ part_word part }
+    ensures short { length result.now ≤ 65536 }
+{
+    match part {
+        TreePart::Proof => b"proof",
+        TreePart::Unfinished => b"open",
     }
 }
 
@@ -114,16 +156,13 @@ pub(crate) fn write_tree(part: TreePart, cap: u16, count: usize, line: &mut Line
     requires { length (tree_line part cap count) ≤ 65536 }
     ensures { line.new ≡ tree_line part cap count }
 {
-    match part {
-        TreePart::Proof => line.start(b"proof"),
-        TreePart::Unfinished => line.start(b"open"),
-    }
+    line.start(part_word(part));
     line.push_number(u128::from(cap));
     line.push_number(count as u128);
 }
 
 /// Writes the line of an entry of a tree.
-pub(crate) fn write_entry(entry: &Entry, line: &mut LineBuffer)
+fn write_entry(entry: &Entry, line: &mut LineBuffer)
     requires { length (entry_line entry.now) ≤ 65536 }
     ensures { line.new ≡ entry_line entry.now }
 {
@@ -152,7 +191,7 @@ fn write_tighten(var: u32, side: Side, value: u16, row: u64, line: &mut LineBuff
     line.push_number(u128::from(row));
 }
 
-pub(crate) fn side_word(side: Side) -> &'static [u8]
+pub fn side_word(side: Side) -> &'static [u8]
     ensures { result.now ≡ side_word side }
 {
     match side {
@@ -183,7 +222,7 @@ fn write_halve(var: u32, value: u16, wide: &WideAt, line: &mut LineBuffer)
     push_members(wide.basis.as_slice(), line);
 }
 
-pub(crate) fn step_word(step: StepName) -> &'static [u8]
+pub fn step_word(step: StepName) -> &'static [u8]
     ensures { result.now ≡ step_word step }
 {
     match step {

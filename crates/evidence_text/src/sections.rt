@@ -9,8 +9,8 @@ ghost use Rattle.evidence_text.specs.Parts.{head_lines, interface_lines, floor_l
 use crate::TreePart;
 use crate::line_buffer::LineBuffer;
 use crate::lines::{
-    write_cost, write_costs, write_entry, write_floor, write_interface, write_no_tree, write_row,
-    write_rows, write_tree, write_verdict,
+    Printed, no_tree_line, write_cost, write_costs, write_floor, write_interface, write_rows,
+    write_tree, write_verdict,
 };
 use cost_base::{Name, PutFailed, Sink};
 use path_rows::{Answer, CapTree, CostLine, Costs, Entry, Floor, Row, Verdict};
@@ -139,11 +139,24 @@ fn put_cost_lines<K: Sink>(
 {
     let mut before = None;
     for cost in costs {
-        put_router(before, &cost.router, line, out)?;
-        put_interface(cost, line, out)?;
+        put_cost_line(before, cost, line, out)?;
         before = Some(&cost.router);
     }
     Ok(())
+}
+
+/// Puts the lines of a cost, which begin with its router unless that is the router of the cost line before.
+fn put_cost_line<K: Sink>(
+    before: Option<&Name>,
+    cost: &CostLine,
+    line: &mut LineBuffer,
+    out: &mut K,
+) -> Result<(), PutFailed>
+    requires { AreShort (router_lines (option_copied before) cost.now.router ++ interface_lines cost.now) }
+    ensures { IsPut (K.got out.old) (K.got out.new) (K.faults out.old) (K.faults out.new) (text_of (router_lines (option_copied before.entry) cost.now.router ++ interface_lines cost.now)) result }
+{
+    put_router(before, &cost.router, line, out)?;
+    put_interface(cost, line, out)
 }
 
 /// Puts the line of a router, unless it is the router of the cost line before.
@@ -196,18 +209,7 @@ fn put_rows_part<K: Sink>(rows: &[Row], line: &mut LineBuffer, out: &mut K) -> R
 {
     write_rows(rows.len(), line);
     line.put(out)?;
-    put_each_row(rows, line, out)
-}
-
-fn put_each_row<K: Sink>(rows: &[Row], line: &mut LineBuffer, out: &mut K) -> Result<(), PutFailed>
-    requires { AreShort (map row_line rows.now) }
-    ensures { IsPut (K.got out.old) (K.got out.new) (K.faults out.old) (K.faults out.new) (text_of (map row_line rows.now)) result }
-{
-    for row in rows {
-        write_row(row, line);
-        line.put(out)?;
-    }
-    Ok(())
+    put_each(rows, line, out)
 }
 
 fn put_tree_part<K: Sink>(
@@ -221,7 +223,7 @@ fn put_tree_part<K: Sink>(
 {
     match tree {
         None => {
-            write_no_tree(part, line);
+            line.start(no_tree_line(part));
             line.put(out)
         }
         Some(tree) => put_some_tree(part, tree, line, out),
@@ -240,19 +242,20 @@ fn put_some_tree<K: Sink>(
     let entries = tree.tree.as_slice();
     write_tree(part, tree.cap, entries.len(), line);
     line.put(out)?;
-    put_each_entry(entries, line, out)
+    put_each(entries, line, out)
 }
 
-fn put_each_entry<K: Sink>(
-    entries: &[Entry],
+/// Puts the line of each item.
+fn put_each<T: Printed, K: Sink>(
+    items: &[T],
     line: &mut LineBuffer,
     out: &mut K,
 ) -> Result<(), PutFailed>
-    requires { AreShort (map entry_line entries.now) }
-    ensures { IsPut (K.got out.old) (K.got out.new) (K.faults out.old) (K.faults out.new) (text_of (map entry_line entries.now)) result }
+    requires { AreShort (map T.printed items.now) }
+    ensures { IsPut (K.got out.old) (K.got out.new) (K.faults out.old) (K.faults out.new) (text_of (map T.printed items.now)) result }
 {
-    for entry in entries {
-        write_entry(entry, line);
+    for item in items {
+        item.write(line);
         line.put(out)?;
     }
     Ok(())

@@ -4,8 +4,9 @@ ghost use Rattle.whole_numbers.specs.Fractions.{whole, negated, inverse, reduced
 ghost use Rattle.wide_fraction.specs.Widths.{IsKept, IsWithin, IsTooWide};
 
 use crate::Top;
-use crate::words::{greatest_common_divisor, quotient, signed_quotient, with_sign_of};
+use crate::words::{quotient, signed_quotient, with_sign_of};
 use std::marker::Model;
+use whole_numbers::greatest_common_divisor;
 
 /// A fraction in lowest terms with a positive denominator; zero is 0/1. Each of its numbers has at most 127 bits.
 #[derive(Clone, Copy, Debug, PartialEq, Eq)]

@@ -4,11 +4,12 @@ ghost use Rattle.whole_numbers.specs.Fractions.{plus, minus, times, divided, who
 ghost use Rattle.wide_fraction.specs.Widths.{IsWithin, Fits, Passes, IsAnswer};
 
 use crate::words::{
-    bounded_cross_sum, bounded_product, bounded_signed_product, bounded_sum,
-    greatest_common_divisor, quotient, signed_quotient,
+    bounded_cross_sum, bounded_product, bounded_signed_product, bounded_sum, quotient,
+    signed_quotient,
 };
 use crate::{Frac, Top};
 use cost_base::StepName;
+use whole_numbers::greatest_common_divisor;
 
 /// What `scale` multiplies by, 2^27.
 const SCALE: i128 = 134217728;

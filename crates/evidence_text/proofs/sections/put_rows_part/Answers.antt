@@ -12,12 +12,12 @@ returns-in_err-put g c =
     let rows = c.args.rows.now in
     stop_at c.from_residual.result c.from_residual.ensures.0 (c.write_rows.new.line ∷ []) (map row_line rows) (ap (λ (l : List ℕ). l ∷ map row_line rows) (sym c.write_rows.ensures)) (begin (g.K.Sink.got c.args.out.now) (g.K.Sink.faults c.args.out.now) (rows_lines rows) c.requires) c.in_err-put.ensures
 
-pub put_each_row-requires : goal.put_each_row-requires
-put_each_row-requires g c =
+pub put_each-requires : goal.put_each-requires
+put_each-requires g c =
     let rows = c.args.rows.now in
     (turn (c.write_rows.new.line ∷ []) (map row_line rows) (ap (λ (l : List ℕ). l ∷ map row_line rows) (sym c.write_rows.ensures)) (begin (g.K.Sink.got c.args.out.now) (g.K.Sink.faults c.args.out.now) (rows_lines rows) c.requires) c.in_ok-put.ensures).short
 
 pub returns : goal.returns
 returns g c =
     let rows = c.args.rows.now in
-    last c.put_each_row.result (map row_line rows) refl (turn (c.write_rows.new.line ∷ []) (map row_line rows) (ap (λ (l : List ℕ). l ∷ map row_line rows) (sym c.write_rows.ensures)) (begin (g.K.Sink.got c.args.out.now) (g.K.Sink.faults c.args.out.now) (rows_lines rows) c.requires) c.in_ok-put.ensures) c.put_each_row.ensures
+    last c.put_each.result (map row_line rows) refl (turn (c.write_rows.new.line ∷ []) (map row_line rows) (ap (λ (l : List ℕ). l ∷ map row_line rows) (sym c.write_rows.ensures)) (begin (g.K.Sink.got c.args.out.now) (g.K.Sink.faults c.args.out.now) (rows_lines rows) c.requires) c.in_ok-put.ensures) c.put_each.ensures

@@ -20,8 +20,8 @@ returns-in_err-put g c =
     let start = begin (g.K.Sink.got c.args.out.now) (g.K.Sink.faults c.args.out.now) (tree_lines (part_word c.args.part) (Some tree)) c.requires in
     stop_at c.from_residual.result c.from_residual.ensures.0 (c.write_tree.new.line ∷ []) (map entry_line tree.tree) step start c.in_err-put.ensures
 
-pub put_each_entry-requires : goal.put_each_entry-requires
-put_each_entry-requires g c =
+pub put_each-requires : goal.put_each-requires
+put_each-requires g c =
     let tree = c.args.tree.now in
     let entries = c.as_slice-entries.result.now in
     let same = c.as_slice-entries.ensures.entries in
@@ -40,4 +40,4 @@ returns g c =
     let step = ap (λ (l : List ℕ). l ∷ map entry_line tree.tree) (sym line) in
     let start = begin (g.K.Sink.got c.args.out.now) (g.K.Sink.faults c.args.out.now) (tree_lines (part_word c.args.part) (Some tree)) c.requires in
     let first = turn (c.write_tree.new.line ∷ []) (map entry_line tree.tree) step start c.in_ok-put.ensures in
-    last c.put_each_entry.result (map entry_line entries) (ap (λ (es : List Entry). map entry_line es) (sym same)) first c.put_each_entry.ensures
+    last c.put_each.result (map entry_line entries) (ap (λ (es : List Entry). map entry_line es) (sym same)) first c.put_each.ensures

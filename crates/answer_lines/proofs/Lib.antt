@@ -1,0 +1,10 @@
+pub mod Chains
+pub mod EntryWords
+pub mod FirstLines
+pub mod LineEntries
+pub mod LineFronts
+pub mod LineWords
+pub mod NumberWords
+pub mod PartOrder
+pub mod RatioWords
+pub mod SpacedWords

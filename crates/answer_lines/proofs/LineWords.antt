@@ -1,0 +1,28 @@
+-- The words of the lines of an answer.
+use Rattle.std.proofs.Common.{◌≡◌, ℕ, List, [], ◌∷◌, map, codes, refl}
+use Rattle.std.proofs.lemmas.List.Elements.{All-cons}
+use Rattle.cost_base.specs.Decimal.{decimal}
+use Rattle.path_rows.specs.declared.form.Row.{Row}
+use Rattle.path_rows.specs.Text.{row_line}
+use Rattle.text_lines.specs.Numbers.{split}
+use Rattle.evidence_text.specs.Parts.{part_word, tree_line}
+use Rattle.evidence_text.specs.declared.TreePart.{TreePart}
+use Rattle.evidence_text.specs.declared.TreePart.TheVariants.{Proof, Unfinished}
+use Rattle.answer_lines.specs.Words.{IsSpaceless}
+use Rattle.answer_lines.proofs.SpacedWords.{spaceless-from, numbers-spaceless, to-words}
+
+part-spaceless : (part : TreePart) → IsSpaceless (part_word part)
+part-spaceless Proof = spaceless-from (codes "proof") refl
+part-spaceless Unfinished = spaceless-from (codes "open") refl
+
+-- the words of the head of a tree
+pub tree-words : (line : List ℕ) (part : TreePart) (cap count : ℕ) → line ≡ tree_line part cap count → split 32 line ≡ part_word part ∷ decimal cap ∷ decimal count ∷ []
+tree-words line part cap count e =
+    to-words line (part_word part) (decimal cap ∷ decimal count ∷ []) e
+    (All-cons IsSpaceless (part_word part) (decimal cap ∷ decimal count ∷ []) (part-spaceless part) (numbers-spaceless (cap ∷ count ∷ [])))
+
+-- the words of a row
+pub row-words : (line : List ℕ) (row : Row) → line ≡ row_line row → split 32 line ≡ codes "row" ∷ map decimal (row.request ∷ row.rival.edges)
+row-words line row e =
+    to-words line (codes "row") (map decimal (row.request ∷ row.rival.edges)) e
+    (All-cons IsSpaceless (codes "row") (map decimal (row.request ∷ row.rival.edges)) (spaceless-from (codes "row") refl) (numbers-spaceless (row.request ∷ row.rival.edges)))

@@ -1,0 +1,12 @@
+pub mod Beginnings
+pub mod BegunCosts
+pub mod BegunEntries
+pub mod BegunKinds
+pub mod BegunNames
+pub mod BegunNumbers
+pub mod BegunPlaces
+pub mod BegunRatios
+pub mod BegunRows
+pub mod BegunTrees
+pub mod BegunWords
+pub mod Either

@@ -1,0 +1,11 @@
+use Rattle.begun_lines.specs.BegunLines.{IsRatio}
+use Rattle.begun_lines.proofs.BegunWords.{no_step, step_behind, ratio_word-spaceless}
+use Rattle.begun_lines.proofs.begun.Begun.ratio.Goals as goal
+
+pub returns-in_err-missing : goal.returns-in_err-missing
+returns-in_err-missing c =
+    rw c.from_residual.ensures (no_step IsRatio c.args.self c.first_word.result.now c.first_word.ensures.0 c.first_word.ensures.1 c.in_err-missing.ensures)
+
+pub returns : goal.returns
+returns c =
+    step_behind IsRatio ratio_word-spaceless c.args.self c.first_word.result.now c.first_word.ensures.0 c.in_ok-missing.missing c.in_ok-missing.ensures c.first_word.ensures.1 c.behind.result c.behind.ensures

@@ -1,0 +1,6 @@
+use Rattle.begun_lines.proofs.Either.{through}
+use Rattle.begun_lines.proofs.BegunPlaces.{interface-begun}
+use Rattle.begun_lines.proofs.places.begins_interface.Goals as goal
+
+pub returns : goal.returns
+returns c = λ router. through c.begins_name.ensures (interface-begun c.args.rest.now router)

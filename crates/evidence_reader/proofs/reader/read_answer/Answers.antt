@@ -1,0 +1,89 @@
+use Rattle.std.proofs.Common.{◌≡◌, List, All, sym, subst}
+use Rattle.std.proofs.lemmas.Result.{err_from_is_err_and}
+use Rattle.path_rows.specs.declared.form.Row.{Row}
+use Rattle.path_rows.specs.Answers.{AnswerParts}
+use Rattle.answer_lines.specs.Grammar.{AtRows, AtRow}
+use Rattle.answer_lines.specs.Going.{Goes}
+use Rattle.evidence_text.specs.Parts.{rows_lines}
+use Rattle.evidence_reader.proofs.Going.{stop-then}
+use Rattle.evidence_reader.proofs.WholeText.{stop_at_start, parts_read, text_read, answer_kept}
+use Rattle.evidence_reader.proofs.reader.read_answer.Goals as goal
+
+pub returns-in_err-verdict-clause-stopped : goal.returns-in_err-verdict-clause-stopped
+returns-in_err-verdict-clause-stopped c =
+    let p = err_from_is_err_and c.from_residual.result c.from_residual.ensures.1 in
+    rw (p.1, p.2)
+    (stop_at_start c.new-text.result.read c.new-text.result.left.now c.args.bytes.now _ c.new-text.ensures.read c.new-text.ensures.left
+    c.in_err-verdict.ensures)
+
+pub returns-in_err-priced-clause-stopped : goal.returns-in_err-priced-clause-stopped
+returns-in_err-priced-clause-stopped c =
+    let p = err_from_is_err_and c.from_residual-in_err-priced.result c.from_residual-in_err-priced.ensures.1 in
+    rw (p.1, p.2)
+    (stop_at_start c.new-text.result.read c.new-text.result.left.now c.args.bytes.now _ c.new-text.ensures.read c.new-text.ensures.left
+    (stop-then _ c.in_ok-verdict.ensures c.in_err-priced.ensures))
+
+pub returns-in_err-rows-clause-stopped : goal.returns-in_err-rows-clause-stopped
+returns-in_err-rows-clause-stopped c =
+    let p = err_from_is_err_and c.from_residual-in_err-rows.result c.from_residual-in_err-rows.ensures.1 in
+    rw (p.1, p.2)
+    (stop_at_start c.new-text.result.read c.new-text.result.left.now c.args.bytes.now _ c.new-text.ensures.read c.new-text.ensures.left
+    (stop-then _ c.in_ok-verdict.ensures (stop-then _ c.in_ok-priced.ensures.1 c.in_err-rows.ensures)))
+
+pub returns-in_err-proof-clause-stopped : goal.returns-in_err-proof-clause-stopped
+returns-in_err-proof-clause-stopped c =
+    let p = err_from_is_err_and c.from_residual-in_err-proof.result c.from_residual-in_err-proof.ensures.1 in
+    rw (p.1, p.2)
+    (stop_at_start c.new-text.result.read c.new-text.result.left.now c.args.bytes.now _ c.new-text.ensures.read c.new-text.ensures.left
+    (stop-then _ c.in_ok-verdict.ensures (stop-then _ c.in_ok-priced.ensures.1 (stop-then _ c.in_ok-rows.ensures.0 c.in_err-proof.ensures))))
+
+pub returns-in_err-unfinished-clause-stopped : goal.returns-in_err-unfinished-clause-stopped
+returns-in_err-unfinished-clause-stopped c =
+    let p = err_from_is_err_and c.from_residual-in_err-unfinished.result c.from_residual-in_err-unfinished.ensures.1 in
+    rw (p.1, p.2)
+    (stop_at_start c.new-text.result.read c.new-text.result.left.now c.args.bytes.now _ c.new-text.ensures.read c.new-text.ensures.left
+    (stop-then _ c.in_ok-verdict.ensures (stop-then _ c.in_ok-priced.ensures.1 (stop-then _ c.in_ok-rows.ensures.0 (stop-then _ c.in_ok-proof.ensures.1 c.in_err-unfinished.ensures)))))
+
+pub returns-in_err-read_end-clause-stopped : goal.returns-in_err-read_end-clause-stopped
+returns-in_err-read_end-clause-stopped c =
+    let p = err_from_is_err_and c.from_residual-in_err-read_end.result c.from_residual-in_err-read_end.ensures.1 in
+    rw (p.1, p.2)
+    (stop_at_start c.new-text.result.read c.new-text.result.left.now c.args.bytes.now _ c.new-text.ensures.read c.new-text.ensures.left
+    (stop-then _ c.in_ok-verdict.ensures (stop-then _ c.in_ok-priced.ensures.1 (stop-then _ c.in_ok-rows.ensures.0 (stop-then _ c.in_ok-proof.ensures.1 (stop-then _ c.in_ok-unfinished.ensures.1 c.in_err-read_end.ensures))))))
+
+pub returns-clause-read : goal.returns-clause-read
+returns-clause-read c =
+    let answer : AnswerParts =
+    record {
+      verdict = c.in_ok-verdict.verdict;
+      costs = c.in_ok-priced.priced.costs;
+      floor = c.in_ok-priced.priced.floor;
+      rows = c.from_items.result;
+      proof = c.in_ok-proof.proof;
+      unfinished = c.in_ok-unfinished.unfinished;
+    } in
+    let rows =
+    subst (λ (l : List Row). Goes AtRows c.in_ok-priced.behind_costs (rows_lines l) (AtRow 0) c.in_ok-rows.behind_rows) (sym c.from_items.ensures) c.in_ok-rows.ensures.0 in
+    let read =
+    parts_read answer c.in_ok-verdict.ensures c.in_ok-priced.ensures.1 rows c.in_ok-proof.ensures.1 c.in_ok-unfinished.ensures.1 c.in_ok-read_end.ensures.1 in
+    text_read answer c.new-text.result.read c.new-text.result.left.now c.args.bytes.now c.new-text.ensures.left read
+
+pub returns-clause-starts : goal.returns-clause-starts
+returns-clause-starts c = subst (λ (l : List Row). All (λ row. row.rival.start ≡ 0) l) (sym c.from_items.ensures) c.in_ok-rows.ensures.1
+
+pub invariant_of-result : goal.invariant_of-result
+invariant_of-result c =
+    let answer : AnswerParts =
+    record {
+      verdict = c.in_ok-verdict.verdict;
+      costs = c.in_ok-priced.priced.costs;
+      floor = c.in_ok-priced.priced.floor;
+      rows = c.from_items.result;
+      proof = c.in_ok-proof.proof;
+      unfinished = c.in_ok-unfinished.unfinished;
+    } in
+    let rows =
+    subst (λ (l : List Row). Goes AtRows c.in_ok-priced.behind_costs (rows_lines l) (AtRow 0) c.in_ok-rows.behind_rows) (sym c.from_items.ensures) c.in_ok-rows.ensures.0 in
+    let read =
+    parts_read answer c.in_ok-verdict.ensures c.in_ok-priced.ensures.1 rows c.in_ok-proof.ensures.1 c.in_ok-unfinished.ensures.1 c.in_ok-read_end.ensures.1 in
+    answer_kept answer c.in_ok-priced.ensures.0 c.in_ok-proof.ensures.0 c.in_ok-unfinished.ensures.0 read

@@ -1,0 +1,23 @@
+use Rattle.std.proofs.Common.{refl}
+use Rattle.std.proofs.lemmas.Result.{err_from_is_err_and, MatchResult-weaker}
+use Rattle.evidence_reader.proofs.Going.{stop-then}
+use Rattle.evidence_reader.proofs.SectionLines.{words_read}
+use Rattle.evidence_text.specs.Parts.{interface_line}
+use Rattle.evidence_reader.proofs.stage_sections.cost_of_router.Goals as goal
+
+pub returns-in_err-interface : goal.returns-in_err-interface
+returns-in_err-interface c =
+    let p = err_from_is_err_and c.from_residual.result c.from_residual.ensures.1 in
+    rw (p.1, p.2) (c.in_err-interface.ensures c.args.router.now)
+
+pub cost_of_interface-requires-clause-interface : goal.cost_of_interface-requires-clause-interface
+cost_of_interface-requires-clause-interface c = (c.in_ok-interface.ensures c.args.router.now).0
+
+pub returns : goal.returns
+returns c =
+    let router = c.args.router.now in
+    let interface = c.in_ok-interface.interface.now in
+    let first = (c.in_ok-interface.ensures router).1 in
+    MatchResult-weaker c.cost_of_interface.result c.cost_of_interface.ensures
+    (λ r h. (h.0, h.2, words_read router interface (interface_line interface) r.0 refl h.1 first h.3))
+    (λ stop h. stop-then stop first h)

@@ -1,0 +1,20 @@
+use Rattle.std.proofs.Common.{◌≡◌, All, None, length}
+use Rattle.std.specs.Prelude.{IfSome}
+use Rattle.std.specs.Option.{option_copied}
+use Rattle.cost_base.specs.Words.{IsOneWord}
+use Rattle.path_rows.specs.Text.{cost_lines, FitsCostLine}
+use Rattle.answer_lines.specs.Grammar.{AtSections}
+use Rattle.answer_lines.specs.Going.{Goes}
+use Rattle.evidence_reader.proofs.SectionLines.{router_before}
+use Rattle.evidence_reader.proofs.stage_sections.read_sections.Given as goal
+
+abbrev pub invariant-loop-lines : goal.invariant-loop-lines
+invariant-loop-lines l = record {
+  goes : Goes (AtSections None) l.text (cost_lines None l.lines.items) (AtSections (option_copied l.before)) l.left;
+  fits : All FitsCostLine l.lines.items;
+  last : option_copied l.before ≡ router_before None l.lines.items;
+  word : IfSome (option_copied l.before) IsOneWord;
+}
+
+abbrev pub decreases-loop-lines : goal.decreases-loop-lines
+decreases-loop-lines l = length l.left.left.now

@@ -1,0 +1,54 @@
+//! What is wrong with a text where no lawful line stands first.
+ghost use Rattle.std.specs.Prelude.{◌≡◌, ◌≢◌, [], IsTrue, ◌↔◌, MatchResult};
+ghost use Rattle.answer_lines.specs.Grammar.{Place, AfterEnd};
+ghost use Rattle.evidence_reader.specs.Refusals.{IsFault};
+ghost use Rattle.answer_lines.specs.Places.{LacksLawful, Begins};
+ghost use Rattle.evidence_reader.specs.Stops.{Stops};
+
+use crate::stop::{AnswerFault, AnswerStop};
+use answer_lines::TextLeft;
+use text_lines::cut;
+
+/// The refusal of a text where no lawful line stands first, of which it is known whether a lawful line begins with it.
+pub(crate) fn fault_at(text: TextLeft<'_>, begins: bool) -> AnswerStop
+    ensures { (place : Place) → place ≢ AfterEnd → LacksLawful place text.entry.left.now → (IsTrue begins ↔ Begins place text.entry.left.now) → Stops place text.entry result }
+{
+    AnswerStop::Refused {
+        fault: fault_kind(text.left, begins),
+        line: text.read + 1,
+    }
+}
+
+/// Whether a line is at fault or the end of the text comes too early.
+fn fault_kind(rest: &[u8], begins: bool) -> AnswerFault
+    ensures { (place : Place) → place ≢ AfterEnd → LacksLawful place rest.now → (IsTrue begins ↔ Begins place rest.now) → IsFault place rest.now result }
+{
+    match cut(rest, b'\n') {
+        Some(_) => AnswerFault::BadAnswerLine,
+        None => {
+            if rest.is_empty() || begins {
+                AnswerFault::EarlyEnd
+            } else {
+                AnswerFault::BadAnswerLine
+            }
+        }
+    }
+}
+
+/// Nothing stands behind the `end` line.
+///
+/// # Errors
+///
+/// `Refused` where something does.
+pub(crate) fn nothing_left(text: TextLeft<'_>) -> Result<(), AnswerStop>
+    ensures { MatchResult result (λ _. text.entry.left.now ≡ []) (Stops AfterEnd text.entry) }
+{
+    if text.left.is_empty() {
+        Ok(())
+    } else {
+        Err(AnswerStop::Refused {
+            fault: AnswerFault::AfterEnd,
+            line: text.read + 1,
+        })
+    }
+}

@@ -1,0 +1,46 @@
+//! The stage of the end: the lines behind the trees, and nothing behind them.
+ghost use Rattle.std.specs.Prelude.{ℕ, zero, [], ◌∷◌, MatchResult, codes};
+ghost use Rattle.answer_lines.specs.Grammar.{AtTree, AtEnd, AfterEnd};
+ghost use Rattle.answer_lines.specs.Lawful.{IsRead};
+ghost use Rattle.evidence_text.specs.Parts.{end_lines};
+ghost use Rattle.evidence_reader.specs.Stops.{Stops};
+ghost use Rattle.answer_lines.specs.Going.{Goes};
+
+use crate::faults::{fault_at, nothing_left};
+use crate::stop::AnswerStop;
+use answer_lines::TextLeft;
+use begun_lines::{begins_end, begins_wide};
+use evidence_text::TreePart;
+
+/// The end of the text behind the unfinished tree.
+///
+/// # Errors
+///
+/// `Refused` where one of the last lines is at fault, or something stands behind them.
+pub(crate) fn read_end(text: TextLeft<'_>) -> Result<(), AnswerStop>
+    ensures { MatchResult result (λ _. (after : ℕ) × IsRead (AtTree TreePart.Unfinished zero zero) text.entry.read text.entry.left.now end_lines AfterEnd after []) (Stops (AtTree TreePart.Unfinished zero zero) text.entry) }
+{
+    let wide = wide_line(text)?;
+    let end = end_line(wide)?;
+    nothing_left(end)
+}
+
+/// The text behind the line of the wide part.
+fn wide_line(text: TextLeft<'_>) -> Result<TextLeft<'_>, AnswerStop>
+    ensures { MatchResult result (λ rest. Goes (AtTree TreePart.Unfinished zero zero) text.entry (codes "wide none" ∷ []) AtEnd rest) (Stops (AtTree TreePart.Unfinished zero zero) text.entry) }
+{
+    match text.behind(b"wide none") {
+        Some(rest) => Ok(rest),
+        None => Err(fault_at(text, begins_wide(text.left))),
+    }
+}
+
+/// The text behind the `end` line.
+fn end_line(text: TextLeft<'_>) -> Result<TextLeft<'_>, AnswerStop>
+    ensures { MatchResult result (λ rest. Goes AtEnd text.entry (codes "end" ∷ []) AfterEnd rest) (Stops AtEnd text.entry) }
+{
+    match text.behind(b"end") {
+        Some(rest) => Ok(rest),
+        None => Err(fault_at(text, begins_end(text.left))),
+    }
+}

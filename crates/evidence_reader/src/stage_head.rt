@@ -1,0 +1,44 @@
+//! The stage of the head: the first line and the verdict.
+ghost use Rattle.std.specs.Prelude.{[], ◌∷◌, MatchResult, codes};
+ghost use Rattle.answer_lines.specs.Grammar.{AtHead, AtVerdict, AtCosts};
+ghost use Rattle.evidence_text.specs.Parts.{head_lines, verdict_line};
+ghost use Rattle.evidence_reader.specs.Stops.{Stops};
+ghost use Rattle.answer_lines.specs.Going.{Goes};
+
+use crate::faults::fault_at;
+use crate::stop::AnswerStop;
+use answer_lines::{TextLeft, verdict_next};
+use begun_lines::{begins_head, begins_verdict};
+use path_rows::Verdict;
+
+/// The verdict, and the text behind its line.
+///
+/// # Errors
+///
+/// `Refused` where the first line or the verdict is at fault.
+pub(crate) fn read_head(text: TextLeft<'_>) -> Result<(Verdict, TextLeft<'_>), AnswerStop>
+    ensures { MatchResult result (λ r. Goes AtHead text.entry (head_lines r.0) AtCosts r.1) (Stops AtHead text.entry) }
+{
+    let behind = first_line(text)?;
+    verdict_at(behind)
+}
+
+/// The text behind the first line.
+fn first_line(text: TextLeft<'_>) -> Result<TextLeft<'_>, AnswerStop>
+    ensures { MatchResult result (λ rest. Goes AtHead text.entry (codes "ospfcost answer 1" ∷ []) AtVerdict rest) (Stops AtHead text.entry) }
+{
+    match text.behind(b"ospfcost answer 1") {
+        Some(rest) => Ok(rest),
+        None => Err(fault_at(text, begins_head(text.left))),
+    }
+}
+
+/// The verdict, where its line has to be the next.
+fn verdict_at(text: TextLeft<'_>) -> Result<(Verdict, TextLeft<'_>), AnswerStop>
+    ensures { MatchResult result (λ r. Goes AtVerdict text.entry (verdict_line r.0 ∷ []) AtCosts r.1) (Stops AtVerdict text.entry) }
+{
+    match verdict_next(text) {
+        Some(found) => Ok(found),
+        None => Err(fault_at(text, begins_verdict(text.left))),
+    }
+}

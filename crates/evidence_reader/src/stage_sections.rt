@@ -1,0 +1,268 @@
+//! The stage of the sections of costs, with the floor behind them.
+ghost use Rattle.std.specs.Prelude.{◌≡◌, ◌≢◌, ℕ, ◌<◌, List, [], ◌∷◌, ◌++◌, None, Some, All, MatchOption, MatchResult, IfOk, IfSome, IsTrue, ◌↔◌, codes};
+ghost use Rattle.std.specs.Option.{option_copied};
+ghost use Rattle.cost_base.specs.Words.{IsOneWord};
+ghost use Rattle.path_rows.specs.Text.{cost_lines, FitsCostLine};
+ghost use Rattle.answer_lines.specs.Grammar.{Place, Next, IsRouterNext, router_line, AtSections, AtInterface, AtCost, AtExit, AtRows};
+ghost use Rattle.path_rows.specs.Bounds.{IsCost};
+ghost use Rattle.evidence_text.specs.Parts.{interface_line, cost_line, floor_line};
+ghost use Rattle.answer_lines.specs.Places.{LacksLawful};
+ghost use Rattle.evidence_reader.specs.Stops.{Stops};
+ghost use Rattle.answer_lines.specs.Going.{Goes};
+ghost use Rattle.evidence_reader.specs.Stages.{IsSectionLine, behind_section_line, words_lines, FitsWords, section_lines, behind_section, FitsSection};
+
+use crate::faults::fault_at;
+use crate::stop::AnswerStop;
+use answer_lines::{TextLeft, floor_of, name_after, number_after};
+use begun_lines::{begins_cost, begins_exit, begins_interface, begins_section};
+use cost_base::{Name, OutOfMemory};
+use path_rows::{CostLine, Floor};
+use std::alloc::Global;
+
+/// The cost lines of an answer, and the floor behind them.
+#[derive(Drop)]
+pub(crate) struct Sections {
+    pub(crate) lines: Vec<CostLine>,
+    pub(crate) floor: Floor,
+}
+
+/// What stands next among the sections.
+#[derive(Clone, Copy)]
+enum Section<'a> {
+    /// A cost line.
+    Cost(CostWords<'a>),
+    /// The floor behind the last cost line.
+    Floor(Floor),
+}
+
+/// What a cost line says, as it stands in the text.
+#[derive(Clone, Copy)]
+struct CostWords<'a> {
+    router: &'a [u8],
+    interface: &'a [u8],
+    cost: u16,
+}
+
+/// What a line behind a cost line says.
+#[derive(Clone, Copy)]
+enum SectionLine<'a> {
+    /// A router that isn't the one before.
+    Router(&'a [u8]),
+    /// The router before, and a further interface of it.
+    Interface(&'a [u8], &'a [u8]),
+    /// The floor.
+    Floor(Floor),
+}
+
+/// The cost lines and the floor, and the text behind them.
+///
+/// # Errors
+///
+/// - `Refused` where one of their lines is at fault.
+/// - `OutOfMemory` where a growth was refused.
+pub(crate) fn read_sections(
+    alloc: Global,
+    text: TextLeft<'_>,
+) -> Result<(Sections, TextLeft<'_>), AnswerStop>
+    ensures { MatchResult result (λ r. All FitsCostLine r.0.lines.items × Goes (AtSections None) text.entry (cost_lines None r.0.lines.items ++ floor_line r.0.floor ∷ []) AtRows r.1) (Stops (AtSections None) text.entry) }
+{
+    let mut lines = Vec::new(alloc);
+    let mut before = None;
+    let mut left = text;
+    loop {
+        let (section, rest) = next_section(left, before)?;
+        match section {
+            Section::Floor(floor) => return Ok((Sections { lines, floor }, rest)),
+            Section::Cost(words) => {
+                lines.push(cost_line_of(alloc, words)?)?;
+                before = Some(words.router);
+                left = rest;
+            }
+        }
+    }
+}
+
+/// The cost line that these words say.
+fn cost_line_of(alloc: Global, words: CostWords<'_>) -> Result<CostLine, OutOfMemory>
+    ensures { IfOk result (λ line. line ≡ record { router = words.entry.router.now; interface = words.entry.interface.now; cost = words.entry.cost }) }
+{
+    let router = Name::from_bytes(alloc, words.router)?;
+    let interface = Name::from_bytes(alloc, words.interface)?;
+    Ok(CostLine {
+        router,
+        interface,
+        cost: words.cost,
+    })
+}
+
+/// The next cost line, or the floor behind the last one, and the text behind it.
+fn next_section<'a>(
+    text: TextLeft<'a>,
+    before: Option<&'a [u8]>,
+) -> Result<(Section<'a>, TextLeft<'a>), AnswerStop>
+    requires { IfSome (option_copied before) IsOneWord }
+    ensures { MatchResult result (λ r. FitsSection r.0 × Goes (AtSections (option_copied before.entry)) text.entry (section_lines (option_copied before.entry) r.0) (behind_section r.0) r.1) (Stops (AtSections (option_copied before.entry)) text.entry) }
+{
+    let (line, rest) = section_line_at(text, before)?;
+    match line {
+        SectionLine::Router(router) => {
+            let (words, rest) = cost_of_router(router, rest)?;
+            Ok((Section::Cost(words), rest))
+        }
+        SectionLine::Interface(router, interface) => {
+            let (words, rest) = cost_of_interface(router, interface, rest)?;
+            Ok((Section::Cost(words), rest))
+        }
+        SectionLine::Floor(floor) => Ok((Section::Floor(floor), rest)),
+    }
+}
+
+/// What a line among the sections says, where one has to be the next.
+fn section_line_at<'a>(
+    text: TextLeft<'a>,
+    before: Option<&'a [u8]>,
+) -> Result<(SectionLine<'a>, TextLeft<'a>), AnswerStop>
+    ensures { MatchResult result (λ r. (line : List ℕ) × IsSectionLine (option_copied before.entry) line r.0 × Goes (AtSections (option_copied before.entry)) text.entry (line ∷ []) (behind_section_line r.0) r.1) (Stops (AtSections (option_copied before.entry)) text.entry) }
+{
+    match section_line_next(text, before) {
+        Some(found) => Ok(found),
+        None => Err(fault_at(text, begins_section(text.left, before))),
+    }
+}
+
+/// What a line among the sections says, where one is the next.
+fn section_line_next<'a>(
+    text: TextLeft<'a>,
+    before: Option<&'a [u8]>,
+) -> Option<(SectionLine<'a>, TextLeft<'a>)>
+    ensures { MatchOption result (LacksLawful (AtSections (option_copied before.entry)) text.entry.left.now) (λ r. (line : List ℕ) × IsSectionLine (option_copied before.entry) line r.0 × Goes (AtSections (option_copied before.entry)) text.entry (line ∷ []) (behind_section_line r.0) r.1) }
+{
+    let (line, rest) = text.line()?;
+    let said = section_line_of(line, before)?;
+    Some((said, rest))
+}
+
+/// What a line among the sections says behind the cost line of this router.
+fn section_line_of<'a>(line: &'a [u8], before: Option<&'a [u8]>) -> Option<SectionLine<'a>>
+    ensures { MatchOption result ((next : Place) → Next (AtSections (option_copied before.entry)) line.now next → ⊥) (IsSectionLine (option_copied before.entry) line.now) }
+{
+    if let Some(floor) = floor_of(line) {
+        return Some(SectionLine::Floor(floor));
+    }
+    if let Some(router) = router_of(line, before) {
+        return Some(SectionLine::Router(router));
+    }
+    let router = before?;
+    let interface = name_after(line, b"interface ")?;
+    Some(SectionLine::Interface(router, interface))
+}
+
+/// The router of a line, where it isn't the one before.
+fn router_of<'a>(line: &'a [u8], before: Option<&'a [u8]>) -> Option<&'a [u8]>
+    ensures { MatchOption result ((next : Place) → IsRouterNext (option_copied before.entry) line.now next → ⊥) (λ name. IsOneWord name.now × (option_copied before.entry ≢ Some name.now) × (line.now ≡ router_line name.now)) }
+{
+    let router = name_after(line, b"router ")?;
+    if is_same(before, router) {
+        None
+    } else {
+        Some(router)
+    }
+}
+
+/// Whether this router is the one before.
+fn is_same(before: Option<&[u8]>, router: &[u8]) -> bool
+    ensures { IsTrue result ↔ (option_copied before.entry ≡ Some router.now) }
+{
+    match before {
+        Some(name) => name == router,
+        None => false,
+    }
+}
+
+/// The cost line behind the line of its router, and the text behind it.
+fn cost_of_router<'a>(
+    router: &'a [u8],
+    text: TextLeft<'a>,
+) -> Result<(CostWords<'a>, TextLeft<'a>), AnswerStop>
+    requires { IsOneWord router.now }
+    ensures { MatchResult result (λ r. (r.0.router.now ≡ router.now) × FitsWords r.0 × Goes (AtInterface router.now) text.entry (words_lines r.0) (AtSections (Some router.now)) r.1) (Stops (AtInterface router.now) text.entry) }
+{
+    let (interface, rest) = interface_at(text)?;
+    cost_of_interface(router, interface, rest)
+}
+
+/// The cost line behind the line of its interface, and the text behind it.
+fn cost_of_interface<'a>(
+    router: &'a [u8],
+    interface: &'a [u8],
+    text: TextLeft<'a>,
+) -> Result<(CostWords<'a>, TextLeft<'a>), AnswerStop>
+    requires router { IsOneWord router.now }
+    requires interface { IsOneWord interface.now }
+    ensures { MatchResult result (λ r. (r.0.router.now ≡ router.now) × (r.0.interface.now ≡ interface.now) × FitsWords r.0 × Goes (AtCost router.now) text.entry (cost_line r.0.cost ∷ codes "exit" ∷ []) (AtSections (Some router.now)) r.1) (Stops (AtCost router.now) text.entry) }
+{
+    let (cost, rest) = cost_at(text)?;
+    let rest = exit_at(rest)?;
+    let words = CostWords {
+        router,
+        interface,
+        cost,
+    };
+    Ok((words, rest))
+}
+
+/// The interface whose line has to be the next, and the text behind it.
+fn interface_at(text: TextLeft<'_>) -> Result<(&[u8], TextLeft<'_>), AnswerStop>
+    ensures { (router : List ℕ) → MatchResult result (λ r. IsOneWord r.0.now × Goes (AtInterface router) text.entry (interface_line r.0.now ∷ []) (AtCost router) r.1) (Stops (AtInterface router) text.entry) }
+{
+    match interface_next(text) {
+        Some(found) => Ok(found),
+        None => Err(fault_at(text, begins_interface(text.left))),
+    }
+}
+
+/// The interface whose line is the next, and the text behind it.
+fn interface_next(text: TextLeft<'_>) -> Option<(&[u8], TextLeft<'_>)>
+    ensures { (router : List ℕ) → MatchOption result (LacksLawful (AtInterface router) text.entry.left.now) (λ r. IsOneWord r.0.now × Goes (AtInterface router) text.entry (interface_line r.0.now ∷ []) (AtCost router) r.1) }
+{
+    let (line, rest) = text.line()?;
+    let interface = name_after(line, b"interface ")?;
+    Some((interface, rest))
+}
+
+/// The cost whose line has to be the next, and the text behind it.
+fn cost_at(text: TextLeft<'_>) -> Result<(u16, TextLeft<'_>), AnswerStop>
+    ensures { (router : List ℕ) → MatchResult result (λ r. (0 < r.0) × Goes (AtCost router) text.entry (cost_line r.0 ∷ []) (AtExit router) r.1) (Stops (AtCost router) text.entry) }
+{
+    match cost_next(text) {
+        Some(found) => Ok(found),
+        None => Err(fault_at(text, begins_cost(text.left))),
+    }
+}
+
+/// The cost whose line is the next, and the text behind it.
+fn cost_next(text: TextLeft<'_>) -> Option<(u16, TextLeft<'_>)>
+    ensures { (router : List ℕ) → MatchOption result (LacksLawful (AtCost router) text.entry.left.now) (λ r. (0 < r.0) × Goes (AtCost router) text.entry (cost_line r.0 ∷ []) (AtExit router) r.1) }
+{
+    let (line, rest) = text.line()?;
+    let cost = cost_of(line)?;
+    Some((cost, rest))
+}
+
+/// The cost that a line says.
+fn cost_of(line: &[u8]) -> Option<u16>
+    ensures { MatchOption result ((cost : ℕ) → 0 < cost → IsCost cost → line.now ≢ cost_line cost) (λ cost. (0 < cost) × (line.now ≡ cost_line cost)) }
+{
+    let cost = number_after(line, b" ip ospf cost ", 65_535)?;
+    if cost == 0 { None } else { Some(cost as u16) }
+}
+
+/// The text behind the line that closes an interface.
+fn exit_at(text: TextLeft<'_>) -> Result<TextLeft<'_>, AnswerStop>
+    ensures { (router : List ℕ) → MatchResult result (λ rest. Goes (AtExit router) text.entry (codes "exit" ∷ []) (AtSections (Some router)) rest) (Stops (AtExit router) text.entry) }
+{
+    match text.behind(b"exit") {
+        Some(rest) => Ok(rest),
+        None => Err(fault_at(text, begins_exit(text.left))),
+    }
+}

@@ -1,4 +1,0 @@
-use Rattle.evidence_text.proofs.begun.begins_interface_again.Goals as goal
-
-pub returns-in-Some : goal.returns-in-Some
-returns-in-Some c = rw c.in-Some.is (c.begins_interface.ensures c.in-Some.field-0.now)

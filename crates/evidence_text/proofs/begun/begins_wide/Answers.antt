@@ -1,9 +1,0 @@
-use Rattle.std.proofs.Common.{zero, codes, refl, arith}
-use Rattle.evidence_text.specs.Grammar.{AtEnd, AtTree}
-use Rattle.evidence_text.specs.declared.TreePart.TheVariants.{Unfinished}
-use Rattle.evidence_text.proofs.Either.{through}
-use Rattle.evidence_text.proofs.BegunPlaces.{wanted-begun}
-use Rattle.evidence_text.proofs.begun.begins_wide.Goals as goal
-
-pub returns : goal.returns
-returns c = through c.begins_line.ensures (wanted-begun (AtTree Unfinished zero zero) AtEnd c.args.rest.now (codes "wide none") (omega arith) (refl, refl) (λ l n is. is.0))

@@ -1,7 +1,0 @@
-use Rattle.std.proofs.Common.{◌≡◌, codes}
-use Rattle.evidence_text.specs.BegunLines.{Alone, IsNumber, rows_from}
-use Rattle.evidence_text.proofs.BegunWords.{goes}
-use Rattle.evidence_text.proofs.begun_entries.ends_with_row.Goals as goal
-
-pub returns-in-Some : goal.returns-in-Some
-returns-in-Some c = goes (λ w. w ≡ codes "row") (Alone (IsNumber (rows_from 0))) c.args.line c.in-Some.at_row c.in-Some.ensures (λ x. x) c.last_number.result c.last_number.ensures

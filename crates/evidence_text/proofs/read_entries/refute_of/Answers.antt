@@ -1,8 +1,0 @@
-use Rattle.std.proofs.Common.{sym, ◌∙◌}
-use Rattle.evidence_text.specs.Words.{words_left}
-use Rattle.evidence_text.proofs.EntryWords.{only_refute, parts-some}
-use Rattle.evidence_text.proofs.read_entries.refute_of.Goals as goal
-
-pub returns-then-is_done : goal.returns-then-is_done
-returns-then-is_done c =
-    only_refute (words_left c.args.words) (λ ps bounds some small e. parts-some ps some (sym e ∙ c.is_done.ensures.0 c.if-is_done.true))

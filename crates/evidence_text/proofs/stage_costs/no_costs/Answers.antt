@@ -1,5 +1,0 @@
-use Rattle.evidence_text.specs.Grammar.{AtFloor}
-use Rattle.evidence_text.proofs.stage_costs.no_costs.Goals as goal
-
-pub returns-in-None : goal.returns-in-None
-returns-in-None c = c.fault_at.ensures AtFloor (λ e. cc) c.in-None.ensures c.begins_floor.ensures

@@ -1,5 +1,0 @@
-use Rattle.evidence_text.specs.Grammar.{AtVerdict}
-use Rattle.evidence_text.proofs.stage_head.verdict_at.Goals as goal
-
-pub returns-in-None : goal.returns-in-None
-returns-in-None c = c.fault_at.ensures AtVerdict (λ e. cc) c.in-None.ensures c.begins_verdict.ensures

@@ -1,5 +1,0 @@
-use Rattle.evidence_text.specs.Grammar.{AtRows}
-use Rattle.evidence_text.proofs.stage_rows.rows_count.Goals as goal
-
-pub returns-in-None : goal.returns-in-None
-returns-in-None c = c.fault_at.ensures AtRows (λ e. cc) c.in-None.ensures c.begins_rows.ensures

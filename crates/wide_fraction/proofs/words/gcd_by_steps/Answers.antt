@@ -1,6 +1,0 @@
-use Rattle.std.proofs.Common.{sym, ◌∙◌}
-use Rattle.whole_numbers.proofs.Divisors.{gcd_step}
-use Rattle.wide_fraction.proofs.words.gcd_by_steps.Goals as goal
-
-pub loop-smaller-preserved : goal.loop-smaller-preserved
-loop-smaller-preserved c = sym (gcd_step c.loop-smaller.larger c.loop-smaller.smaller) ∙ c.loop-smaller.invariant

@@ -1,9 +1,0 @@
-use Rattle.std.proofs.Common.{◌≡◌}
-use Rattle.whole_numbers.specs.Fractions.{gcd}
-use Rattle.wide_fraction.proofs.words.gcd_of_words.Given as goal
-
-abbrev pub invariant-loop-smaller : goal.invariant-loop-smaller
-invariant-loop-smaller l = gcd l.larger l.smaller ≡ gcd l.left l.right
-
-abbrev pub decreases-loop-smaller : goal.decreases-loop-smaller
-decreases-loop-smaller l = l.smaller
