@@ -11,12 +11,8 @@ use Rattle.area_graph.specs.Area.{Area}
 use Rattle.area_graph.specs.Paths.{IsPathOf}
 use Rattle.area_graph.specs.Costs.{FitsPoint, IsPriced, IsOnlyCheapest, at_costs, cost}
 use Rattle.spf_ties.specs.Distances.{IsLeast}
-use Rattle.lsdb_build.specs.Graphs.{Database}
 use Rattle.path_rows.specs.declared.problem.Request.{Request}
 use Rattle.path_rows.specs.Problems.{DesignProblem, IsProblem, ends_of}
-use Rattle.path_requests.specs.Meaning.{Asked}
-use Rattle.path_requests.specs.Resolving.{present_problem_of}
-use Rattle.path_requests.proofs.Present.{none_owned}
 use Rattle.designer_command.specs.declared.audit.Standing.TheVariants.{Tied, Beaten}
 use Rattle.designer_command.specs.declared.audit.AuditedPath.{AuditedPath}
 use Rattle.designer_command.specs.Texts.{bytes_of}
@@ -24,9 +20,6 @@ use Rattle.designer_command.specs.Audits.{StandsAs, standing_by, IsAudited, audi
 use Rattle.designer_command.proofs.Pieces.{bytes_more}
 
 -- The present problem has no variable.
-
-pub present_low : (a : Asked) (d : Database) → (present_problem_of a d).low ≡ []
-present_low a d = rw (none_owned a d) refl
 
 -- fixed costs fit a problem without variables
 pub fixed_fits : (p : DesignProblem) → IsProblem p → p.low ≡ [] → FitsPoint p.graph (at_costs [])

@@ -6,19 +6,19 @@ use Rattle.path_rows.specs.Rows.{IsFit}
 use Rattle.path_rows.specs.Answers.{AnswerParts}
 use Rattle.path_rows.specs.Text.{text}
 use Rattle.lsdb_build.specs.Graphs.{IsDatabase}
-use Rattle.designer_command.specs.declared.problem.View.TheVariants.{AsRequested}
-use Rattle.designer_command.specs.Inputs.{InputFiles}
-use Rattle.designer_command.specs.Outcomes.{Reading, Untold, Refused, Ready, outcome, OnReady}
+use Rattle.input_files.specs.declared.problem.View.TheVariants.{AsRequested}
+use Rattle.input_files.specs.Inputs.{InputFiles}
+use Rattle.input_files.specs.Outcomes.{Reading, Untold, Refused, Ready, outcome, OnReady}
 use Rattle.cost_base.specs.declared.Status.{Status}
 use Rattle.cost_base.specs.declared.Status.TheVariants as status
 use Rattle.designer_command.specs.Texts.{corner_line}
 use Rattle.designer_command.specs.Designs.{IsDesigned}
 use Rattle.designer_command.specs.Runs.{MayDesign, Ends}
-use Rattle.designer_command.specs.Stops.{IsEnd}
+use Rattle.input_files.specs.Stops.{IsEnd}
 use Rattle.designer_command.proofs.Runs.{end_meets}
 use Rattle.designer_command.specs.Corners.{AnswersLow}
 use Rattle.designer_command.proofs.Readings.{ready_so}
-use Rattle.designer_command.proofs.ReadyInputs.{ready_is}
+use Rattle.input_files.proofs.ReadyInputs.{ready_is}
 use Rattle.designer_command.proofs.DesignedLaws.{designed_is}
 
 -- what is ready, with what made it so

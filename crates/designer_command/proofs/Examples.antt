@@ -10,9 +10,9 @@ use Rattle.path_requests.specs.declared.Wish.TheVariants.{FreeAll, Path}
 use Rattle.path_requests.specs.Meaning.{Asked}
 use Rattle.text_lines.specs.Lines.{lines}
 use Rattle.path_requests.specs.Reading.{request_fault, asked_by}
-use Rattle.designer_command.specs.declared.problem.View.TheVariants.{AsRequested}
-use Rattle.designer_command.specs.Inputs.{InputFiles}
-use Rattle.designer_command.specs.Outcomes.{Input, Refused, Ready, outcome}
+use Rattle.input_files.specs.declared.problem.View.TheVariants.{AsRequested}
+use Rattle.input_files.specs.Inputs.{InputFiles}
+use Rattle.input_files.specs.Outcomes.{Input, Refused, Ready, outcome}
 use Rattle.designer_command.specs.ReadBack.{section, graph_back}
 
 abbrev config : List ℕ → List ℕ

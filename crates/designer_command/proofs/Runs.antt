@@ -15,9 +15,9 @@ use Rattle.command_words.specs.declared.job.Job.TheVariants as jobs
 use Rattle.command_words.specs.Jobs.{JobRead, seen}
 use Rattle.command_words.specs.Jobs as read
 use Rattle.designer_command.specs.Texts.{refused_line, read_fault_line, usage}
-use Rattle.designer_command.specs.Outcomes.{Reading}
+use Rattle.input_files.specs.Outcomes.{Reading}
 use Rattle.designer_command.specs.Runs.{MayStop, MayWrite, Ends}
-use Rattle.designer_command.specs.Stops.{IsEnd, StopEnds, StopsReading, refusal_in, status_after}
+use Rattle.input_files.specs.Stops.{IsEnd, StopEnds, StopsReading, refusal_in, status_after}
 use Rattle.designer_command.proofs.Readings.{refused_so}
 
 -- what was put, whole or in part, is an end

@@ -5,9 +5,9 @@ ghost use Rattle.area_graph.specs.Costs.{FitsPoint, at_costs, cost};
 ghost use Rattle.area_graph.specs.Paths.{IsPathOf};
 ghost use Rattle.spf_ties.specs.Distances.{IsRoomFor, IsLeast};
 ghost use Rattle.path_rows.specs.Problems.{ends_of};
-ghost use Rattle.designer_command.specs.Inputs.{names_of};
-ghost use Rattle.designer_command.specs.Outcomes.{OnReady, outcome};
-ghost use Rattle.designer_command.specs.Stops.{StopsReading, files_named};
+ghost use Rattle.input_files.specs.Inputs.{names_of};
+ghost use Rattle.input_files.specs.Outcomes.{OnReady, outcome};
+ghost use Rattle.input_files.specs.Stops.{StopsReading, files_named};
 ghost use Rattle.designer_command.specs.Texts.{bytes_of};
 ghost use Rattle.designer_command.specs.Audits.{IsAudit, IsAudited, audit_line, audit_lines, standing_by, standing_word};
 

@@ -4,9 +4,9 @@ ghost use Rattle.path_rows.specs.Rows.{IsFit};
 ghost use Rattle.path_rows.specs.Text.{text};
 ghost use Rattle.designer_command.specs.Corners.{AnswersLow};
 ghost use Rattle.designer_command.specs.Designs.{IsDesigned};
-ghost use Rattle.designer_command.specs.Inputs.{names_of};
-ghost use Rattle.designer_command.specs.Outcomes.{OnReady, outcome};
-ghost use Rattle.designer_command.specs.Stops.{StopsReading, files_named};
+ghost use Rattle.input_files.specs.Inputs.{names_of};
+ghost use Rattle.input_files.specs.Outcomes.{OnReady, outcome};
+ghost use Rattle.input_files.specs.Stops.{StopsReading, files_named};
 
 use crate::corner::corner_is_fit;
 use crate::floor::floor_answer;

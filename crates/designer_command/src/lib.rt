@@ -14,8 +14,6 @@ mod rejection;
 mod rewrite;
 mod rivals;
 mod stop;
-#[cfg(test)]
-mod tests;
 mod top_call;
 
 pub use top_call::run;

@@ -5,7 +5,7 @@ ghost use Rattle.command_words.specs.Words.{texts};
 ghost use Rattle.designer_command.specs.Runs.{Ends, MayAudit, MayCheck, MayDesign, MayRewrite, MayWrite, RunMeets};
 ghost use Rattle.path_rows.specs.Text.{text};
 ghost use Rattle.designer_command.specs.Texts.{corner_line};
-ghost use Rattle.designer_command.specs.Stops.{IsEnd, JudgementEnds, RevisedEnds, StopEnds, files_named, status_after};
+ghost use Rattle.input_files.specs.Stops.{IsEnd, JudgementEnds, RevisedEnds, StopEnds, files_named, status_after};
 ghost use Rattle.std.specs.Prelude.{Some};
 
 use crate::audit::audit_files;

@@ -1,5 +1,5 @@
 -- What was found at the lower bounds of the problem that was read is the design's.
-use Rattle.designer_command.specs.Stops.{files_named}
+use Rattle.input_files.specs.Stops.{files_named}
 use Rattle.designer_command.proofs.DesignRuns.{low_found}
 use Rattle.designer_command.proofs.design.design.Goals as goal
 

@@ -4,12 +4,12 @@ use Rattle.std.specs.Prelude.{Vec, OnOk, OnErr}
 use Rattle.std.specs.declared.alloc.Global.{Global}
 use Rattle.cost_base.specs.Outside.{GotWhole, GotPart}
 use Rattle.cost_base.specs.declared.Status.TheVariants as status
-use Rattle.designer_command.specs.declared.problem.View.TheVariants.{AtPresent}
-use Rattle.designer_command.specs.Inputs.{names_of}
-use Rattle.designer_command.specs.Outcomes.{outcome}
+use Rattle.input_files.specs.declared.problem.View.TheVariants.{AtPresent}
+use Rattle.input_files.specs.Inputs.{names_of}
+use Rattle.input_files.specs.Outcomes.{outcome}
 use Rattle.designer_command.specs.Texts.{bytes_of}
 use Rattle.designer_command.specs.Runs.{MayAudit}
-use Rattle.designer_command.specs.Stops.{files_named}
+use Rattle.input_files.specs.Stops.{files_named}
 use Rattle.designer_command.proofs.Runs.{put_meets, stop_meets}
 use Rattle.designer_command.proofs.top_call.run_audit.Goals as goal
 

@@ -1,9 +1,9 @@
 -- What is put ends a check as its files allow.
 use Rattle.std.proofs.Common.{◌∷◌, string_bytes}
-use Rattle.designer_command.specs.Inputs.{names_of}
-use Rattle.designer_command.specs.Checks.{claim_read}
+use Rattle.input_files.specs.Inputs.{names_of}
+use Rattle.answer_commands.specs.Checks.{claim_read}
 use Rattle.designer_command.specs.Runs.{MayCheck}
-use Rattle.designer_command.specs.Stops.{files_named}
+use Rattle.input_files.specs.Stops.{files_named}
 use Rattle.designer_command.proofs.Claims.{judgement_meets}
 use Rattle.designer_command.proofs.Runs.{stop_meets}
 use Rattle.designer_command.proofs.top_call.run_check.Goals as goal

@@ -1,9 +1,9 @@
 -- What is put ends a design as its files allow.
-use Rattle.designer_command.specs.declared.problem.View.TheVariants.{AsRequested}
-use Rattle.designer_command.specs.Inputs.{names_of}
-use Rattle.designer_command.specs.Outcomes.{outcome}
+use Rattle.input_files.specs.declared.problem.View.TheVariants.{AsRequested}
+use Rattle.input_files.specs.Inputs.{names_of}
+use Rattle.input_files.specs.Outcomes.{outcome}
 use Rattle.designer_command.specs.Runs.{MayDesign}
-use Rattle.designer_command.specs.Stops.{files_named}
+use Rattle.input_files.specs.Stops.{files_named}
 use Rattle.designer_command.proofs.DesignRuns.{found_meets}
 use Rattle.designer_command.proofs.Runs.{stop_meets}
 use Rattle.designer_command.proofs.top_call.run_design.Goals as goal

@@ -1,6 +1,6 @@
 -- What is put ends a rewrite as its files allow.
 use Rattle.std.proofs.Common.{[], ◌∷◌, string_bytes}
-use Rattle.designer_command.specs.Rewrites.{revision_read}
+use Rattle.answer_commands.specs.Rewrites.{revision_read}
 use Rattle.designer_command.specs.Runs.{MayRewrite}
 use Rattle.designer_command.proofs.Revisions.{revised_meets}
 use Rattle.designer_command.proofs.Runs.{stop_meets}
