@@ -49,6 +49,16 @@ loop-name-preserved g c =
       so = rw c.in-Ok.ensures.items (progress_goes names left name c.loop-name.configs.items c.in_ok-config.config before.came now.came progress now.so);
     }
 
+pub returns-in-Err : goal.returns-in-Err
+returns-in-Err g c =
+    let before = c.loop-name.invariant in
+    let now = c.in_ok-config.ensures in
+    record {
+      came = before.came ++ now.came;
+      given = g.met.S.Shelf.gave_more c.args.shelf.now c.loop-name.shelf c.read_config.new.shelf before.came now.came before.given now.given;
+      so = tt;
+    }
+
 pub returns : goal.returns
 returns g c =
     let before = c.loop-name.invariant in
