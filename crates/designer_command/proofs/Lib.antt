@@ -1,26 +1,16 @@
-pub mod Readings
-pub mod Configs
-pub mod Problems
 pub mod PresentCosts
 pub mod CheapestWith
 pub mod PrintedText
 pub mod PrintedSections
-pub mod ReadyInputs
 pub mod LineRuns
 pub mod ReadBackLaws
 pub mod DesignedLaws
 pub mod DesignRuns
 pub mod Runs
-pub mod AnswerFiles
-pub mod Claims
 pub mod Audits
 pub mod OnlyCheapest
 pub mod CornerLaws
-pub mod Pieces
+pub mod Writing
 pub mod ShortAnswers
 pub mod ShortLines
 mod Examples
-pub mod Revisions
-pub mod OwnLines
-pub mod FewLines
-pub mod Judged
