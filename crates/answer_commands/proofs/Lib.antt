@@ -2,3 +2,4 @@ pub mod Judged
 pub mod Revisions
 pub mod OwnLines
 pub mod FewLines
+pub mod AnswerFiles

@@ -4,10 +4,10 @@ use Rattle.cost_base.specs.Order.{FirstOf}
 use Rattle.path_rows.specs.Problems.{DesignProblem}
 use Rattle.path_rows.specs.Answers.{AnswerParts, IsValid}
 use Rattle.path_rows.specs.ProblemLaws.{IsTrueVerdict}
-use Rattle.path_rows.specs.Text.{text}
+use Rattle.path_rows.specs.Text.{text, IsAnswer}
 use Rattle.evidence_text.specs.Grammar.{AtHead}
 use Rattle.evidence_text.specs.Refusals.{IsRefused}
-use Rattle.answer_laws.specs.Laws.{IsAnswerValue, IsNoValidText}
+use Rattle.answer_laws.specs.Laws.{IsNoValidText}
 use Rattle.evidence_checker.specs.declared.stop.Accepted.{Accepted as Acceptance}
 use Rattle.evidence_checker.specs.Laws.{IsAcceptedAs}
 use Rattle.evidence_checker.specs.Tests.{tests}
@@ -31,10 +31,10 @@ claim_read names answer =
     file_read longest_answer answer >>= λ bytes.
     Ready (record { problem = d.problem; bytes = bytes })
 
--- the bytes are the text of a value of the type of answers; a text says no start of its rows' rivals, which stand at 0
+-- the bytes are the text of an answer; a text says no start of its rows' rivals, which stand at 0
 pub record IsTextOf (bytes : List ℕ) (answer : AnswerParts) : Type 0 where
   pub spelled : bytes ≡ text answer
-  pub kept : IsAnswerValue answer
+  pub kept : IsAnswer answer
   pub starts : All (λ row. row.rival.start ≡ 0) answer.rows
 
 -- the bytes are the text of a valid answer, and what its verdict claims is true

@@ -10,7 +10,7 @@ use Rattle.cost_base.specs.Histories.{Taken}
 use Rattle.wide_fraction.specs.declared.bounds.Limits.{Limits}
 use Rattle.command_words.specs.declared.job.Job.{Job}
 use Rattle.command_words.specs.declared.job.Job.TheVariants as jobs
-use Rattle.command_words.specs.Jobs.{JobRead, seen}
+use Rattle.command_words.specs.Jobs.{JobRead, bounds, seen}
 use Rattle.command_words.specs.Jobs as read
 use Rattle.input_files.specs.declared.stop.Stop.{Stop}
 use Rattle.input_files.specs.declared.stop.Stop.TheVariants as stops
@@ -142,8 +142,8 @@ pub design_reported : (Given : List Taken → Type 0) (job : Job) (request : Str
     Gave Given (λ came. IsReadAs (outcome AsRequested (files_of name (texts words))) came (λ report d. MayDesign d report.status (bytes_in report.text)) made) → ReportsAny made result → Reported Given (Some (seen job)) result
 design_reported Given job request limits configs name words made result is named worded a r =
     subst (λ (j : Job). Reported Given (Some (seen j)) result) (sym is)
-    (subst (λ (ws : List (String Global)). Reported Given (Some (read.Design (string_bytes request) limits (texts ws))) result) worded
-    (subst (λ (n : List ℕ). Reported Given (Some (read.Design n limits (texts words))) result) named
+    (subst (λ (ws : List (String Global)). Reported Given (Some (read.Design (string_bytes request) (bounds limits) (texts ws))) result) worded
+    (subst (λ (n : List ℕ). Reported Given (Some (read.Design n (bounds limits) (texts words))) result) named
     (reported Given (outcome AsRequested (files_of name (texts words))) MayDesign made result (record { refused = λ x bytes h. h; failed = λ x bytes h. h; unwritten = λ x bytes h. h; wanting = λ x bytes h. h }) a r)))
 
 pub audit_reported : (Given : List Taken → Type 0) (job : Job) (request : String Global) (configs : Vec (String Global) Global) (name : List ℕ) (words : List (String Global)) (made : Result Report Stop) (result : Result Report OutOfMemory) →
