@@ -14,3 +14,4 @@ pub mod Writing
 pub mod ShortAnswers
 pub mod ShortLines
 mod Examples
+pub mod Completeness

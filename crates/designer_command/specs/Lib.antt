@@ -5,3 +5,4 @@ pub mod Designs
 pub mod Audits
 pub mod Reports
 pub mod Runs
+pub mod Completeness

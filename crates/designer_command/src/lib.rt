@@ -3,6 +3,7 @@
 
 mod audit;
 mod check;
+pub mod completeness;
 mod corner;
 mod design;
 mod floor;
