@@ -1,8 +1,9 @@
 //! The files of the machine.
 
 ghost use Rattle.std.specs.Prelude.{◌≡◌, ℕ, List, [], ◌∷◌, ◌+◌, ◌^◌, ◌<◌, ◌≤◌, OnOk, OnErr, IsErrOf, Option, None, vec_len};
-ghost use Rattle.cost_base.specs.Outside.{IsFile, IsLonger, CountsFaults, HasGiven, came_of};
-ghost use Rattle.cost_base.specs.Histories.{given_none, given_more, given_counts};
+ghost use Rattle.cost_base.specs.Outside.{IsFile, IsLonger, CountsFaults};
+ghost use Rattle.cost_base.specs.Histories.{HasGiven, came_of};
+ghost use Rattle.cost_base.specs.HistoryLaws.{given_none, given_more, given_counts};
 ghost use Rattle.cost_base.specs.Files.{times};
 
 use crate::failed_calls::FailedCalls;

@@ -1,8 +1,9 @@
 //! A shelf in memory that fails where it is told to.
 
 ghost use Rattle.std.specs.Prelude.{◌≡◌, ◌⊎◌, ℕ, List, [], ◌∷◌, ◌+◌, ◌^◌, ◌<◌, ◌≤◌, min, ◌-◌, OnOk, OnErr, IsErrOf, IfSome, Some, None, vec_len};
-ghost use Rattle.cost_base.specs.Outside.{IsLonger, CountsFaults, HasGiven, came_of};
-ghost use Rattle.cost_base.specs.Histories.{given_none, given_more, given_counts};
+ghost use Rattle.cost_base.specs.Outside.{IsLonger, CountsFaults};
+ghost use Rattle.cost_base.specs.Histories.{HasGiven, came_of};
+ghost use Rattle.cost_base.specs.HistoryLaws.{given_none, given_more, given_counts};
 ghost use Rattle.cost_base.specs.Files.{first_file, times};
 ghost use Rattle.cost_base.specs.Fakes.{IsListed, FailsOrLacksMemory};
 

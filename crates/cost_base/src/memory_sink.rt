@@ -1,8 +1,9 @@
 //! A sink in memory that fails where it is told to.
 
 ghost use Rattle.std.specs.Prelude.{◌≡◌, ◌<◌, ◌≤◌, ◌+◌, ◌-◌, ◌^◌, ◌++◌, [], min, length, take, IfOk, IsOk, OnOk, Some, None, vec_len, vec_capacity};
-ghost use Rattle.cost_base.specs.Outside.{HasCause, GotWhole, Hands};
-ghost use Rattle.cost_base.specs.Histories.{handed_none, handed_more};
+ghost use Rattle.cost_base.specs.Outside.{HasCause, GotWhole};
+ghost use Rattle.cost_base.specs.Histories.{Hands};
+ghost use Rattle.cost_base.specs.HistoryLaws.{handed_none, handed_more};
 ghost use Rattle.cost_base.specs.Fakes.{kept_at, kept_or_all};
 
 use crate::{OutOfMemory, PutFailed, Sink};

@@ -2,8 +2,9 @@
 
 ghost use Rattle.std.specs.Prelude.{◌≡◌, ℕ, ◌<◌, ◌≤◌, ◌+◌, [], length, take, IfOk, OnOk, OnErr, Option, None};
 ghost use Rattle.std.specs.Io.KnownBytes.{Appends};
-ghost use Rattle.cost_base.specs.Outside.{HasCause, Hands};
-ghost use Rattle.cost_base.specs.Histories.{appends_none, appends_both};
+ghost use Rattle.cost_base.specs.Outside.{HasCause};
+ghost use Rattle.cost_base.specs.Histories.{Hands};
+ghost use Rattle.cost_base.specs.HistoryLaws.{appends_none, appends_both};
 
 use crate::{PutFailed, Sink};
 use std::io::{ErrorKind, Write};

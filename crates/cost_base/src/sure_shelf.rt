@@ -1,8 +1,9 @@
 //! A shelf in memory that never fails.
 
 ghost use Rattle.std.specs.Prelude.{◌≡◌, ℕ, List, [], ◌+◌, ◌^◌, ◌<◌, ◌≤◌, OnOk, OnErr, IsErrOf, Option, Some, vec_len};
-ghost use Rattle.cost_base.specs.Outside.{IsFile, IsLonger, CountsFaults, HasGiven, came_of};
-ghost use Rattle.cost_base.specs.Histories.{given_none, given_more, given_surely};
+ghost use Rattle.cost_base.specs.Outside.{IsFile, IsLonger, CountsFaults};
+ghost use Rattle.cost_base.specs.Histories.{HasGiven, came_of};
+ghost use Rattle.cost_base.specs.HistoryLaws.{given_none, given_more, given_surely};
 ghost use Rattle.cost_base.specs.Files.{first_file, or_empty};
 
 use crate::content::{copy_within, find_first};

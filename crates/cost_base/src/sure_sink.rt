@@ -1,8 +1,9 @@
 //! A sink in memory that never fails.
 
 ghost use Rattle.std.specs.Prelude.{◌≡◌, ◌<◌, ◌≤◌, ◌+◌, ◌++◌, [], length, true, false, IfOk, IsOk, Some, None, if◌then◌else◌, vec_len, vec_capacity};
-ghost use Rattle.cost_base.specs.Outside.{GotWhole, Hands};
-ghost use Rattle.cost_base.specs.Histories.{handed_none, handed_more};
+ghost use Rattle.cost_base.specs.Outside.{GotWhole};
+ghost use Rattle.cost_base.specs.Histories.{Hands};
+ghost use Rattle.cost_base.specs.HistoryLaws.{handed_none, handed_more};
 
 use crate::{OutOfMemory, PutFailed, Sink};
 use std::alloc::Global;

@@ -1,7 +1,6 @@
 -- How requested paths stand at present costs.
 use Rattle.std.proofs.Common.{◌≡◌, ℕ, ◌+◌, ◌*◌, ◌<◌, ◌≤◌, lit<, refl, sym, ◌∙◌, ap, subst, List, [], ◌∷◌, ◌++◌, length, get_or, take, drop, drop-cons, add-one, append_assoc, arith, Bool, true, false, cond, IsTrue}
-use Rattle.std.specs.Prelude.{◌↔◌, ◌==◌, All, Vec}
-use Rattle.std.specs.declared.alloc.Global.{Global}
+use Rattle.std.specs.Prelude.{◌↔◌, ◌==◌, All}
 use Rattle.std.specs.List.{AllZip}
 use Rattle.std.proofs.lemmas.Bool.{false≢true, eqb-true, eqb-false}
 use Rattle.std.proofs.lemmas.List.{take_more}
@@ -11,22 +10,11 @@ use Rattle.area_graph.specs.Area.{Area}
 use Rattle.area_graph.specs.Paths.{IsPathOf}
 use Rattle.area_graph.specs.Costs.{FitsPoint, IsPriced, IsOnlyCheapest, at_costs, cost}
 use Rattle.spf_ties.specs.Distances.{IsLeast}
-use Rattle.lsdb_build.specs.Graphs.{Database}
 use Rattle.path_rows.specs.declared.problem.Request.{Request}
 use Rattle.path_rows.specs.Problems.{DesignProblem, IsProblem, ends_of}
-use Rattle.path_requests.specs.Meaning.{Asked}
-use Rattle.path_requests.specs.Resolving.{present_problem_of}
-use Rattle.path_requests.proofs.Present.{none_owned}
 use Rattle.designer_command.specs.declared.audit.Standing.TheVariants.{Tied, Beaten}
 use Rattle.designer_command.specs.declared.audit.AuditedPath.{AuditedPath}
-use Rattle.designer_command.specs.Texts.{bytes_of}
 use Rattle.designer_command.specs.Audits.{StandsAs, standing_by, IsAudited, audit_line, audit_lines}
-use Rattle.designer_command.proofs.Pieces.{bytes_more}
-
--- The present problem has no variable.
-
-pub present_low : (a : Asked) (d : Database) → (present_problem_of a d).low ≡ []
-present_low a d = rw (none_owned a d) refl
 
 -- fixed costs fit a problem without variables
 pub fixed_fits : (p : DesignProblem) → IsProblem p → p.low ≡ [] → FitsPoint p.graph (at_costs [])
@@ -61,11 +49,11 @@ audited_push g requests i request found more path below is zip here pushed =
     let are : take (i + 1) requests ≡ take i requests ++ request ∷ [] = take_more requests i request below ∙ ap (λ (r : Request). take i requests ++ r ∷ []) (sym is) in
     rw (pushed, are) (zip_push (IsAudited g) (take i requests) found request path zip here)
 
--- the line of the next path was made
-pub audit_turn : (paths : List AuditedPath) (i : ℕ) (lines more : List (Vec ℕ Global)) (line : Vec ℕ Global) (d : AuditedPath) → i < length paths → line.items ≡ audit_line i (get_or paths i d) → more ≡ lines ++ line ∷ [] →
-    bytes_of lines ++ audit_lines i (drop i paths) ≡ audit_lines 0 paths → bytes_of more ++ audit_lines (i + 1) (drop (i + 1) paths) ≡ audit_lines 0 paths
-audit_turn paths i lines more line d below made pushed so_far =
-    rw (pushed, bytes_more lines line, made)
-    (append_assoc (bytes_of lines) (audit_line i (get_or paths i d)) (audit_lines (i + 1) (drop (i + 1) paths))
-    ∙ ap (λ (bs : List ℕ). bytes_of lines ++ bs) (sym (ap (audit_lines i) (drop-cons paths i d below) ∙ rw add-one refl))
+-- the line of the next path was made, and put behind the text
+pub audit_turn : (paths : List AuditedPath) (i : ℕ) (text more line : List ℕ) (d : AuditedPath) → i < length paths → line ≡ audit_line i (get_or paths i d) → more ≡ text ++ line →
+    text ++ audit_lines i (drop i paths) ≡ audit_lines 0 paths → more ++ audit_lines (i + 1) (drop (i + 1) paths) ≡ audit_lines 0 paths
+audit_turn paths i text more line d below made pushed so_far =
+    rw (pushed, made)
+    (append_assoc text (audit_line i (get_or paths i d)) (audit_lines (i + 1) (drop (i + 1) paths))
+    ∙ ap (λ (bs : List ℕ). text ++ bs) (sym (ap (audit_lines i) (drop-cons paths i d below) ∙ rw add-one refl))
     ∙ so_far)

@@ -1,59 +1,67 @@
--- What a design of the lower bounds writes.
-use Rattle.std.proofs.Common.{◌≡◌, ℕ, refl, sym, subst, List}
+-- What a design of the lower bounds and an audit report.
+use Rattle.std.proofs.Common.{◌≡◌, ℕ, refl, sym, ◌∙◌, ap, subst, List}
 use Rattle.std.specs.Prelude.{Option, MatchOption, Some, None}
+use Rattle.std.specs.List.{AllZip}
+use Rattle.cost_base.specs.declared.Status.TheVariants as status
+use Rattle.cost_base.specs.Histories.{Taken}
 use Rattle.path_rows.specs.Problems.{DesignProblem}
 use Rattle.path_rows.specs.Rows.{IsFit}
 use Rattle.path_rows.specs.Answers.{AnswerParts}
 use Rattle.path_rows.specs.Text.{text}
 use Rattle.lsdb_build.specs.Graphs.{IsDatabase}
-use Rattle.designer_command.specs.declared.problem.View.TheVariants.{AsRequested}
-use Rattle.designer_command.specs.Inputs.{InputFiles}
-use Rattle.designer_command.specs.Outcomes.{Reading, Untold, Refused, Ready, outcome, OnReady}
-use Rattle.cost_base.specs.declared.Status.{Status}
-use Rattle.cost_base.specs.declared.Status.TheVariants as status
-use Rattle.designer_command.specs.Texts.{corner_line}
-use Rattle.designer_command.specs.Designs.{IsDesigned}
-use Rattle.designer_command.specs.Runs.{MayDesign, Ends}
-use Rattle.designer_command.specs.Stops.{IsEnd}
-use Rattle.designer_command.proofs.Runs.{end_meets}
+use Rattle.input_files.specs.declared.problem.View.{View}
+use Rattle.input_files.specs.declared.problem.View.TheVariants.{AsRequested}
+use Rattle.input_files.specs.Inputs.{InputFiles}
+use Rattle.input_files.specs.Readings.{Says, EndsAs, Gave}
+use Rattle.input_files.specs.Outcomes.{Input, outcome}
+use Rattle.input_files.specs.Stops.{IsReady}
+use Rattle.input_files.proofs.Problems.{IsProblemOf}
+use Rattle.input_files.proofs.ReadyInputs.{ready_is}
+use Rattle.designer_command.specs.declared.report.Report.{Report}
+use Rattle.designer_command.specs.declared.audit.AuditedPath.{AuditedPath}
+use Rattle.designer_command.specs.Audits.{IsAudited, audit_lines}
 use Rattle.designer_command.specs.Corners.{AnswersLow}
-use Rattle.designer_command.proofs.Readings.{ready_so}
-use Rattle.designer_command.proofs.ReadyInputs.{ready_is}
+use Rattle.designer_command.specs.Designs.{IsDesigned}
+use Rattle.designer_command.specs.Reports.{Reports, ReportsFound, bytes_in}
+use Rattle.designer_command.specs.Runs.{MayDesign, MayAudit}
 use Rattle.designer_command.proofs.DesignedLaws.{designed_is}
-
--- what is ready, with what made it so
-ready_with : {A : Type 0} (r : Reading A) (P Q : A → Type 0) → OnReady r P → ((x : A) → r ≡ Ready x → P x → Q x) → OnReady r Q
-ready_with Untold P Q h f = tt
-ready_with (Refused refusal) P Q h f = absurd h
-ready_with (Ready x) P Q h f = f x refl h
+use Rattle.designer_command.proofs.Runs.{may_report}
 
 -- a valid answer at the lower bounds of the problem that was read prints what was asked for
-low_designed : (held : List ℕ → Option (List ℕ)) (names : InputFiles) (p : DesignProblem) (a : AnswerParts) → OnReady (outcome AsRequested held names) (λ d. (d.problem ≡ p) × IsDatabase d.database) → AnswersLow p a → IsFit p p.low →
-    OnReady (outcome AsRequested held names) (λ d. IsDesigned d (text a) × IsFit d.problem d.problem.low)
-low_designed held names p a read low fit =
-    ready_with (outcome AsRequested held names) (λ d. (d.problem ≡ p) × IsDatabase d.database) (λ d. IsDesigned d (text a) × IsFit d.problem d.problem.low) read (λ d is h.
-    let answers : AnswersLow d.problem a = subst (λ (q : DesignProblem). AnswersLow q a) (sym h.0) low in
-    (designed_is d a answers.costs d.problem.low (ready_is held names d is) h.1 answers.valid answers.printed answers.names answers.printable answers.best, subst (λ (q : DesignProblem). IsFit q q.low) (sym h.0) fit))
+low_designed : (names : InputFiles) (p : DesignProblem) (a : AnswerParts) (d : Input) (came : List Taken) → EndsAs (outcome AsRequested names) came (Says d) → IsProblemOf p d → AnswersLow p a → IsFit p p.low → IsDesigned d (text a) × IsFit d.problem d.problem.low
+low_designed names p a d came ends is low fit =
+    let answers : AnswersLow d.problem a = subst (λ (q : DesignProblem). AnswersLow q a) (sym is.0) low in
+    (designed_is d a answers.costs d.problem.low (ready_is names d came ends) is.1 answers.valid answers.printed answers.names answers.printable answers.best, subst (λ (q : DesignProblem). IsFit q q.low) (sym is.0) fit)
 
--- the lower bounds of the problem that was read aren't fit
-low_unfit : (held : List ℕ → Option (List ℕ)) (names : InputFiles) (p : DesignProblem) → OnReady (outcome AsRequested held names) (λ d. (d.problem ≡ p) × IsDatabase d.database) → (IsFit p p.low → ⊥) → OnReady (outcome AsRequested held names) (λ d. IsFit d.problem d.problem.low → ⊥)
-low_unfit held names p read unfit =
-    ready_so (outcome AsRequested held names) (λ d. (d.problem ≡ p) × IsDatabase d.database) (λ d. IsFit d.problem d.problem.low → ⊥) read (λ d h. subst (λ (q : DesignProblem). IsFit q q.low → ⊥) (sym h.0) unfit)
+found_may : (names : InputFiles) (p : DesignProblem) (found : Option AnswerParts) (report : Report) (d : Input) (came : List Taken) → EndsAs (outcome AsRequested names) came (Says d) → IsProblemOf p d →
+    MatchOption found (IsFit p p.low → ⊥) (λ a. AnswersLow p a × IsFit p p.low) → ReportsFound found report → MayDesign d report.status (bytes_in report.text)
+found_may names p None report d came ends is unfit r =
+    may_report (MayDesign d) status.Undecided _ report r (subst (λ (q : DesignProblem). IsFit q q.low → ⊥) (sym is.0) unfit, refl)
+found_may names p (Some a) report d came ends is low r =
+    may_report (MayDesign d) status.Done (text a) report r (low_designed names p a d came ends is low.0 low.1)
 
--- what was found at the lower bounds
-pub low_found : (held : List ℕ → Option (List ℕ)) (names : InputFiles) (p : DesignProblem) (found : Option AnswerParts) → OnReady (outcome AsRequested held names) (λ d. (d.problem ≡ p) × IsDatabase d.database) →
-    MatchOption found (IsFit p p.low → ⊥) (λ a. AnswersLow p a × IsFit p p.low) →
-    MatchOption found (OnReady (outcome AsRequested held names) (λ d. IsFit d.problem d.problem.low → ⊥)) (λ a. OnReady (outcome AsRequested held names) (λ d. IsDesigned d (text a) × IsFit d.problem d.problem.low))
-low_found held names p None read unfit = low_unfit held names p read unfit
-low_found held names p (Some a) read low = low_designed held names p a read low.0 low.1
+-- the report of what was found at the lower bounds of the problem that was read
+pub design_found : (Given : List Taken → Type 0) (names : InputFiles) (p : DesignProblem) (found : Option AnswerParts) (report : Report) → Gave Given (λ came. IsReady (outcome AsRequested names) came IsProblemOf p) →
+    MatchOption found (IsFit p p.low → ⊥) (λ a. AnswersLow p a × IsFit p p.low) → ReportsFound found report → Gave Given (λ came. IsReady (outcome AsRequested names) came (λ (made : Report) d. MayDesign d made.status (bytes_in made.text)) report)
+design_found Given names p found report a low r =
+    record { came = a.came; given = a.given; so = record { said = a.so.said; ends = a.so.ends; fits = found_may names p found report a.so.said a.came a.so.ends a.so.fits low r } }
 
--- what was put of it ends a design
-pub found_meets : (held : List ℕ → Option (List ℕ)) (before now : List ℕ → ℕ) (names : InputFiles) (found : Option AnswerParts) (got_before got_now : Option (List ℕ)) (count_before count_now : ℕ) (end : Status) →
-    MatchOption found (OnReady (outcome AsRequested held names) (λ d. IsFit d.problem d.problem.low → ⊥)) (λ a. OnReady (outcome AsRequested held names) (λ d. IsDesigned d (text a) × IsFit d.problem d.problem.low)) →
-    MatchOption found (IsEnd status.Undecided corner_line got_before got_now count_before count_now end) (λ a. IsEnd status.Done (text a) got_before got_now count_before count_now end) →
-    Ends (MayDesign held before now names) got_before got_now count_before count_now end
-found_meets held before now names None got_before got_now count_before count_now end unfit ends =
-    end_meets (MayDesign held before now names) got_before got_now count_before count_now status.Undecided corner_line end (λ bytes h. h, λ bytes h. h)
-    (ready_so (outcome AsRequested held names) (λ d. IsFit d.problem d.problem.low → ⊥) (λ d. (IsFit d.problem d.problem.low → ⊥) × (corner_line ≡ corner_line)) unfit (λ d no. (no, refl))) ends
-found_meets held before now names (Some a) got_before got_now count_before count_now end designed ends =
-    end_meets (MayDesign held before now names) got_before got_now count_before count_now status.Done (text a) end (λ bytes h. h, λ bytes h. h) designed ends
+-- the report of an audit of the problem that was read
+pub audit_found : (Given : List Taken → Type 0) (view : View) (names : InputFiles) (p : DesignProblem) (found read : List AuditedPath) (bytes : List ℕ) (report : Report) → Gave Given (λ came. IsReady (outcome view names) came IsProblemOf p) →
+    AllZip (IsAudited p.graph) p.paths found → read ≡ found → bytes ≡ audit_lines 0 read → Reports status.Done bytes report → Gave Given (λ came. IsReady (outcome view names) came (λ (made : Report) d. MayAudit d made.status (bytes_in made.text)) report)
+audit_found Given view names p found read bytes report a audited same spelled r =
+    let problem = a.so.fits.0 in
+    record {
+      came = a.came;
+      given = a.given;
+      so = record {
+        said = a.so.said;
+        ends = a.so.ends;
+        fits = may_report (MayAudit a.so.said) status.Done bytes report r
+            (record {
+              paths = found;
+              audited = subst (λ (q : DesignProblem). AllZip (IsAudited q.graph) q.paths found) (sym problem) audited;
+              spelled = spelled ∙ ap (λ (paths : List AuditedPath). audit_lines 0 paths) same;
+            });
+      };
+    }

@@ -10,9 +10,9 @@ use Rattle.path_rows.specs.Rows.{IsBest}
 use Rattle.path_rows.specs.Answers.{AnswerParts, Names, IsValid}
 use Rattle.path_rows.specs.Text.{text}
 use Rattle.designer_command.specs.Corners.{ArePrintable}
-use Rattle.designer_command.specs.Outcomes.{Input}
+use Rattle.input_files.specs.Outcomes.{Input}
 use Rattle.designer_command.specs.Designs.{IsDesigned}
-use Rattle.designer_command.proofs.ReadyInputs.{IsReadyInput}
+use Rattle.input_files.proofs.ReadyInputs.{IsReadyInput}
 use Rattle.designer_command.proofs.CheapestWith.{only_cheapest_with}
 use Rattle.designer_command.proofs.ReadBackLaws.{graph_back_is}
 

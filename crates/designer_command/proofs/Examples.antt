@@ -1,7 +1,6 @@
 -- A pair of routers: what its files say, its printed answer read back, and a request with a bound of 0.
 use Rattle.std.proofs.Common.{◌≡◌, ℕ, refl, List, [], ◌∷◌, ◌++◌, Option, Some, None}
-use Rattle.std.specs.Prelude.{codes, if◌then◌else◌}
-use Rattle.cost_base.specs.Lists.{same_bytes}
+use Rattle.std.specs.Prelude.{codes, Ok, Err}
 use Rattle.area_graph.specs.declared.Vertex.TheVariants.{Router as RouterVertex}
 use Rattle.area_graph.specs.declared.Price.TheVariants.{Fixed, Var}
 use Rattle.lsdb_build.specs.declared.Far.TheVariants.{Router}
@@ -10,9 +9,12 @@ use Rattle.path_requests.specs.declared.Wish.TheVariants.{FreeAll, Path}
 use Rattle.path_requests.specs.Meaning.{Asked}
 use Rattle.text_lines.specs.Lines.{lines}
 use Rattle.path_requests.specs.Reading.{request_fault, asked_by}
-use Rattle.designer_command.specs.declared.problem.View.TheVariants.{AsRequested}
-use Rattle.designer_command.specs.Inputs.{InputFiles}
-use Rattle.designer_command.specs.Outcomes.{Input, Refused, Ready, outcome}
+use Rattle.input_files.specs.declared.problem.View.TheVariants.{AsRequested}
+use Rattle.input_files.specs.Inputs.{InputFiles}
+use Rattle.cost_base.specs.declared.ShelfStop.TheVariants.{Failed as NotRead}
+use Rattle.cost_base.specs.Histories.{Taken}
+use Rattle.input_files.specs.Readings.{Says, Faulty, Failed, EndsAs}
+use Rattle.input_files.specs.Outcomes.{Input, outcome}
 use Rattle.designer_command.specs.ReadBack.{section, graph_back}
 
 abbrev config : List ℕ → List ℕ
@@ -21,12 +23,13 @@ config address = codes "interface eth0\n ip address " ++ address ++ codes "\n ip
 abbrev request : List ℕ → List ℕ
 request bounds = codes "ospfcost request 1\narea 0\nfree all " ++ bounds ++ codes "\npath A:eth0 B\n"
 
--- a shelf with a request of these bounds and the two configurations
-abbrev held : List ℕ → List ℕ → Option (List ℕ)
-held bounds name =
-    if same_bytes name (codes "request.txt") then Some (request bounds)
-    else (if same_bytes name (codes "A.conf") then Some (config (codes "10.0.0.1/30"))
-    else (if same_bytes name (codes "B.conf") then Some (config (codes "10.0.0.2/30")) else None))
+-- what came of the request of these bounds and of the two configurations
+abbrev came : List ℕ → List Taken
+came bounds =
+    record { name = codes "request.txt"; most = 4194304; came = Ok (request bounds) }
+    ∷ record { name = codes "A.conf"; most = 4194304; came = Ok (config (codes "10.0.0.1/30")) }
+    ∷ record { name = codes "B.conf"; most = 4194304; came = Ok (config (codes "10.0.0.2/30")) }
+    ∷ []
 
 abbrev files : InputFiles
 files = record { request = codes "request.txt"; configs = codes "A.conf" ∷ codes "B.conf" ∷ [] }
@@ -68,8 +71,8 @@ input = record {
 }
 
 -- what the files say
-pair_ready : outcome AsRequested (held (codes "1 65535")) files ≡ Ready input
-pair_ready = refl
+pair_ready : EndsAs (outcome AsRequested files) (came (codes "1 65535")) (Says input)
+pair_ready = (refl, refl, (refl, refl, (refl, refl, refl)))
 
 abbrev printed : List ℕ
 printed =
@@ -83,6 +86,11 @@ pair_back : graph_back input printed
     ≡ record { vertices = RouterVertex 0 ∷ RouterVertex 1 ∷ []; edges = record { from = 0; to = 1; price = Fixed 1 } ∷ record { from = 1; to = 0; price = Fixed 1 } ∷ [] }
 pair_back = refl
 
--- a lower bound of 0 is refused at its line
-pair_bad_bounds : outcome AsRequested (held (codes "0 5")) files ≡ Refused (record { number = 25; file = codes "request.txt"; line = 3 })
-pair_bad_bounds = refl
+-- a lower bound of 0 is refused at its line, and no configuration is asked for
+pair_bad_bounds : EndsAs (outcome AsRequested files) (record { name = codes "request.txt"; most = 4194304; came = Ok (request (codes "0 5")) } ∷ []) (Faulty (record { number = 25; file = codes "request.txt"; line = 3 }))
+pair_bad_bounds = (refl, refl, refl)
+
+-- a configuration that fails ends the reading, and the next isn't asked for
+pair_failed : EndsAs (outcome AsRequested files)
+    (record { name = codes "request.txt"; most = 4194304; came = Ok (request (codes "1 65535")) } ∷ record { name = codes "A.conf"; most = 4194304; came = Err NotRead } ∷ []) (Failed (codes "A.conf"))
+pair_failed = (refl, refl, (refl, refl, (refl, refl)))

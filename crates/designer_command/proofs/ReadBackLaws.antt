@@ -26,9 +26,9 @@ use Rattle.path_rows.specs.Answers.{AnswerParts, Names}
 use Rattle.path_rows.specs.Text.{text}
 use Rattle.path_requests.specs.Meaning.{Asked, present_cost, names_from, problem_of}
 use Rattle.path_requests.proofs.RouteLaws.{same_bytes-true, same_bytes-same}
-use Rattle.designer_command.specs.Outcomes.{ConfigFile, Input, routers_of}
+use Rattle.input_files.specs.Outcomes.{ConfigFile, Input, routers_of}
 use Rattle.designer_command.specs.ReadBack.{router_back, database_back, graph_back, graph_with}
-use Rattle.designer_command.proofs.ReadyInputs.{IsReadyInput}
+use Rattle.input_files.proofs.ReadyInputs.{IsReadyInput}
 use Rattle.designer_command.proofs.PresentCosts.{cost_in, line_at, named_lines, costs_by_lines, recosted_graph_is}
 use Rattle.designer_command.proofs.PrintedText.{NamesWords}
 use Rattle.designer_command.proofs.PrintedSections.{pairs_of, OneRun, section_printed}

@@ -6,7 +6,7 @@ use Rattle.path_rows.specs.Boxes.{IsInBox}
 use Rattle.path_rows.specs.Rows.{IsBest, box_of}
 use Rattle.path_rows.specs.Answers.{AnswerParts, IsValid}
 use Rattle.path_rows.specs.Text.{text}
-use Rattle.designer_command.specs.Outcomes.{Input}
+use Rattle.input_files.specs.Outcomes.{Input}
 use Rattle.designer_command.specs.ReadBack.{graph_back, graph_with}
 
 -- The bytes print costs that are what was asked for: they are the text of a valid answer; read back, the costs lie

@@ -1,12 +1,8 @@
-pub mod Inputs
 pub mod Texts
-pub mod Outcomes
-pub mod Configs
-pub mod Stops
 pub mod ReadBack
 pub mod Corners
 pub mod Designs
 pub mod Audits
-pub mod Checks
-pub mod Rewrites
+pub mod Reports
 pub mod Runs
+pub mod Completeness

@@ -11,7 +11,7 @@ use Rattle.config_reader.specs.Sections.{ended, with_ends}
 use Rattle.lsdb_build.specs.Graphs.{Database, graph_at}
 use Rattle.lsdb_build.specs.Topology.{database_of}
 use Rattle.path_requests.specs.Meaning.{present_cost}
-use Rattle.designer_command.specs.Outcomes.{Input, ConfigFile}
+use Rattle.input_files.specs.Outcomes.{Input, ConfigFile}
 
 -- `router NAME`
 abbrev pub opens_section : List ℕ → List ℕ → Bool

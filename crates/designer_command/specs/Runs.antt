@@ -1,101 +1,136 @@
 -- What a run may write, with the status that it ends with.
-use Rattle.std.specs.Prelude.{◌≡◌, ℕ, ◌<◌, List, [], ◌∷◌, Option, Some, Contains}
+use Rattle.std.specs.Prelude.{◌≡◌, ℕ, List, [], take, Option, Some, None}
 use Rattle.cost_base.specs.declared.Status.{Status}
 use Rattle.cost_base.specs.declared.Status.TheVariants.{Done, Impossible, Undecided, InputRefused, ReadFault, WriteFault, OutOfMemory, WordsRefused, EvidenceRefused}
-use Rattle.cost_base.specs.Outside.{Rose, GotWhole, GotPart}
+use Rattle.cost_base.specs.Outside.{Rose, GotWhole}
+use Rattle.cost_base.specs.Histories.{Taken, AreTold, CountsFailures}
 use Rattle.path_rows.specs.Rows.{IsFit}
 use Rattle.evidence_checker.specs.declared.stop.Accepted.{Accepted}
 use Rattle.command_words.specs.Jobs.{JobRead, Design, Check, Audit, Rewrite}
 use Rattle.command_words.specs.Commands.{job_of}
-use Rattle.designer_command.specs.declared.problem.View.TheVariants.{AsRequested, AtPresent}
-use Rattle.designer_command.specs.declared.rejection.Rejection.{Rejection}
-use Rattle.designer_command.specs.Inputs.{InputFiles, names_of}
+use Rattle.input_files.specs.declared.problem.View.TheVariants.{AsRequested, AtPresent}
+use Rattle.input_files.specs.Inputs.{InputFiles}
+use Rattle.input_files.specs.Readings.{Refusal, Reading, Says, Faulty, Failed, EndsAs}
+use Rattle.input_files.specs.Outcomes.{Input, outcome}
+use Rattle.answer_commands.specs.declared.rejection.Rejection.{Rejection}
+use Rattle.answer_commands.specs.Checks.{Claim, IsAccepted, IsRejected, claim_read}
+use Rattle.answer_commands.specs.Rewrites.{Revision, IsRewritten, IsUnfit, revision_read}
 use Rattle.designer_command.specs.Texts.{refused_line, read_fault_line, accepted_line, rejected_line, corner_line, usage}
-use Rattle.designer_command.specs.Outcomes.{Reading, outcome, OnReady, OnRefused}
 use Rattle.designer_command.specs.Designs.{IsDesigned}
 use Rattle.designer_command.specs.Audits.{IsAudit}
-use Rattle.designer_command.specs.Checks.{IsAccepted, IsRejected, claim_read}
-use Rattle.designer_command.specs.Rewrites.{IsRewritten, IsUnfit, revision_read}
 
--- one of the named files failed, and is written
-pub record IsReadFault (before now : List ℕ → ℕ) (names : List (List ℕ)) (bytes : List ℕ) : Type 0 where
-  pub file : List ℕ
-  pub named : Contains names file
-  pub failed : before file < now file
-  pub written : bytes ≡ read_fault_line file
-
--- What a command that reads these files may write before its own work: before and now are the shelf's counts of faults.
-abbrev pub MayStop : {A : Type 0} → Reading A → (List ℕ → ℕ) → (List ℕ → ℕ) → List (List ℕ) → Status → List ℕ → Type 0
-MayStop reading before now names InputRefused bytes = OnRefused reading (λ r. bytes ≡ refused_line r)
-MayStop reading before now names ReadFault bytes = IsReadFault before now names bytes
-MayStop reading before now names _ bytes = ⊥
+-- What each command may write of what its files say, with which status.
 
 -- `design`: for now it is undecided where the lower bounds themselves aren't fit, and exactly there
-abbrev pub MayDesign : (List ℕ → Option (List ℕ)) → (List ℕ → ℕ) → (List ℕ → ℕ) → InputFiles → Status → List ℕ → Type 0
-MayDesign held before now files Done bytes = OnReady (outcome AsRequested held files) (λ d. IsDesigned d bytes × IsFit d.problem d.problem.low)
-MayDesign held before now files Undecided bytes = OnReady (outcome AsRequested held files) (λ d. (IsFit d.problem d.problem.low → ⊥) × (bytes ≡ corner_line))
-MayDesign held before now files status bytes = MayStop (outcome AsRequested held files) before now (names_of files) status bytes
+abbrev pub MayDesign : Input → Status → List ℕ → Type 0
+MayDesign d Done bytes = IsDesigned d bytes × IsFit d.problem d.problem.low
+MayDesign d Undecided bytes = (IsFit d.problem d.problem.low → ⊥) × (bytes ≡ corner_line)
+MayDesign d status bytes = ⊥
 
 -- `audit`, of the problem in which every interface stands at its present cost
-abbrev pub MayAudit : (List ℕ → Option (List ℕ)) → (List ℕ → ℕ) → (List ℕ → ℕ) → InputFiles → Status → List ℕ → Type 0
-MayAudit held before now files Done bytes = OnReady (outcome AtPresent held files) (λ d. IsAudit d.problem bytes)
-MayAudit held before now files status bytes = MayStop (outcome AtPresent held files) before now (names_of files) status bytes
+abbrev pub MayAudit : Input → Status → List ℕ → Type 0
+MayAudit d Done bytes = IsAudit d.problem bytes
+MayAudit d status bytes = ⊥
 
 -- `check`: a valid answer is accepted, and exactly that; else its text or its evidence is refused, by the first fault
-abbrev pub MayCheck : (List ℕ → Option (List ℕ)) → (List ℕ → ℕ) → (List ℕ → ℕ) → InputFiles → List ℕ → Status → List ℕ → Type 0
-MayCheck held before now files answer Done bytes =
-    OnReady (claim_read held files answer) (λ claim. (accepted : Accepted) × IsAccepted claim accepted × (bytes ≡ accepted_line accepted))
-MayCheck held before now files answer EvidenceRefused bytes =
-    OnReady (claim_read held files answer) (λ claim. (rejection : Rejection) × IsRejected claim rejection × (bytes ≡ rejected_line rejection))
-MayCheck held before now files answer status bytes = MayStop (claim_read held files answer) before now (answer ∷ names_of files) status bytes
+abbrev pub MayCheck : Claim → Status → List ℕ → Type 0
+MayCheck claim Done bytes = (acceptance : Accepted) × IsAccepted claim acceptance × (bytes ≡ accepted_line acceptance)
+MayCheck claim EvidenceRefused bytes = (rejection : Rejection) × IsRejected claim rejection × (bytes ≡ rejected_line rejection)
+MayCheck claim status bytes = ⊥
 
 -- `rewrite`: the configuration with the answer's costs; else the answer's text is refused, or it gives the configuration none
-abbrev pub MayRewrite : (List ℕ → Option (List ℕ)) → (List ℕ → ℕ) → (List ℕ → ℕ) → (config answer : List ℕ) → Status → List ℕ → Type 0
-MayRewrite held before now config answer Done bytes = OnReady (revision_read held config answer) (λ revision. IsRewritten revision bytes)
-MayRewrite held before now config answer EvidenceRefused bytes =
-    OnReady (revision_read held config answer) (λ revision. (rejection : Rejection) × IsUnfit revision rejection × (bytes ≡ rejected_line rejection))
-MayRewrite held before now config answer status bytes = MayStop (revision_read held config answer) before now (answer ∷ config ∷ []) status bytes
+abbrev pub MayRewrite : Revision → Status → List ℕ → Type 0
+MayRewrite revision Done bytes = IsRewritten revision bytes
+MayRewrite revision EvidenceRefused bytes = (rejection : Rejection) × IsUnfit revision rejection × (bytes ≡ rejected_line rejection)
+MayRewrite revision status bytes = ⊥
 
--- words that are refused
-abbrev pub MayRefuse : Status → List ℕ → Type 0
-MayRefuse WordsRefused bytes = bytes ≡ usage
-MayRefuse _ bytes = ⊥
+-- the files say this, and that is what the command may write of it
+pub record OnSaid {A : Type 0} (reading : Reading A) (came : List Taken) (may : A → Status → List ℕ → Type 0) (status : Status) (bytes : List ℕ) : Type 0 where
+  pub said : A
+  pub ends : EndsAs reading came (Says said)
+  pub allowed : may said status bytes
 
--- the whole text that a run writes with a status; for now the words of a command that isn't built are refused
-abbrev pub MayWrite : Option JobRead → (List ℕ → Option (List ℕ)) → (List ℕ → ℕ) → (List ℕ → ℕ) → Status → List ℕ → Type 0
-MayWrite (Some (Design request limits configs)) held before now status bytes = MayDesign held before now (record { request = request; configs = configs }) status bytes
-MayWrite (Some (Check request answer configs)) held before now status bytes = MayCheck held before now (record { request = request; configs = configs }) answer status bytes
-MayWrite (Some (Audit request configs)) held before now status bytes = MayAudit held before now (record { request = request; configs = configs }) status bytes
-MayWrite (Some (Rewrite answer config)) held before now status bytes = MayRewrite held before now config answer status bytes
-MayWrite _ held before now status bytes = MayRefuse status bytes
+-- 3: the first fault of the files is written
+pub record OnFault {A : Type 0} (reading : Reading A) (came : List Taken) (bytes : List ℕ) : Type 0 where
+  pub fault : Refusal
+  pub ends : EndsAs reading came (Faulty fault)
+  pub written : bytes ≡ refused_line fault
 
--- the sink, of which got and count tell the bytes and the faults before and now, got a text that may be written
-pub record WritesWhole (may : Status → List ℕ → Type 0) (got_before got_now : Option (List ℕ)) (status : Status) : Type 0 where
+-- 4: the file that failed is written
+pub record OnFailure {A : Type 0} (reading : Reading A) (came : List Taken) (bytes : List ℕ) : Type 0 where
+  pub file : List ℕ
+  pub ends : EndsAs reading came (Failed file)
+  pub written : bytes ≡ read_fault_line file
+
+-- What a command that reads these files may write where this came of them.
+abbrev pub MayAfter : {A : Type 0} → Reading A → (A → Status → List ℕ → Type 0) → List Taken → Status → List ℕ → Type 0
+MayAfter reading may came InputRefused bytes = OnFault reading came bytes
+MayAfter reading may came ReadFault bytes = OnFailure reading came bytes
+MayAfter reading may came WriteFault bytes = ⊥
+MayAfter reading may came OutOfMemory bytes = ⊥
+MayAfter reading may came Done bytes = OnSaid reading came may Done bytes
+MayAfter reading may came Impossible bytes = OnSaid reading came may Impossible bytes
+MayAfter reading may came Undecided bytes = OnSaid reading came may Undecided bytes
+MayAfter reading may came WordsRefused bytes = OnSaid reading came may WordsRefused bytes
+MayAfter reading may came EvidenceRefused bytes = OnSaid reading came may EvidenceRefused bytes
+
+-- words that are refused: no file is asked for
+abbrev pub MayRefuse : List Taken → Status → List ℕ → Type 0
+MayRefuse came WordsRefused bytes = (came ≡ []) × (bytes ≡ usage)
+MayRefuse came status bytes = ⊥
+
+abbrev pub files_of : List ℕ → List (List ℕ) → InputFiles
+files_of request configs = record { request = request; configs = configs }
+
+-- The whole text that a run writes with a status, where this came of its files. For now the words of a command that isn't
+-- built are refused.
+abbrev pub MayWrite : Option JobRead → List Taken → Status → List ℕ → Type 0
+MayWrite (Some (Design request limits configs)) came status bytes = MayAfter (outcome AsRequested (files_of request configs)) MayDesign came status bytes
+MayWrite (Some (Check request answer configs)) came status bytes = MayAfter (claim_read (files_of request configs) answer) MayCheck came status bytes
+MayWrite (Some (Audit request configs)) came status bytes = MayAfter (outcome AtPresent (files_of request configs)) MayAudit came status bytes
+MayWrite (Some (Rewrite answer config)) came status bytes = MayAfter (revision_read config answer) MayRewrite came status bytes
+MayWrite _ came status bytes = MayRefuse came status bytes
+
+-- the sink was handed a text that may be written, and no more
+pub record WritesWhole (may : Status → List ℕ → Type 0) (handed : List ℕ → Type 0) (got_before got_now : Option (List ℕ)) (status : Status) : Type 0 where
   pub bytes : List ℕ
   pub allowed : may status bytes
+  pub written : handed bytes
   pub whole : GotWhole got_before got_now bytes
 
--- the sink's count rose, and it got a part of a text that may be written
-pub record WritesPart (may : Status → List ℕ → Type 0) (got_before got_now : Option (List ℕ)) (count_before count_now : ℕ) : Type 0 where
+-- the sink's count rose, and it was handed a prefix of a text that may be written
+pub record WritesPart (may : Status → List ℕ → Type 0) (handed : List ℕ → Type 0) (got_before got_now : Option (List ℕ)) (count_before count_now : ℕ) : Type 0 where
   pub status : Status
   pub bytes : List ℕ
   pub allowed : may status bytes
-  pub part : GotPart got_before got_now bytes
+  pub length : ℕ
+  pub written : handed (take length bytes)
+  pub part : GotWhole got_before got_now (take length bytes)
   pub cause : Rose count_before count_now
 
--- how a run ends of which it is known what it may write
-abbrev pub Ends : (Status → List ℕ → Type 0) → Option (List ℕ) → Option (List ℕ) → ℕ → ℕ → Status → Type 0
-Ends may got_before got_now count_before count_now WriteFault = WritesPart may got_before got_now count_before count_now
-Ends may got_before got_now count_before count_now OutOfMemory = got_now ≡ got_before
-Ends may got_before got_now count_before count_now Done = WritesWhole may got_before got_now Done
-Ends may got_before got_now count_before count_now Impossible = WritesWhole may got_before got_now Impossible
-Ends may got_before got_now count_before count_now Undecided = WritesWhole may got_before got_now Undecided
-Ends may got_before got_now count_before count_now InputRefused = WritesWhole may got_before got_now InputRefused
-Ends may got_before got_now count_before count_now ReadFault = WritesWhole may got_before got_now ReadFault
-Ends may got_before got_now count_before count_now WordsRefused = WritesWhole may got_before got_now WordsRefused
-Ends may got_before got_now count_before count_now EvidenceRefused = WritesWhole may got_before got_now EvidenceRefused
+-- the sink was handed nothing
+pub record WritesNothing (handed : List ℕ → Type 0) (got_before got_now : Option (List ℕ)) : Type 0 where
+  pub written : handed []
+  pub same : got_now ≡ got_before
 
--- a run of these words, with a shelf that holds this and its counts of faults, and the sink's bytes and counts
-abbrev pub RunMeets : List (List ℕ) → (List ℕ → Option (List ℕ)) → (List ℕ → ℕ) → (List ℕ → ℕ) → Option (List ℕ) → Option (List ℕ) → ℕ → ℕ → Status → Type 0
-RunMeets words held before now got_before got_now count_before count_now status =
-    Ends (MayWrite (job_of words) held before now) got_before got_now count_before count_now status
+-- How a run ends of which it is known what it may write: `handed` tells what the sink was handed, and it got that where it
+-- tells its bytes.
+abbrev pub Writes : (Status → List ℕ → Type 0) → (List ℕ → Type 0) → Option (List ℕ) → Option (List ℕ) → ℕ → ℕ → Status → Type 0
+Writes may handed got_before got_now count_before count_now WriteFault = WritesPart may handed got_before got_now count_before count_now
+Writes may handed got_before got_now count_before count_now OutOfMemory = WritesNothing handed got_before got_now
+Writes may handed got_before got_now count_before count_now Done = WritesWhole may handed got_before got_now Done
+Writes may handed got_before got_now count_before count_now Impossible = WritesWhole may handed got_before got_now Impossible
+Writes may handed got_before got_now count_before count_now Undecided = WritesWhole may handed got_before got_now Undecided
+Writes may handed got_before got_now count_before count_now InputRefused = WritesWhole may handed got_before got_now InputRefused
+Writes may handed got_before got_now count_before count_now ReadFault = WritesWhole may handed got_before got_now ReadFault
+Writes may handed got_before got_now count_before count_now WordsRefused = WritesWhole may handed got_before got_now WordsRefused
+Writes may handed got_before got_now count_before count_now EvidenceRefused = WritesWhole may handed got_before got_now EvidenceRefused
+
+-- A run of these words: this came of the files that the shelf was asked for, true to what it holds and to its counts of
+-- faults, and what was written is right for that.
+pub record RunMeets (words : List (List ℕ)) (gave : List Taken → Type 0) (held : List ℕ → Option (List ℕ)) (before now : List ℕ → ℕ) (handed : List ℕ → Type 0) (got_before got_now : Option (List ℕ)) (count_before count_now : ℕ) (status : Status) : Type 0 where
+  pub came : List Taken
+  pub given : gave came
+  pub told : AreTold held came
+  pub counted : CountsFailures before now came
+  pub written : Writes (MayWrite (job_of words) came) handed got_before got_now count_before count_now status

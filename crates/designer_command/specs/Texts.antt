@@ -1,19 +1,13 @@
 -- The lines that a run writes beside an answer.
-use Rattle.std.specs.Prelude.{ℕ, List, [], ◌∷◌, ◌++◌, codes, map, Vec}
-use Rattle.std.specs.declared.alloc.Global.{Global}
+use Rattle.std.specs.Prelude.{ℕ, List, [], ◌∷◌, ◌++◌, codes, map}
 use Rattle.std.specs.List.{concat, join_with_byte}
 use Rattle.std.specs.Borrow.{Bor}
 use Rattle.cost_base.specs.Decimal.{decimal}
 use Rattle.config_reader.specs.Sections.{with_ends}
 use Rattle.evidence_checker.specs.declared.stop.Accepted.{Accepted}
 use Rattle.evidence_checker.specs.declared.stop.Accepted.TheVariants.{Optimal, Impossible}
-use Rattle.designer_command.specs.declared.rejection.Rejection.{Rejection}
-
--- a refusal of input: its number, the file and the line
-pub record Refusal : Type 0 where
-  pub number : ℕ
-  pub file : List ℕ
-  pub line : ℕ
+use Rattle.input_files.specs.Readings.{Refusal}
+use Rattle.answer_commands.specs.declared.rejection.Rejection.{Rejection}
 
 -- words with one space between each two, and an LF
 abbrev pub line_of : List (List ℕ) → List ℕ
@@ -54,11 +48,3 @@ usage_lines =
 
 abbrev pub usage : List ℕ
 usage = with_ends usage_lines
-
--- pieces of text, one after another
-abbrev pub joined : List (Bor (List ℕ)) → List ℕ
-joined pieces = concat (map (λ piece. piece.now) pieces)
-
--- lines that were made, one after another
-abbrev pub bytes_of : List (Vec ℕ Global) → List ℕ
-bytes_of lines = concat (map (λ line. line.items) lines)

@@ -1,23 +1,23 @@
-//! An audit: how the requested paths stand at present costs.
-ghost use Rattle.std.specs.Prelude.{◌≡◌, ◌<◌, ℕ, List, [], IfOk, IfErr};
+//! `audit`: how the requested paths stand at present costs.
+ghost use Rattle.std.specs.Prelude.{◌≡◌, ◌<◌, ℕ, List, [], IfOk};
 ghost use Rattle.std.specs.List.{AllZip};
 ghost use Rattle.area_graph.specs.Costs.{FitsPoint, at_costs, cost};
 ghost use Rattle.area_graph.specs.Paths.{IsPathOf};
 ghost use Rattle.spf_ties.specs.Distances.{IsRoomFor, IsLeast};
 ghost use Rattle.path_rows.specs.Problems.{ends_of};
-ghost use Rattle.designer_command.specs.Inputs.{names_of};
-ghost use Rattle.designer_command.specs.Outcomes.{OnReady, outcome};
-ghost use Rattle.designer_command.specs.Stops.{StopsReading, files_named};
-ghost use Rattle.designer_command.specs.Texts.{bytes_of};
-ghost use Rattle.designer_command.specs.Audits.{IsAudit, IsAudited, audit_line, audit_lines, standing_by, standing_word};
+ghost use Rattle.input_files.specs.Readings.{Gave};
+ghost use Rattle.input_files.specs.Outcomes.{outcome};
+ghost use Rattle.input_files.specs.Stops.{IsReadAs, files_named};
+ghost use Rattle.designer_command.specs.Audits.{IsAudited, audit_line, audit_lines, standing_by, standing_word};
+ghost use Rattle.designer_command.specs.Reports.{bytes_in};
+ghost use Rattle.designer_command.specs.Runs.{MayAudit};
 
 use crate::lines::{push_bytes, push_number};
-use crate::problem::{View, read_problem};
-use crate::reading::FileWords;
+use crate::report::Report;
 use crate::rivals::is_only;
-use crate::stop::Stop;
 use area_graph::{Graph, Point, path_cost};
-use cost_base::{Listed, OutOfMemory, Shelf};
+use cost_base::{Listed, OutOfMemory, Shelf, Status};
+use input_files::{FileWords, Stop, View, read_problem};
 use path_rows::{Problem, Request};
 use spf_ties::Room;
 use std::alloc::Global;
@@ -137,32 +137,28 @@ fn line_of(alloc: Global, number: usize, path: AuditedPath) -> Result<Vec<u8>, O
     Ok(line)
 }
 
-/// The lines of an audit, each with its LF.
-pub(crate) fn audit_lines(alloc: Global, paths: &[AuditedPath]) -> Result<Vec<Vec<u8>>, OutOfMemory>
-    ensures { IfOk result (λ lines. bytes_of lines.items ≡ audit_lines 0 paths.now) }
+/// The text of an audit: a line for each path.
+fn audit_text(alloc: Global, paths: &[AuditedPath]) -> Result<Vec<u8>, OutOfMemory>
+    ensures { IfOk result (λ text. text.items ≡ audit_lines 0 paths.now) }
 {
-    let mut lines = Vec::new(alloc);
+    let mut text = Vec::new(alloc);
     for (number, path) in paths.iter().enumerate() {
         let line = line_of(alloc, number, *path)?;
-        match lines.push(line) {
-            Ok(()) => {}
-            Err(_) => return Err(OutOfMemory),
-        }
+        push_bytes(&mut text, &line)?;
     }
-    Ok(lines)
+    Ok(text)
 }
 
-/// The lines of the audit of the files of words.
-pub(crate) fn audit_files<'a, S: Shelf>(
+/// The report of an audit of the files of words.
+pub(crate) fn audit_report<'a, S: Shelf>(
     alloc: Global,
     words: FileWords<'a>,
     shelf: &mut S,
-) -> Result<Vec<Vec<u8>>, Stop<'a>>
-    ensures audit { IfOk result (λ lines. OnReady (outcome View.AtPresent (S.held shelf.old) (files_named words.entry)) (λ d. IsAudit d.problem (bytes_of lines.items))) }
-    ensures stop { IfErr result (StopsReading (outcome View.AtPresent (S.held shelf.old) (files_named words.entry)) (S.faults shelf.old) (S.faults shelf.new) (names_of (files_named words.entry))) }
-    ensures held { (other : List ℕ) → S.held shelf.new other ≡ S.held shelf.old other }
+) -> Result<Report, Stop<'a>>
+    ensures { Gave (S.gave shelf.old shelf.new) (λ came. IsReadAs (outcome View.AtPresent (files_named words.entry)) came (λ report d. MayAudit d report.status (bytes_in report.text)) result) }
 {
     let problem = read_problem(alloc, View::AtPresent, words, shelf)?;
     let found = audit(alloc, &problem)?;
-    Ok(audit_lines(alloc, &found)?)
+    let text = audit_text(alloc, &found)?;
+    Ok(Report::made(Status::Done, text))
 }

@@ -3,17 +3,16 @@
 
 mod audit;
 mod check;
+pub mod completeness;
 mod corner;
 mod design;
 mod floor;
 mod lines;
-mod own_lines;
-mod problem;
-mod reading;
-mod rejection;
+mod report;
 mod rewrite;
 mod rivals;
-mod stop;
+mod text_buffer;
 mod top_call;
+mod writer;
 
 pub use top_call::run;

@@ -1,178 +1,51 @@
 //! The top call.
-ghost use Rattle.std.specs.Prelude.{◌≡◌, ℕ, List, MatchOption, MatchResult, string_bytes};
+ghost use Rattle.std.specs.Prelude.{◌≡◌, ℕ, List, IfOk, MatchResult, Some};
+ghost use Rattle.cost_base.specs.Histories.{Taken};
 ghost use Rattle.command_words.specs.Jobs.{seen};
 ghost use Rattle.command_words.specs.Words.{texts};
-ghost use Rattle.designer_command.specs.Runs.{Ends, MayAudit, MayCheck, MayDesign, MayRewrite, MayWrite, RunMeets};
-ghost use Rattle.path_rows.specs.Text.{text};
-ghost use Rattle.designer_command.specs.Texts.{corner_line};
-ghost use Rattle.designer_command.specs.Stops.{IsEnd, JudgementEnds, RevisedEnds, StopEnds, files_named, status_after};
-ghost use Rattle.std.specs.Prelude.{Some};
+ghost use Rattle.input_files.specs.Readings.{Gave};
+ghost use Rattle.designer_command.specs.Reports.{IsWritten, Reports, bytes_in};
+ghost use Rattle.designer_command.specs.Runs.{MayWrite, RunMeets};
+ghost use Rattle.designer_command.specs.Texts.{usage};
 
-use crate::audit::audit_files;
-use crate::check::{Judgement, check_files};
-use crate::design::design;
-use crate::lines::{
-    accepted_line_of, put_lines, put_text, put_usage, read_fault_line_of, refused_line_of,
-    rejected_line_of,
-};
-use crate::reading::FileWords;
-use crate::rewrite::{Revised, rewrite_files};
-use crate::stop::Stop;
+use crate::audit::audit_report;
+use crate::check::check_report;
+use crate::design::design_report;
+use crate::report::{Report, Text, report_of};
+use crate::rewrite::rewrite_report;
+use crate::writer::write_report;
 use command_words::{Job, WordsStop, read_words};
-use cost_base::{OutOfMemory, PutFailed, Shelf, Sink, Status};
-use evidence_text::put_answer;
-use path_rows::Answer;
+use cost_base::{OutOfMemory, Shelf, Sink, Status};
+use input_files::FileWords;
 use std::alloc::Global;
 
-/// The status of a run whose text was put, or not put whole.
-fn end_status(put: Result<(), PutFailed>, aim: Status) -> Status
-    ensures { result ≡ status_after put aim }
+/// The lines that tell how the program is called, each with its LF.
+const USAGE: &str = "\
+usage: ospfcost design --request F [--nodes N] [--bits B] CONFIG..
+       ospfcost check --request F --answer A CONFIG..
+       ospfcost audit --request F CONFIG..
+       ospfcost rewrite --answer A CONFIG
+       ospfcost trial --blocks T [--start S]
+       ospfcost conflict --request F [--nodes N] [--bits B] CONFIG..
+       ospfcost spread --request F --sets G [--nodes N] [--bits B] CONFIG..
+       ospfcost total --request F [--nodes N] [--bits B] CONFIG..
+       ospfcost lsas --request F CONFIG..
+       ospfcost route --lsas L --from A.B.C.D --to A.B.C.D
+";
+
+/// The report of words that are refused.
+fn usage_report() -> Report
+    ensures { Reports Status.WordsRefused usage result }
 {
-    match put {
-        Ok(()) => aim,
-        Err(PutFailed) => Status::WriteFault,
+    Report {
+        status: Status::WordsRefused,
+        text: Text::Fixed(USAGE),
     }
 }
 
-/// Puts a line, where memory sufficed to make it.
-fn put_line<K: Sink>(line: Result<Vec<u8>, OutOfMemory>, aim: Status, out: &mut K) -> Status
-    ensures { MatchResult line (λ bytes. IsEnd aim bytes.items (K.got out.old) (K.got out.new) (K.faults out.old) (K.faults out.new) result)
-        (λ _. (result ≡ Status.OutOfMemory) × (K.got out.new ≡ K.got out.old)) }
-{
-    match line {
-        Ok(line) => end_status(out.put(&line), aim),
-        Err(OutOfMemory) => Status::OutOfMemory,
-    }
-}
-
-/// Writes why a command stopped before its own work.
-fn write_stop<K: Sink>(alloc: Global, stop: Stop<'_>, out: &mut K) -> Status
-    ensures { StopEnds stop.entry (K.got out.old) (K.got out.new) (K.faults out.old) (K.faults out.new) result }
-{
-    match stop {
-        Stop::Refused { number, file, line } => put_line(
-            refused_line_of(alloc, number, file, line),
-            Status::InputRefused,
-            out,
-        ),
-        Stop::ReadFault { file } => {
-            put_line(read_fault_line_of(alloc, file), Status::ReadFault, out)
-        }
-        Stop::OutOfMemory => Status::OutOfMemory,
-    }
-}
-
-/// Puts the answer at the lower bounds, or that they aren't fit.
-fn put_found<K: Sink>(found: &Option<Answer>, out: &mut K) -> Status
-    ensures { MatchOption found.now (IsEnd Status.Undecided corner_line (K.got out.old) (K.got out.new) (K.faults out.old) (K.faults out.new) result)
-        (λ answer. IsEnd Status.Done (text answer) (K.got out.old) (K.got out.new) (K.faults out.old) (K.faults out.new) result) }
-{
-    match found {
-        Some(answer) => end_status(put_answer(answer, out), Status::Done),
-        None => end_status(out.put(b"lower corner is not fit\n"), Status::Undecided),
-    }
-}
-
-/// Runs `design`: writes the answer at the lower bounds, or that they aren't fit, or why no problem was read.
-fn run_design<S: Shelf, K: Sink>(
-    alloc: Global,
-    words: FileWords<'_>,
-    shelf: &mut S,
-    out: &mut K,
-) -> Status
-    ensures meets { Ends (MayDesign (S.held shelf.old) (S.faults shelf.old) (S.faults shelf.new) (files_named words.entry)) (K.got out.old) (K.got out.new) (K.faults out.old) (K.faults out.new) result }
-    ensures held { (name : List ℕ) → S.held shelf.new name ≡ S.held shelf.old name }
-{
-    match design(alloc, words, shelf) {
-        Ok(found) => put_found(&found, out),
-        Err(stop) => write_stop(alloc, stop, out),
-    }
-}
-
-/// Writes what a check came to.
-fn write_judgement<K: Sink>(alloc: Global, judgement: Judgement, out: &mut K) -> Status
-    ensures { JudgementEnds judgement (K.got out.old) (K.got out.new) (K.faults out.old) (K.faults out.new) result }
-{
-    match judgement {
-        Judgement::Accepted(accepted) => {
-            put_line(accepted_line_of(alloc, accepted), Status::Done, out)
-        }
-        Judgement::Rejected(rejection) => put_line(
-            rejected_line_of(alloc, rejection),
-            Status::EvidenceRefused,
-            out,
-        ),
-    }
-}
-
-/// Runs `check`: writes whether the answer's file is that of a valid answer, or why there was nothing to check.
-fn run_check<S: Shelf, K: Sink>(
-    alloc: Global,
-    words: FileWords<'_>,
-    answer: &String,
-    shelf: &mut S,
-    out: &mut K,
-) -> Status
-    ensures meets { Ends (MayCheck (S.held shelf.old) (S.faults shelf.old) (S.faults shelf.new) (files_named words.entry) (string_bytes answer.now)) (K.got out.old) (K.got out.new) (K.faults out.old) (K.faults out.new) result }
-    ensures held { (name : List ℕ) → S.held shelf.new name ≡ S.held shelf.old name }
-{
-    match check_files(alloc, words, answer, shelf) {
-        Ok(judgement) => write_judgement(alloc, judgement, out),
-        Err(stop) => write_stop(alloc, stop, out),
-    }
-}
-
-/// Writes what a rewrite came to.
-fn write_revised<K: Sink>(alloc: Global, revised: &Revised, out: &mut K) -> Status
-    ensures { RevisedEnds revised.now (K.got out.old) (K.got out.new) (K.faults out.old) (K.faults out.new) result }
-{
-    match revised {
-        Revised::Written(text) => end_status(put_text(text, out), Status::Done),
-        Revised::Rejected(rejection) => put_line(
-            rejected_line_of(alloc, *rejection),
-            Status::EvidenceRefused,
-            out,
-        ),
-    }
-}
-
-/// Runs `rewrite`: writes the configuration with the answer's costs, or why there are none for it.
-fn run_rewrite<S: Shelf, K: Sink>(
-    alloc: Global,
-    answer: &String,
-    config: &String,
-    shelf: &mut S,
-    out: &mut K,
-) -> Status
-    ensures meets { Ends (MayRewrite (S.held shelf.old) (S.faults shelf.old) (S.faults shelf.new) (string_bytes config.now) (string_bytes answer.now)) (K.got out.old) (K.got out.new) (K.faults out.old) (K.faults out.new) result }
-    ensures held { (name : List ℕ) → S.held shelf.new name ≡ S.held shelf.old name }
-{
-    match rewrite_files(alloc, answer, config, shelf) {
-        Ok(revised) => write_revised(alloc, &revised, out),
-        Err(stop) => write_stop(alloc, stop, out),
-    }
-}
-
-/// Runs `audit`: writes a line for each requested path, or why no problem was read.
-fn run_audit<S: Shelf, K: Sink>(
-    alloc: Global,
-    words: FileWords<'_>,
-    shelf: &mut S,
-    out: &mut K,
-) -> Status
-    ensures meets { Ends (MayAudit (S.held shelf.old) (S.faults shelf.old) (S.faults shelf.new) (files_named words.entry)) (K.got out.old) (K.got out.new) (K.faults out.old) (K.faults out.new) result }
-    ensures held { (name : List ℕ) → S.held shelf.new name ≡ S.held shelf.old name }
-{
-    match audit_files(alloc, words, shelf) {
-        Ok(lines) => end_status(put_lines(&lines, out), Status::Done),
-        Err(stop) => write_stop(alloc, stop, out),
-    }
-}
-
-/// Runs a job. For now the words of a command that isn't built are refused.
-fn run_job<S: Shelf, K: Sink>(alloc: Global, job: &Job, shelf: &mut S, out: &mut K) -> Status
-    ensures meets { Ends (MayWrite (Some (seen job.now)) (S.held shelf.old) (S.faults shelf.old) (S.faults shelf.new)) (K.got out.old) (K.got out.new) (K.faults out.old) (K.faults out.new) result }
-    ensures held { (name : List ℕ) → S.held shelf.new name ≡ S.held shelf.old name }
+/// The report of a job. For now the words of a command that isn't built are refused.
+fn job_report<S: Shelf>(alloc: Global, job: &Job, shelf: &mut S) -> Result<Report, OutOfMemory>
+    ensures { Gave (S.gave shelf.old shelf.new) (λ came. IfOk result (λ report. MayWrite (Some (seen job.now)) came report.status (bytes_in report.text))) }
 {
     match job {
         Job::Design {
@@ -181,10 +54,10 @@ fn run_job<S: Shelf, K: Sink>(alloc: Global, job: &Job, shelf: &mut S, out: &mut
             ..
         } => {
             let words = FileWords {
-                request,
+                request: request.as_str(),
                 configs: configs.as_slice(),
             };
-            run_design(alloc, words, shelf, out)
+            report_of(alloc, design_report(alloc, words, shelf))
         }
         Job::Check {
             request,
@@ -192,20 +65,34 @@ fn run_job<S: Shelf, K: Sink>(alloc: Global, job: &Job, shelf: &mut S, out: &mut
             configs,
         } => {
             let words = FileWords {
-                request,
+                request: request.as_str(),
                 configs: configs.as_slice(),
             };
-            run_check(alloc, words, answer, shelf, out)
+            report_of(alloc, check_report(alloc, words, answer.as_str(), shelf))
         }
         Job::Audit { request, configs } => {
             let words = FileWords {
-                request,
+                request: request.as_str(),
                 configs: configs.as_slice(),
             };
-            run_audit(alloc, words, shelf, out)
+            report_of(alloc, audit_report(alloc, words, shelf))
         }
-        Job::Rewrite { answer, config } => run_rewrite(alloc, answer, config, shelf, out),
-        _ => end_status(put_usage(out), Status::WordsRefused),
+        Job::Rewrite { answer, config } => report_of(
+            alloc,
+            rewrite_report(alloc, answer.as_str(), config.as_str(), shelf),
+        ),
+        _ => Ok(usage_report()),
+    }
+}
+
+/// Writes a report, where memory sufficed to make it, and tells how the run ends.
+fn write_made<K: Sink>(made: Result<Report, OutOfMemory>, out: &mut K) -> Status
+    ensures { MatchResult made (λ report. IsWritten report.status (bytes_in report.text) (K.handed out.old out.new) (K.faults out.old) (K.faults out.new) result)
+        (λ _. (result ≡ Status.OutOfMemory) × (out.new ≡ out.old)) }
+{
+    match made {
+        Ok(report) => write_report(&report, out),
+        Err(OutOfMemory) => Status::OutOfMemory,
     }
 }
 
@@ -226,18 +113,21 @@ fn run_job<S: Shelf, K: Sink>(alloc: Global, job: &Job, shelf: &mut S, out: &mut
 ///
 /// The other commands aren't built yet: their words are refused.
 ///
+/// Each file is asked for once, in its turn, and only where no fault stands before it. What is written is right for what
+/// came of the files, also where the shelf keeps nothing of their content.
+///
 /// # Status
 ///
 /// `InputRefused` with the first fault; `ReadFault` where a file of the words failed; `WriteFault` where the sink's count
 /// of faults rose, and then a part of a text that this call may write was written; `OutOfMemory`, and then nothing was
 /// written; `WordsRefused` off the words, with the usage text.
 pub fn run<S: Shelf, K: Sink>(alloc: Global, words: &[String], shelf: &mut S, out: &mut K) -> Status
-    ensures meets { RunMeets (texts words.now) (S.held shelf.old) (S.faults shelf.old) (S.faults shelf.new) (K.got out.old) (K.got out.new) (K.faults out.old) (K.faults out.new) result }
+    ensures meets { RunMeets (texts words.now) (S.gave shelf.old shelf.new) (S.held shelf.old) (S.faults shelf.old) (S.faults shelf.new) (K.handed out.old out.new) (K.got out.old) (K.got out.new) (K.faults out.old) (K.faults out.new) result }
     ensures held { (name : List ℕ) → S.held shelf.new name ≡ S.held shelf.old name }
 {
     match read_words(alloc, words) {
-        Ok(job) => run_job(alloc, &job, shelf, out),
-        Err(WordsStop::Refused) => end_status(put_usage(out), Status::WordsRefused),
+        Ok(job) => write_made(job_report(alloc, &job, shelf), out),
+        Err(WordsStop::Refused) => write_report(&usage_report(), out),
         Err(WordsStop::OutOfMemory) => Status::OutOfMemory,
     }
 }

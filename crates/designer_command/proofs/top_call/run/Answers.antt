@@ -1,18 +1,54 @@
--- Words that are refused end with the usage text.
-use Rattle.std.proofs.Common.{refl, ap, Err}
-use Rattle.command_words.specs.declared.job.WordsStop.{WordsStop}
+-- What was written of the report is right for what came of the files.
+use Rattle.std.proofs.Common.{◌≡◌, refl, sym, ap, subst, [], Err, Some, None}
+use Rattle.std.specs.Prelude.{Option}
 use Rattle.cost_base.specs.declared.Status.TheVariants as status
+use Rattle.command_words.specs.declared.job.WordsStop.{WordsStop}
+use Rattle.command_words.specs.Jobs.{JobRead, seen}
 use Rattle.command_words.specs.Commands.{job_of}
 use Rattle.command_words.specs.Words.{texts}
 use Rattle.designer_command.specs.Texts.{usage}
-use Rattle.designer_command.specs.Runs.{MayWrite}
-use Rattle.designer_command.proofs.Runs.{put_meets, writes_none}
+use Rattle.designer_command.specs.Reports.{bytes_in}
+use Rattle.designer_command.specs.Runs.{MayWrite, Writes}
+use Rattle.designer_command.proofs.Runs.{made_meets, written_meets, writes_none, may_report}
 use Rattle.designer_command.proofs.top_call.run.Goals as goal
+
+pub returns-in-Ok : goal.returns-in-Ok
+returns-in-Ok g c =
+    let a = c.args.shelf.now in
+    let b = c.job_report.new.shelf in
+    let o = c.args.out.now in
+    let p = c.write_made.new.out in
+    let did = c.job_report.ensures in
+    record {
+      meets = record {
+        came = did.came;
+        given = did.given;
+        told = g.met.S.Shelf.gave_told a b did.came did.given;
+        counted = g.met.S.Shelf.gave_counted a b did.came did.given;
+        written =
+            subst (λ (job : Option JobRead). Writes (MayWrite job did.came) (g.K.Sink.handed o p) (g.K.Sink.got o) (g.K.Sink.got p) (g.K.Sink.faults o) (g.K.Sink.faults p) c.write_made.result) (sym c.in-Ok.ensures.job)
+            (made_meets (p ≡ o) (MayWrite (Some (seen c.in-Ok.job)) did.came) (g.K.Sink.handed o p) (g.K.Sink.got o) (g.K.Sink.got p) (g.K.Sink.faults o) (g.K.Sink.faults p) c.job_report.result c.write_made.result
+            (writes_none (Some (seen c.in-Ok.job)) did.came) (g.met.K.Sink.handed_got o p)
+            (λ same. record { written = subst (λ sink. g.K.Sink.handed o sink []) (sym same) (g.met.K.Sink.handed_none o); same = ap (λ sink. g.K.Sink.got sink) same })
+            did.so c.write_made.ensures);
+      };
+      held = g.met.S.Shelf.gave_held a b did.came did.given;
+    }
 
 pub returns-in-Err-Refused-clause-meets : goal.returns-in-Err-Refused-clause-meets
 returns-in-Err-Refused-clause-meets g c =
-    let held = g.S.Shelf.held c.args.shelf.now in
-    let counts = g.S.Shelf.faults c.args.shelf.now in
-    put_meets c.put_usage.result (MayWrite (job_of (texts c.args.words.now)) held counts counts) status.WordsRefused usage
-    (g.K.Sink.got c.args.out.now) (g.K.Sink.got c.put_usage.new.out) (g.K.Sink.faults c.args.out.now) (g.K.Sink.faults c.put_usage.new.out) c.end_status.result
-    c.put_usage.ensures.whole c.put_usage.ensures.part c.put_usage.ensures.cause c.end_status.ensures (writes_none (job_of (texts c.args.words.now)) held counts counts) (rw (c.in-Err-Refused.ensures.refused (ap (λ (stop : WordsStop). Err stop) c.in-Err-Refused.field-0-is)) refl)
+    let a = c.args.shelf.now in
+    let o = c.args.out.now in
+    let p = c.write_report.new.out in
+    let words = texts c.args.words.now in
+    let none : job_of words ≡ None = c.in-Err-Refused.ensures.refused (ap (λ (stop : WordsStop). Err stop) c.in-Err-Refused.field-0-is) in
+    record {
+      came = [];
+      given = g.met.S.Shelf.gave_none a;
+      told = tt;
+      counted = g.met.S.Shelf.gave_counted a a [] (g.met.S.Shelf.gave_none a);
+      written = written_meets (MayWrite (job_of words) []) (g.K.Sink.handed o p) (g.K.Sink.got o) (g.K.Sink.got p) (g.K.Sink.faults o) (g.K.Sink.faults p) c.usage_report.result.status (bytes_in c.usage_report.result.text) c.write_report.result
+          (writes_none (job_of words) []) (g.met.K.Sink.handed_got o p)
+          (may_report (MayWrite (job_of words) []) status.WordsRefused usage c.usage_report.result c.usage_report.ensures (subst (λ (job : Option JobRead). MayWrite job [] status.WordsRefused usage) (sym none) (refl, refl)))
+          c.write_report.ensures;
+    }

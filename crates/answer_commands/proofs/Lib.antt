@@ -1,0 +1,5 @@
+pub mod Judged
+pub mod Revisions
+pub mod OwnLines
+pub mod FewLines
+pub mod AnswerFiles

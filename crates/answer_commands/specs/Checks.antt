@@ -1,0 +1,67 @@
+-- What a check says of an answer's file.
+use Rattle.std.specs.Prelude.{◌≡◌, ℕ, ◌⊎◌, List, All}
+use Rattle.cost_base.specs.Order.{FirstOf}
+use Rattle.path_rows.specs.Problems.{DesignProblem}
+use Rattle.path_rows.specs.Answers.{AnswerParts, IsValid}
+use Rattle.path_rows.specs.ProblemLaws.{IsTrueVerdict}
+use Rattle.path_rows.specs.Text.{text, IsAnswer}
+use Rattle.evidence_text.specs.Grammar.{AtHead}
+use Rattle.evidence_text.specs.Refusals.{IsRefused}
+use Rattle.answer_laws.specs.Laws.{IsNoValidText}
+use Rattle.evidence_checker.specs.declared.stop.Accepted.{Accepted as Acceptance}
+use Rattle.evidence_checker.specs.Laws.{IsAcceptedAs}
+use Rattle.evidence_checker.specs.Tests.{tests}
+use Rattle.answer_commands.specs.declared.check.Judgement.{Judgement}
+use Rattle.answer_commands.specs.declared.check.Judgement.TheVariants.{Accepted, Rejected}
+use Rattle.answer_commands.specs.declared.rejection.Rejection.{Rejection}
+use Rattle.input_files.specs.declared.problem.View.TheVariants.{AsRequested}
+use Rattle.input_files.specs.Inputs.{InputFiles}
+use Rattle.input_files.specs.Readings.{Reading, Ready, ◌>>=◌}
+use Rattle.input_files.specs.Outcomes.{outcome, file_read, longest_answer}
+
+-- what is checked: the bytes of an answer's file, as the text of an answer to a problem
+pub record Claim : Type 0 where
+  pub problem : DesignProblem
+  pub bytes : List ℕ
+
+-- what the files of a check say, read in their order: those of the problem, and then the answer's
+abbrev pub claim_read : InputFiles → List ℕ → Reading Claim
+claim_read names answer =
+    outcome AsRequested names >>= λ d.
+    file_read longest_answer answer >>= λ bytes.
+    Ready (record { problem = d.problem; bytes = bytes })
+
+-- the bytes are the text of an answer; a text says no start of its rows' rivals, which stand at 0
+pub record IsTextOf (bytes : List ℕ) (answer : AnswerParts) : Type 0 where
+  pub spelled : bytes ≡ text answer
+  pub kept : IsAnswer answer
+  pub starts : All (λ row. row.rival.start ≡ 0) answer.rows
+
+-- the bytes are the text of a valid answer, and what its verdict claims is true
+pub record IsAccepted (claim : Claim) (acceptance : Acceptance) : Type 0 where
+  pub answer : AnswerParts
+  pub said : IsTextOf claim.bytes answer
+  pub valid : IsValid claim.problem answer
+  pub holds : IsTrueVerdict claim.problem answer.verdict answer.costs
+  pub claimed : IsAcceptedAs answer.verdict acceptance
+
+-- the bytes are the text of an answer that isn't valid: the first of the checker's tests that is met, with its place
+pub record IsInvalid (claim : Claim) (rejection : Rejection) : Type 0 where
+  pub answer : AnswerParts
+  pub said : IsTextOf claim.bytes answer
+  pub first : FirstOf (tests claim.problem answer) (record { number = rejection.number; place = rejection.place })
+  pub invalid : IsValid claim.problem answer → ⊥
+
+-- the bytes are off the grammar of answers, by the first line that is at fault
+abbrev pub IsOffGrammar : List ℕ → Rejection → Type 0
+IsOffGrammar bytes rejection = IsRefused AtHead 0 bytes rejection.number rejection.place
+
+-- the bytes are no valid answer's text: they are off the grammar of answers, or their answer isn't valid
+pub record IsRejected (claim : Claim) (rejection : Rejection) : Type 0 where
+  pub cause : IsOffGrammar claim.bytes rejection ⊎ IsInvalid claim rejection
+  pub never : IsNoValidText claim.problem claim.bytes
+
+-- what a check of these comes to
+abbrev pub IsJudged : Claim → Judgement → Type 0
+IsJudged claim (Accepted acceptance) = IsAccepted claim acceptance
+IsJudged claim (Rejected rejection) = IsRejected claim rejection

@@ -1,0 +1,91 @@
+-- What a rewrite makes of a configuration and an answer's file.
+use Rattle.std.specs.Prelude.{◌≡◌, ℕ, ◌-◌, ◌^◌, ◌<◌, ◌⊎◌, List, [], ◌∷◌, ◌++◌, length, Bool, if◌then◌else◌, Option, None, Some}
+use Rattle.std.specs.List.{filter, list_any}
+use Rattle.cost_base.specs.Lists.{same_bytes}
+use Rattle.config_reader.specs.Configs.{config_of}
+use Rattle.path_rows.specs.declared.answer.CostLine.{CostLine}
+use Rattle.path_rows.specs.declared.answer.Costs.{Costs}
+use Rattle.path_rows.specs.Answers.{AnswerParts}
+use Rattle.config_writer.specs.Rewriting.{costs_of, rewritten, first_missing, ReadsBack}
+use Rattle.answer_commands.specs.declared.rejection.Rejection.{Rejection}
+use Rattle.answer_commands.specs.declared.rewrite.Revised.{Revised}
+use Rattle.answer_commands.specs.declared.rewrite.Revised.TheVariants.{Written, Rejected}
+use Rattle.input_files.specs.Readings.{Reading, Ready, ◌>>=◌}
+use Rattle.input_files.specs.Outcomes.{ConfigFile, config_read, file_read, longest_answer}
+use Rattle.answer_commands.specs.Checks.{IsTextOf, IsOffGrammar}
+
+-- what a rewrite is made of: a configuration, and the bytes of an answer's file
+pub record Revision : Type 0 where
+  pub config : ConfigFile
+  pub bytes : List ℕ
+
+-- what the files of a rewrite say, read in their order: the configuration, and then the answer's
+abbrev pub revision_read : List ℕ → List ℕ → Reading Revision
+revision_read config answer =
+    config_read config >>= λ file.
+    file_read longest_answer answer >>= λ bytes.
+    Ready (record { config = file; bytes = bytes })
+
+-- the lines of a router
+abbrev pub own_lines : List ℕ → List CostLine → List CostLine
+own_lines router lines = filter (λ line. same_bytes line.router router) lines
+
+-- whether one of the lines is of the interface
+abbrev pub is_named : List ℕ → List CostLine → Bool
+is_named interface lines = list_any (λ line. same_bytes interface line.interface) lines
+
+-- of several lines of one interface the last one
+abbrev pub last_lines : List CostLine → List CostLine
+last_lines [] = []
+last_lines (line ∷ lines) = if is_named line.interface lines then last_lines lines else line ∷ last_lines lines
+
+-- the new costs of the interfaces of a configuration's router: the last line of each counts
+abbrev pub new_costs : ConfigFile → List CostLine → List (List ℕ × ℕ)
+new_costs config lines = costs_of (last_lines (own_lines (config_of config.name config.bytes).name lines))
+
+-- the bytes are the text of an answer with costs: the configuration with the new costs, which reads back as they say
+pub record IsRewritten (r : Revision) (text : List ℕ) : Type 0 where
+  pub answer : AnswerParts
+  pub said : IsTextOf r.bytes answer
+  pub costs : Costs
+  pub printed : answer.costs ≡ Some costs
+  pub headed : first_missing (new_costs r.config costs.lines) r.config.bytes ≡ None
+  pub written : text ≡ rewritten (new_costs r.config costs.lines) r.config.bytes
+  pub read_back : ReadsBack r.config.name (new_costs r.config costs.lines) r.config.bytes text
+
+-- 49: the answer has no costs
+pub record HasNoCosts (r : Revision) (rejection : Rejection) : Type 0 where
+  pub answer : AnswerParts
+  pub said : IsTextOf r.bytes answer
+  pub none : answer.costs ≡ None
+  pub number : rejection.number ≡ 49
+  pub place : rejection.place ≡ 0
+
+-- 50: a cost line of the configuration's router names an interface that has no head in the configuration
+pub record NamesNoHead (r : Revision) (rejection : Rejection) : Type 0 where
+  pub answer : AnswerParts
+  pub said : IsTextOf r.bytes answer
+  pub costs : Costs
+  pub printed : answer.costs ≡ Some costs
+  pub missing : first_missing (new_costs r.config costs.lines) r.config.bytes ≡ None → ⊥
+  pub number : rejection.number ≡ 50
+  pub place : rejection.place ≡ 0
+
+-- the bytes are off the grammar of answers, or their answer gives the configuration no costs
+abbrev pub IsUnfit : Revision → Rejection → Type 0
+IsUnfit r rejection = IsOffGrammar r.bytes rejection ⊎ HasNoCosts r rejection ⊎ NamesNoHead r rejection
+
+-- what a rewrite of these comes to
+abbrev pub IsRevised : Revision → Revised → Type 0
+IsRevised r (Written text) = IsRewritten r text.items
+IsRevised r (Rejected rejection) = IsUnfit r rejection
+
+-- the lines can be numbered
+abbrev pub HasFewLines : Option Costs → Type 0
+HasFewLines None = Unit {0}
+HasFewLines (Some costs) = length costs.lines < 2 ^ 32 - 1
+
+-- a line was added, unless its interface was seen
+pub record AddsLine (old new : List CostLine) (seen_old seen_new : List (List ℕ)) (line : CostLine) : Type 0 where
+  pub lines : new ≡ (if list_any (same_bytes line.interface) seen_old then old else old ++ line ∷ [])
+  pub seen : seen_new ≡ (if list_any (same_bytes line.interface) seen_old then seen_old else seen_old ++ line.interface ∷ [])

@@ -1,0 +1,76 @@
+//! A check of an answer's file against the problem of the files of words.
+ghost use Rattle.std.specs.Prelude.{ℕ, ◌≤◌, List, IfOk, length};
+ghost use Rattle.path_rows.specs.Answers.{AnswerParts};
+ghost use Rattle.evidence_checker.specs.Laws.{RefusesInvalid};
+ghost use Rattle.evidence_checker.specs.Refusals.{StopsBy};
+ghost use Rattle.evidence_checker.specs.Tests.{tests};
+ghost use Rattle.input_files.specs.Readings.{Gave};
+ghost use Rattle.input_files.specs.Outcomes.{longest_answer};
+ghost use Rattle.input_files.specs.Stops.{IsReadAs, files_named};
+ghost use Rattle.answer_commands.specs.Checks.{Claim, IsInvalid, IsJudged, IsTextOf, claim_read};
+
+use crate::rejection::{Rejection, rejection_of_text};
+use cost_base::{OutOfMemory, Shelf};
+use evidence_checker::{Accepted, CheckStop, check};
+use evidence_text::read_answer;
+use input_files::{FileWords, Stop, View, read_answer_file, read_problem};
+use path_rows::{Answer, Problem};
+use std::alloc::Global;
+
+/// What a check of an answer's file comes to.
+#[derive(Clone, Copy, Debug, PartialEq, Eq)]
+pub enum Judgement {
+    /// The text is that of a valid answer.
+    Accepted(Accepted),
+    /// The text is off the grammar, or the answer isn't valid.
+    Rejected(Rejection),
+}
+
+/// The rejection of an answer by the checker.
+fn rejection_of_answer(stop: CheckStop) -> Result<Rejection, OutOfMemory>
+    ensures { (claim : Claim) (answer : AnswerParts) → IsTextOf claim.bytes answer → StopsBy (tests claim.problem answer) stop → RefusesInvalid claim.problem answer stop → IfOk result (IsInvalid claim) }
+{
+    match stop {
+        CheckStop::Refused { number, place } => Ok(Rejection { number, place }),
+        CheckStop::OutOfMemory => Err(OutOfMemory),
+    }
+}
+
+/// What a check of an answer to a problem comes to.
+fn judge_answer(alloc: Global, problem: &Problem, answer: &Answer) -> Result<Judgement, OutOfMemory>
+    ensures { (bytes : List ℕ) → IsTextOf bytes answer.now → IfOk result (IsJudged (record { problem = problem.now; bytes = bytes })) }
+{
+    match check(alloc, problem, answer) {
+        Ok(accepted) => Ok(Judgement::Accepted(accepted)),
+        Err(stop) => Ok(Judgement::Rejected(rejection_of_answer(stop)?)),
+    }
+}
+
+/// What a check of the text of an answer to a problem comes to.
+fn judge(alloc: Global, problem: &Problem, bytes: &[u8]) -> Result<Judgement, OutOfMemory>
+    requires { length bytes.now ≤ longest_answer }
+    ensures { IfOk result (IsJudged (record { problem = problem.now; bytes = bytes.now })) }
+{
+    match read_answer(alloc, bytes) {
+        Ok(answer) => judge_answer(alloc, problem, &answer),
+        Err(stop) => Ok(Judgement::Rejected(rejection_of_text(stop)?)),
+    }
+}
+
+/// What a check of an answer's file comes to, after the files of words.
+///
+/// # Errors
+///
+/// `Stop`: a file failed or is too long, or the input has a fault; want of memory.
+pub fn check_files<'a, S: Shelf>(
+    alloc: Global,
+    words: FileWords<'a>,
+    answer: &'a str,
+    shelf: &mut S,
+) -> Result<Judgement, Stop<'a>>
+    ensures { Gave (S.gave shelf.old shelf.new) (λ came. IsReadAs (claim_read (files_named words.entry) answer.now) came (λ judgement claim. IsJudged claim judgement) result) }
+{
+    let problem = read_problem(alloc, View::AsRequested, words, shelf)?;
+    let bytes = read_answer_file(alloc, shelf, answer)?;
+    Ok(judge(alloc, &problem, &bytes)?)
+}

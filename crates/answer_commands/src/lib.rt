@@ -1,0 +1,11 @@
+//! The commands on answers' files: a check against a problem, and a rewrite of a configuration.
+#![tactic(auto)]
+
+mod check;
+mod own_lines;
+mod rejection;
+mod rewrite;
+
+pub use check::{Judgement, check_files};
+pub use rejection::Rejection;
+pub use rewrite::{Revised, rewrite_files};

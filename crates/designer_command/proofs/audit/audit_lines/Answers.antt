@@ -1,9 +1,0 @@
--- The line of the next path is put behind the others.
-use Rattle.std.proofs.Common.{◌<◌, length, rules}
-use Rattle.designer_command.proofs.Audits.{audit_turn}
-use Rattle.designer_command.proofs.audit.audit_lines.Goals as goal
-
-pub loop-number-preserved : goal.loop-number-preserved
-loop-number-preserved c =
-    let below : c.loop-number.number < length c.args.paths.now = search rules in
-    audit_turn c.args.paths.now c.loop-number.number c.loop-number.lines.items c.push.new.self.items c.in_ok-line.line _ below c.in_ok-line.ensures c.in-Ok.ensures.items c.loop-number.invariant

@@ -1,0 +1,6 @@
+pub mod Readings
+pub mod Stops
+pub mod Configs
+pub mod Problems
+pub mod ReadyInputs
+pub mod Present

@@ -1,0 +1,5 @@
+pub mod Inputs
+pub mod Readings
+pub mod Outcomes
+pub mod Configs
+pub mod Stops

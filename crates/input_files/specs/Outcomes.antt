@@ -1,0 +1,116 @@
+-- What the files of a network say, read in their order: the request, each configuration, the topology, resolution.
+use Rattle.std.specs.Prelude.{ℕ, List, [], ◌∷◌, Option, Some, None, map, slice_get, slice_index_or}
+use Rattle.interface_model.specs.Records.{Router}
+use Rattle.config_reader.specs.Configs.{config_of}
+use Rattle.config_reader.specs.declared.ConfigFault.{ConfigFault}
+use Rattle.config_reader.specs.declared.ConfigFault.TheVariants.{LongLine, BadAddress, BadNumber, BadArea, Unsupported, SecondAddress, AreaTwice, BadName}
+use Rattle.config_reader.specs.FaultList.{Fault, config_fault}
+use Rattle.lsdb_build.specs.declared.Linked.{Linked}
+use Rattle.lsdb_build.specs.Graphs.{Database}
+use Rattle.lsdb_build.specs.Topology.{TopologyFault, topology_fault, database_of}
+use Rattle.path_rows.specs.Problems.{DesignProblem}
+use Rattle.path_requests.specs.Meaning.{Asked, problem_of}
+use Rattle.path_requests.specs.Reading.{RequestFault, request_fault, asked_by}
+use Rattle.path_requests.specs.Resolving.{ResolutionFault, AtLine, LacksCost, resolution_fault, present_fault, present_problem_of}
+use Rattle.input_files.specs.declared.problem.View.{View}
+use Rattle.input_files.specs.declared.problem.View.TheVariants.{AsRequested, AtPresent}
+use Rattle.input_files.specs.Inputs.{InputFiles}
+use Rattle.input_files.specs.Readings.{Refusal, Reading, Take, Refused, Ready, ◌>>=◌}
+
+-- a configuration: its file's name and its bytes
+pub record ConfigFile : Type 0 where
+  pub name : List ℕ
+  pub bytes : List ℕ
+
+-- what well-formed input says
+pub record Input : Type 0 where
+  pub asked : Asked
+  pub files : List ConfigFile
+  pub database : Database
+  pub problem : DesignProblem
+
+-- 4 MiB
+abbrev pub longest_file : ℕ
+longest_file = 4194304
+
+-- 1 GiB
+abbrev pub longest_answer : ℕ
+longest_answer = 1073741824
+
+-- the bytes of a file of at most so many
+abbrev pub file_read : ℕ → List ℕ → Reading (List ℕ)
+file_read most name = Take name most (λ bytes. Ready bytes)
+
+abbrev pub if_asked : List ℕ → List ℕ → Option RequestFault → Reading Asked
+if_asked name bytes None = Ready (asked_by bytes)
+if_asked name bytes (Some fault) = Refused (record { number = fault.number; file = name; line = fault.line })
+
+-- the request: its file's size, and then its lines
+abbrev pub request_read : List ℕ → Reading Asked
+request_read name = file_read longest_file name >>= λ bytes. if_asked name bytes (request_fault bytes)
+
+abbrev pub fault_number : ConfigFault → ℕ
+fault_number LongLine = 1
+fault_number BadAddress = 2
+fault_number BadNumber = 3
+fault_number BadArea = 4
+fault_number Unsupported = 5
+fault_number SecondAddress = 6
+fault_number AreaTwice = 7
+fault_number BadName = 8
+
+abbrev pub if_config : List ℕ → List ℕ → Option Fault → Reading ConfigFile
+if_config name bytes None = Ready (record { name = name; bytes = bytes })
+if_config name bytes (Some fault) = Refused (record { number = fault_number fault.fault; file = name; line = fault.line })
+
+-- a configuration: its file's size, and then its lines
+abbrev pub config_read : List ℕ → Reading ConfigFile
+config_read name = file_read longest_file name >>= λ bytes. if_config name bytes (config_fault name bytes)
+
+-- the configurations in word order
+abbrev pub configs_read : List (List ℕ) → Reading (List ConfigFile)
+configs_read [] = Ready []
+configs_read (name ∷ names) =
+    config_read name >>= λ file. configs_read names >>= λ files. Ready (file ∷ files)
+
+abbrev pub routers_of : List ConfigFile → List Router
+routers_of files = map (λ file. config_of file.name file.bytes) files
+
+-- the file of a router's configuration; there is one for each router
+abbrev pub file_of : InputFiles → ℕ → List ℕ
+file_of names router = slice_index_or names.configs router names.request
+
+abbrev pub if_faultless : InputFiles → Database → Option TopologyFault → Reading Database
+if_faultless names d None = Ready d
+if_faultless names d (Some fault) = Refused (record { number = fault.number; file = file_of names fault.config; line = fault.line })
+
+-- the topology
+abbrev pub topology_read : InputFiles → ℕ → List Router → Reading Database
+topology_read names area routers = if_faultless names (database_of area routers) (topology_fault area routers)
+
+-- an interface without a cost is refused at its first head
+abbrev pub cost_refusal : InputFiles → Option Linked → Refusal
+cost_refusal names None = record { number = 26; file = names.request; line = 0 }
+cost_refusal names (Some link) = record { number = 26; file = file_of names link.router; line = link.line }
+
+abbrev pub resolution_refusal : InputFiles → Database → ResolutionFault → Refusal
+resolution_refusal names d (AtLine number line hop) = record { number = number; file = names.request; line = line }
+resolution_refusal names d (LacksCost l) = cost_refusal names (slice_get d.links l)
+
+abbrev pub if_resolved : InputFiles → Database → DesignProblem → Option ResolutionFault → Reading DesignProblem
+if_resolved names d p None = Ready p
+if_resolved names d p (Some fault) = Refused (resolution_refusal names d fault)
+
+-- the problem that the requests make of the database: with the interfaces that they free, or with every interface as it is
+abbrev pub problem_read : View → InputFiles → Asked → Database → Reading DesignProblem
+problem_read AsRequested names asked d = if_resolved names d (problem_of asked d) (resolution_fault asked d)
+problem_read AtPresent names asked d = if_resolved names d (present_problem_of asked d) (present_fault asked d)
+
+-- what the files of a network say
+abbrev pub outcome : View → InputFiles → Reading Input
+outcome view names =
+    request_read names.request >>= λ asked.
+    configs_read names.configs >>= λ files.
+    topology_read names asked.area (routers_of files) >>= λ d.
+    problem_read view names asked d >>= λ p.
+    Ready (record { asked = asked; files = files; database = d; problem = p })

@@ -1,0 +1,60 @@
+-- Readings of files, one file after another, and how what comes of the files ends them.
+use Rattle.std.specs.Prelude.{◌≡◌, ℕ, List, [], ◌∷◌, Result, Ok, Err}
+use Rattle.cost_base.specs.declared.ShelfStop.{ShelfStop}
+use Rattle.cost_base.specs.declared.ShelfStop.TheVariants as stop
+use Rattle.cost_base.specs.Histories.{Taken}
+
+-- a refusal of input: its number, the file and the line
+pub record Refusal : Type 0 where
+  pub number : ℕ
+  pub file : List ℕ
+  pub line : ℕ
+
+-- What is read of files: a file of at most so many bytes, with what follows from its bytes; or the first fault; or what
+-- the files say.
+pub data Reading (A : Type 0) : Type 0 where
+  Take : (name : List ℕ) → (most : ℕ) → (List ℕ → Reading A) → Reading A
+  Refused : Refusal → Reading A
+  Ready : A → Reading A
+
+-- one reading after another
+infixl 10 ◌>>=◌
+abbrev pub ◌>>=◌ : {A B : Type 0} → Reading A → (A → Reading B) → Reading B
+(Take name most next) >>= f = Take name most (λ bytes. next bytes >>= f)
+(Refused r) >>= f = Refused r
+(Ready x) >>= f = f x
+
+-- how a reading ends: the files say this, or their first fault is this, or this file failed
+pub data End (A : Type 0) : Type 0 where
+  Says : A → End A
+  Faulty : Refusal → End A
+  Failed : List ℕ → End A
+
+-- 9: a file is longer than its limit
+abbrev pub too_long : List ℕ → Refusal
+too_long file = record { number = 9; file = file; line = 0 }
+
+-- of what came of a file: this of its bytes, this where it was too long, and this where it failed
+abbrev pub OnCame : Result (List ℕ) ShelfStop → (List ℕ → Type 0) → Type 0 → Type 0 → Type 0
+OnCame (Ok bytes) Bytes Long Fault = Bytes bytes
+OnCame (Err stop.TooLong) Bytes Long Fault = Long
+OnCame (Err stop.Failed) Bytes Long Fault = Fault
+OnCame (Err stop.OutOfMemory) Bytes Long Fault = ⊥
+
+-- What came of files ends a reading so. It is of exactly the files that the reading asks for, each once, in its turn
+-- and with its limit, up to the first fault or the first file that failed.
+abbrev pub EndsAs : {A : Type 0} → Reading A → List Taken → End A → Type 0
+EndsAs (Ready x) [] end = end ≡ Says x
+EndsAs (Ready x) (taken ∷ more) end = ⊥
+EndsAs (Refused r) [] end = end ≡ Faulty r
+EndsAs (Refused r) (taken ∷ more) end = ⊥
+EndsAs (Take name most next) [] end = ⊥
+EndsAs (Take name most next) (taken ∷ more) end =
+    (taken.name ≡ name) × (taken.most ≡ most)
+    × OnCame taken.came (λ bytes. EndsAs (next bytes) more end) ((more ≡ []) × (end ≡ Faulty (too_long name))) ((more ≡ []) × (end ≡ Failed name))
+
+-- what a shelf gave between two states, of which `gave` tells, is a list of this kind
+pub record Gave (gave : List Taken → Type 0) (P : List Taken → Type 0) : Type 0 where
+  pub came : List Taken
+  pub given : gave came
+  pub so : P came

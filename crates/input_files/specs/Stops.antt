@@ -1,0 +1,79 @@
+-- What ends the reading of files, and when.
+use Rattle.std.specs.Prelude.{◌≡◌, ℕ, List, Result, Ok, Err}
+use Rattle.std.specs.Borrow.{Bor}
+use Rattle.cost_base.specs.declared.ShelfStop.{ShelfStop}
+use Rattle.cost_base.specs.declared.ShelfStop.TheVariants.{Failed as NotRead, TooLong, OutOfMemory as NoMemory}
+use Rattle.cost_base.specs.Histories.{Taken}
+use Rattle.config_reader.specs.declared.ConfigStop.{ConfigStop}
+use Rattle.config_reader.specs.declared.ConfigStop.TheVariants.{Refused as ConfigRefused, OutOfMemory as NoMemoryForConfig}
+use Rattle.lsdb_build.specs.declared.TopologyStop.{TopologyStop}
+use Rattle.lsdb_build.specs.declared.TopologyStop.TheVariants.{Refused as TopologyRefused, OutOfMemory as NoMemoryForTopology}
+use Rattle.lsdb_build.specs.Graphs.{Database}
+use Rattle.path_requests.specs.declared.stop.RequestStop.{RequestStop}
+use Rattle.path_requests.specs.declared.stop.RequestStop.TheVariants.{Refused as RequestRefused, NoCost, OutOfMemory as NoMemoryForRequest}
+use Rattle.path_requests.specs.Resolving.{AtLine, LacksCost}
+use Rattle.command_words.specs.Words.{texts}
+use Rattle.input_files.specs.declared.stop.Stop.{Stop}
+use Rattle.input_files.specs.declared.stop.Stop.TheVariants.{Refused, ReadFault, OutOfMemory}
+use Rattle.input_files.specs.declared.reading.FileWords.{FileWords}
+use Rattle.input_files.specs.Inputs.{InputFiles}
+use Rattle.input_files.specs.Readings.{Refusal, Reading, End, Says, Faulty, Failed, EndsAs, too_long}
+use Rattle.input_files.specs.Outcomes.{fault_number, file_of, resolution_refusal}
+
+-- the files that words name
+abbrev pub files_named : FileWords → InputFiles
+files_named words = record { request = words.request.now; configs = texts words.configs.now }
+
+abbrev pub refusal_in : ℕ → Bor (List ℕ) → ℕ → Refusal
+refusal_in number file line = record { number = number; file = file.now; line = line }
+
+-- a stop tells how a reading ends that it stopped; want of memory tells nothing
+abbrev pub StopsAs : {A : Type 0} → Reading A → List Taken → Stop → Type 0
+StopsAs reading came (Refused number file line) = EndsAs reading came (Faulty (refusal_in number file line))
+StopsAs reading came (ReadFault file) = EndsAs reading came (Failed file.now)
+StopsAs reading came OutOfMemory = Unit {0}
+
+-- what came of the files says this, of which the code made a result that Fits it
+pub record IsReady {A T : Type 0} (reading : Reading A) (came : List Taken) (Fits : T → A → Type 0) (made : T) : Type 0 where
+  pub said : A
+  pub ends : EndsAs reading came (Says said)
+  pub fits : Fits made said
+
+-- what was read, or what stopped it, is as what came of the files says
+abbrev pub IsReadAs : {A T : Type 0} → Reading A → List Taken → (T → A → Type 0) → Result T Stop → Type 0
+IsReadAs reading came Fits (Ok made) = IsReady reading came Fits made
+IsReadAs reading came Fits (Err stop) = StopsAs reading came stop
+
+-- the stop of a file that wasn't read
+abbrev pub file_stop : ShelfStop → Bor (List ℕ) → Stop
+file_stop NotRead file = ReadFault file
+file_stop TooLong file = Refused 9 file 0
+file_stop NoMemory file = OutOfMemory
+
+-- the stop of a request that is refused by itself
+abbrev pub request_stop : RequestStop → Bor (List ℕ) → Stop
+request_stop (RequestRefused number line hop) file = Refused number file line
+request_stop (NoCost link) file = OutOfMemory
+request_stop NoMemoryForRequest file = OutOfMemory
+
+-- the stop of a configuration that is refused
+abbrev pub config_stop : ConfigStop → Bor (List ℕ) → Stop
+config_stop (ConfigRefused fault line) file = Refused (fault_number fault) file line
+config_stop NoMemoryForConfig file = OutOfMemory
+
+-- a stop that is a refusal of these parts
+abbrev pub IsRefusal : Refusal → Stop → Type 0
+IsRefusal r (Refused number file line) = r ≡ refusal_in number file line
+IsRefusal r (ReadFault file) = ⊥
+IsRefusal r OutOfMemory = ⊥
+
+-- the stop of a topology that is refused
+abbrev pub topology_stop : TopologyStop → InputFiles → Stop → Type 0
+topology_stop (TopologyRefused number config line) names stop = IsRefusal (record { number = number; file = file_of names config; line = line }) stop
+topology_stop NoMemoryForTopology names stop = stop ≡ OutOfMemory
+
+-- the stop of requests that aren't resolved
+abbrev pub resolution_stop : RequestStop → Database → InputFiles → Stop → Type 0
+resolution_stop (RequestRefused number line hop) d names stop = IsRefusal (resolution_refusal names d (AtLine number line hop)) stop
+resolution_stop (NoCost link) d names stop = IsRefusal (resolution_refusal names d (LacksCost link)) stop
+resolution_stop NoMemoryForRequest d names stop = stop ≡ OutOfMemory

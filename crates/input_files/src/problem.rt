@@ -1,0 +1,161 @@
+//! The problem that the files of words make: the request, the configurations, the topology, resolution.
+ghost use Rattle.std.specs.Prelude.{◌≡◌, ℕ, List, [], IfOk};
+ghost use Rattle.lsdb_build.specs.Graphs.{IsDatabase};
+ghost use Rattle.input_files.specs.Readings.{Gave};
+ghost use Rattle.input_files.specs.Outcomes.{outcome, topology_read, problem_read, file_of};
+ghost use Rattle.input_files.specs.Stops.{IsReadAs, files_named, topology_stop, resolution_stop};
+
+use crate::reading::{FileWords, read_configs, read_request};
+use crate::stop::Stop;
+use cost_base::Shelf;
+use interface_model::RouterConfig;
+use lsdb_build::{Lsdb, TopologyStop, build};
+use path_requests::{RequestStop, Requests, resolve, resolve_present};
+use path_rows::Problem;
+use std::alloc::Global;
+
+/// Which interfaces of a problem are free: those that the request frees, or none, as every interface stands at present.
+#[derive(Clone, Copy)]
+pub enum View {
+    /// Those that the request frees.
+    AsRequested,
+    /// None: every interface stands at its present cost or the default.
+    AtPresent,
+}
+
+/// The file of a router's configuration.
+fn file_of(words: FileWords<'_>, router: u32) -> &str
+    ensures { result.now ≡ file_of (files_named words.entry) router }
+{
+    match words.configs.get(router as usize) {
+        Some(file) => file.as_str(),
+        None => words.request,
+    }
+}
+
+/// The stop of a topology that is refused.
+fn stop_of_topology(stop: TopologyStop, words: FileWords<'_>) -> Stop<'_>
+    ensures { topology_stop stop (files_named words.entry) result }
+{
+    match stop {
+        TopologyStop::Refused {
+            number,
+            config,
+            line,
+        } => Stop::Refused {
+            number,
+            file: file_of(words, config),
+            line,
+        },
+        TopologyStop::OutOfMemory => Stop::OutOfMemory,
+    }
+}
+
+/// The topology of configurations.
+fn topology<'a>(
+    alloc: Global,
+    configs: &[RouterConfig],
+    area: u32,
+    words: FileWords<'a>,
+) -> Result<Lsdb, Stop<'a>>
+    ensures { IsReadAs (topology_read (files_named words.entry) area configs.now) [] (λ d read. d ≡ read) result }
+{
+    match build(alloc, configs, area) {
+        Ok(lsdb) => Ok(lsdb),
+        Err(stop) => Err(stop_of_topology(stop, words)),
+    }
+}
+
+/// The stop of requests that aren't resolved.
+fn stop_of_resolution<'a>(stop: RequestStop, lsdb: &Lsdb, words: FileWords<'a>) -> Stop<'a>
+    ensures { resolution_stop stop lsdb.now (files_named words.entry) result }
+{
+    match stop {
+        RequestStop::Refused { number, line, .. } => Stop::Refused {
+            number,
+            file: words.request,
+            line,
+        },
+        RequestStop::NoCost { link } => match lsdb.links.as_slice().get(link as usize) {
+            Some(link) => Stop::Refused {
+                number: 26,
+                file: file_of(words, link.router),
+                line: link.line,
+            },
+            None => Stop::Refused {
+                number: 26,
+                file: words.request,
+                line: 0,
+            },
+        },
+        RequestStop::OutOfMemory => Stop::OutOfMemory,
+    }
+}
+
+/// The problem that requests make of a topology, with the interfaces that they free.
+fn resolution_as_requested<'a>(
+    alloc: Global,
+    requests: &Requests,
+    lsdb: &Lsdb,
+    words: FileWords<'a>,
+) -> Result<Problem, Stop<'a>>
+    ensures { IsReadAs (problem_read View.AsRequested (files_named words.entry) requests.now lsdb.now) [] (λ p read. p ≡ read) result }
+{
+    match resolve(alloc, requests, lsdb) {
+        Ok(problem) => Ok(problem),
+        Err(stop) => Err(stop_of_resolution(stop, lsdb, words)),
+    }
+}
+
+/// The problem that requests make of a topology at present costs.
+fn resolution_at_present<'a>(
+    alloc: Global,
+    requests: &Requests,
+    lsdb: &Lsdb,
+    words: FileWords<'a>,
+) -> Result<Problem, Stop<'a>>
+    ensures present { IfOk result (λ p. p.low ≡ []) }
+    ensures read { IsReadAs (problem_read View.AtPresent (files_named words.entry) requests.now lsdb.now) [] (λ p read. p ≡ read) result }
+{
+    match resolve_present(alloc, requests, lsdb) {
+        Ok(problem) => Ok(problem),
+        Err(stop) => Err(stop_of_resolution(stop, lsdb, words)),
+    }
+}
+
+/// The problem that requests make of a topology.
+fn resolution<'a>(
+    alloc: Global,
+    view: View,
+    requests: &Requests,
+    lsdb: &Lsdb,
+    words: FileWords<'a>,
+) -> Result<Problem, Stop<'a>>
+    ensures present { IfOk result (λ p. view ≡ View.AtPresent → p.low ≡ []) }
+    ensures read { IsReadAs (problem_read view (files_named words.entry) requests.now lsdb.now) [] (λ p read. p ≡ read) result }
+{
+    match view {
+        View::AsRequested => resolution_as_requested(alloc, requests, lsdb, words),
+        View::AtPresent => resolution_at_present(alloc, requests, lsdb, words),
+    }
+}
+
+/// The problem that the files of words make.
+///
+/// # Errors
+///
+/// `Stop`: a file failed or is too long, or the input has a fault; want of memory.
+pub fn read_problem<'a, S: Shelf>(
+    alloc: Global,
+    view: View,
+    words: FileWords<'a>,
+    shelf: &mut S,
+) -> Result<Problem, Stop<'a>>
+    ensures present { IfOk result (λ p. view ≡ View.AtPresent → p.low ≡ []) }
+    ensures read { Gave (S.gave shelf.old shelf.new) (λ came. IsReadAs (outcome view (files_named words.entry)) came (λ p d. (d.problem ≡ p) × IsDatabase d.database) result) }
+{
+    let requests = read_request(alloc, shelf, words.request)?;
+    let configs = read_configs(alloc, shelf, words.configs)?;
+    let lsdb = topology(alloc, &configs, requests.area, words)?;
+    resolution(alloc, view, &requests, &lsdb, words)
+}
