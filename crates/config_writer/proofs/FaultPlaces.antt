@@ -7,8 +7,8 @@ use Rattle.std.proofs.lemmas.List.{get_or_at, take_at, length-map}
 use Rattle.std.proofs.lemmas.List.Elements.{All-nil, All-cons, All-head, All-tail}
 use Rattle.cost_base.specs.Lists.{numbers_from, first_of}
 use Rattle.text_lines.specs.Lines.{words, kind_of}
-use Rattle.config_reader.specs.declared.ConfigFault.{ConfigFault}
-use Rattle.config_reader.specs.declared.ConfigFault.TheVariants.{LongLine, BadName}
+use Rattle.config_reader.specs.declared.stop.ConfigFault.{ConfigFault}
+use Rattle.config_reader.specs.declared.stop.ConfigFault.TheVariants.{LongLine, BadName}
 use Rattle.config_reader.specs.Statements.{Statement, Block, Network}
 use Rattle.config_reader.specs.Settings.{Said, said, said_at, networks}
 use Rattle.config_reader.specs.Configs.{first_heads}

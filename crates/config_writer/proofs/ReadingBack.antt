@@ -11,8 +11,8 @@ use Rattle.text_lines.specs.Lines.{lines, words, is_head}
 use Rattle.text_lines.specs.Numbers.{Prefix}
 use Rattle.interface_model.specs.declared.Interface.{Interface}
 use Rattle.interface_model.specs.Records.{Router}
-use Rattle.config_reader.specs.declared.ConfigFault.{ConfigFault}
-use Rattle.config_reader.specs.declared.ConfigFault.TheVariants.{SecondAddress, AreaTwice}
+use Rattle.config_reader.specs.declared.stop.ConfigFault.{ConfigFault}
+use Rattle.config_reader.specs.declared.stop.ConfigFault.TheVariants.{SecondAddress, AreaTwice}
 use Rattle.config_reader.specs.Statements.{Statement, AddressIs, CostIs, NetworkIs, Network, Block, OfInterface, OfRouter, OfOther, block_of}
 use Rattle.config_reader.specs.Settings.{Said, said, about, about_router, setting, networks, network_said, address_said, area_said, cost_said, kind_said, passive_said, down_said, priority_said, address_of, router_id_said, interface_of, matches}
 use Rattle.config_reader.specs.Configs.{first_heads}

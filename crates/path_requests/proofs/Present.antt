@@ -11,13 +11,16 @@ use Rattle.area_graph.specs.declared.Price.TheVariants.{Fixed}
 use Rattle.area_graph.specs.Area.{Area}
 use Rattle.lsdb_build.specs.declared.Linked.{Linked}
 use Rattle.lsdb_build.specs.Graphs.{Database}
-use Rattle.path_requests.specs.declared.Wish.{Wish}
-use Rattle.path_requests.specs.declared.Wish.TheVariants.{FreeAll, Free, Fix, Path, SymmetricAll, Symmetric}
-use Rattle.path_requests.specs.declared.Item.{Item}
-use Rattle.path_requests.specs.Meaning.{Asked, IsAsked, KeepsBounds, is_path, Range, AsItIs, range_said, range_of, own, owners, present_cost, prices_from, names_from, request_of}
-use Rattle.path_requests.specs.Resolving.{says_freedom, present_asked, wish_faults, line_faults, ends_differ, ends_differ_at, ties_different, ends_faults}
-use Rattle.path_requests.proofs.Walks.{no_parts}
-use Rattle.path_requests.proofs.LookUps.{none_passing}
+use Rattle.request_reader.specs.declared.Wish.{Wish}
+use Rattle.request_reader.specs.declared.Wish.TheVariants.{FreeAll, Free, Fix, Path, SymmetricAll, Symmetric}
+use Rattle.request_reader.specs.declared.Item.{Item}
+use Rattle.request_reader.specs.Asked.{Asked, IsAsked, KeepsBounds, is_path}
+use Rattle.path_requests.specs.Meaning.{Range, AsItIs, range_said, range_of, own, owners, present_cost, prices_from, names_from}
+use Rattle.wanted_paths.specs.Paths.{request_of}
+use Rattle.path_requests.specs.Resolving.{says_freedom, present_asked, ends_differ, ends_differ_at, ties_different, ends_faults}
+use Rattle.wanted_paths.specs.LineFaults.{wish_faults, line_faults}
+use Rattle.wanted_paths.proofs.Walks.{no_parts}
+use Rattle.wanted_paths.proofs.LookUps.{none_passing}
 
 abbrev kept : Item → Bool
 kept item = not (says_freedom item.what)
