@@ -243,11 +243,11 @@ faultless area routers h =
     let five = no_first (at_port AddressTwice (first_where is_second_of_address [] all)) kinds four.1 in
     let six = no_first (at_port TypeMismatch (first_where is_mismatch [] all)) crowded five.1 in
     record {
-      few = no_config 17 (past 1000 (length routers)) one.0;
-      few_ports = no_port 17 (slice_get all 4000) two.0;
-      names = no_config 10 (second_of_name [] 0 routers) three.0;
-      addresses = no_port 11 (first_where is_second_of_address [] all) five.0;
-      kinds = no_port 12 (first_where is_mismatch [] all) six.0;
+      few = no_config TooMany (past 1000 (length routers)) one.0;
+      few_ports = no_port TooMany (slice_get all 4000) two.0;
+      names = no_config NameTwice (second_of_name [] 0 routers) three.0;
+      addresses = no_port AddressTwice (first_where is_second_of_address [] all) five.0;
+      kinds = no_port TypeMismatch (first_where is_mismatch [] all) six.0;
     }
 
 -- the ports of faultless configurations
