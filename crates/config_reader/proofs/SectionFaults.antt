@@ -2,7 +2,7 @@
 use Rattle.std.proofs.Common.{◌≡◌, ℕ, suc, ◌+◌, ◌≤◌, List, [], ◌∷◌, ◌++◌, length, map, All, Bool, cond, true, false, ◌&&◌, refl, sym, ap, ◌∙◌, subst, arith, append-nil, append_assoc, Option, Some, None, Contains}
 use Rattle.std.specs.Prelude.{◌==◌, codes, nat_le}
 use Rattle.std.specs.List.{filter, filter_map, list_all, list_any}
-use Rattle.std.proofs.lemmas.Bool.{and_parts, le-leb, leb-true, false≢true}
+use Rattle.std.proofs.lemmas.Bool.{and_parts, le-leb, leb-true, false≢true, ne_eqb}
 use Rattle.std.proofs.lemmas.List.Elements.{All-head, All-tail, All-weaker, filter_map-append}
 use Rattle.std.proofs.lemmas.List.Folds.{list_all-append, list_any-append}
 use Rattle.cost_base.specs.Decimal.{decimal}
@@ -61,7 +61,13 @@ opens_room (w ∷ v ∷ []) name e = cases (same_bytes (codes "interface") w) (b
         omega (arith, first, ap length second)
     cases false true is h = absurd (cc)
     cases false false is h = absurd (cc)
-opens_room (w ∷ v ∷ u ∷ ws) name e = absurd (cc)
+opens_room (w ∷ v ∷ u ∷ ws) name e =
+    longer (length (w ∷ v ∷ u ∷ ws) == 2) (begin_with (codes "interface" ∷ []) (w ∷ v ∷ u ∷ ws)) (begin_with (codes "router" ∷ codes "ospf" ∷ []) (w ∷ v ∷ u ∷ ws))
+    (ne_eqb (length (w ∷ v ∷ u ∷ ws)) 2 (λ h. omega arith)) e
+  where
+    longer : (l a b : Bool) → l ≡ false → cond (l && a) (OfInterface v) (cond (l && b) OfRouter OfOther) ≡ OfInterface name → room (w ∷ v ∷ u ∷ ws) ≡ length name + 11
+    longer true a b is h = absurd (false≢true (sym is))
+    longer false a b is h = absurd (cc)
 
 -- the name of a head in a file of short lines leaves room for `interface` and a blank
 headed_short : (file : List (List ℕ)) → list_all is_short file ≡ true → (name : List ℕ) → is_headed name (first_heads file) ≡ true → length name + 10 ≤ 4096
