@@ -1,5 +1,5 @@
 -- A configuration without a fault has none with a printed section after it.
-use Rattle.std.proofs.Common.{◌≡◌, ℕ, suc, ◌+◌, ◌≤◌, List, [], ◌∷◌, ◌++◌, length, map, All, Bool, cond, true, false, ◌&&◌, refl, sym, ap, ◌∙◌, subst, arith, append-nil, append_assoc, Option, Some, None, Contains}
+use Rattle.std.proofs.Common.{◌≡◌, ℕ, suc, ◌+◌, ◌≤◌, List, [], ◌∷◌, ◌++◌, length, map, All, Bool, cond, true, false, ◌&&◌, ◌||◌, refl, sym, ap, ◌∙◌, subst, arith, append-nil, append_assoc, Option, Some, None, Contains}
 use Rattle.std.specs.Prelude.{◌==◌, codes, nat_le}
 use Rattle.std.specs.List.{filter, filter_map, list_all, list_any}
 use Rattle.std.proofs.lemmas.Bool.{and_parts, le-leb, leb-true, false≢true, ne_eqb}
@@ -93,11 +93,11 @@ headed_short = by_lines (λ file. list_all is_short file ≡ true → (name : Li
         new : (other : List ℕ) (n : ℕ) → block_of (words line) ≡ OfInterface other → is_headed name (heads_with (Some (other, n)) (first_heads file)) ≡ true → length name + 10 ≤ 4096
         new other n is found = by_known (is_headed other (first_heads file)) (is_headed name (first_heads file)) refl (sym (list_any-append (λ h. same_bytes name h.0) (first_heads file) (unless_known (is_headed other (first_heads file)) (other, n))) ∙ found)
           where
-            by_new : (s : Bool) → same_bytes name other ≡ s → cond s true false ≡ true → length name + 10 ≤ 4096
+            by_new : (s : Bool) → same_bytes name other ≡ s → (s || false) ≡ true → length name + 10 ≤ 4096
             by_new true same h = let e = same_bytes-true name other same in omega (arith, opened other is, ap length e)
             by_new false same h = absurd (cc)
 
-            by_known : (k a : Bool) → is_headed name (first_heads file) ≡ a → cond a true (is_headed name (unless_known k (other, n))) ≡ true → length name + 10 ≤ 4096
+            by_known : (k a : Bool) → is_headed name (first_heads file) ≡ a → (a || is_headed name (unless_known k (other, n))) ≡ true → length name + 10 ≤ 4096
             by_known k true is_known h = before parts.0 name is_known
             by_known true false is_known h = absurd (cc)
             by_known false false is_known h = by_new (same_bytes name other) refl h

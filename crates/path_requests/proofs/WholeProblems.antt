@@ -38,7 +38,7 @@ use Rattle.path_requests.proofs.ProblemLaws.{subnets_priced}
 use Rattle.wanted_paths.proofs.Walks.{no_parts, well_from, words_known, hops_joined}
 use Rattle.wanted_paths.proofs.Withouts.{walk_simple}
 use Rattle.wanted_paths.proofs.Gone.{has_kept, lacks_from, joins_within}
-use Rattle.path_requests.proofs.Ranges.{range_after, range_is}
+use Rattle.path_requests.proofs.RangeSteps.{range_after, range_is}
 use Rattle.wanted_paths.proofs.Outline.{as_outline, route_same, gone_same, loop_free_same}
 use Rattle.path_requests.proofs.Numbering.{passing, numbered, passing_all}
 use Rattle.wanted_paths.specs.declared.stop.ResolutionFault.TheVariants.{LoopPath, PathGone}

@@ -8,7 +8,7 @@ use Rattle.path_requests.specs.Meaning.{low_of, high_of, range_at}
 use Rattle.wanted_paths.specs.Paths.{outline}
 use Rattle.path_requests.specs.Resolving.{present_asked}
 use Rattle.path_requests.proofs.Assembled.{prices_link, assembled}
-use Rattle.path_requests.proofs.Present.{none_owned, present_prices_are, none_named, present_paths, present_lines, present_ends, present_is_asked}
+use Rattle.path_requests.proofs.PresentLaws.{none_owned, present_prices_are, none_named, present_paths, present_lines, present_ends, present_is_asked}
 use Rattle.path_requests.proofs.WholeProblems.{prices_count, whole_is_problem}
 use Rattle.path_requests.proofs.present.assemble_present.Goals as goal
 

@@ -1,7 +1,7 @@
 use Rattle.std.proofs.Common.{◌∙◌, ap, sym}
 use Rattle.path_requests.specs.Meaning.{Range}
 use Rattle.path_requests.specs.Resolving.{lacks_cost, present_asked}
-use Rattle.path_requests.proofs.Present.{fixed}
+use Rattle.path_requests.proofs.PresentLaws.{fixed}
 use Rattle.path_requests.proofs.present.lacks_present.Goals as goal
 
 pub returns : goal.returns

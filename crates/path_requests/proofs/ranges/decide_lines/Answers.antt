@@ -2,7 +2,7 @@ use Rattle.std.proofs.Common.{◌≡◌, ◌-◌, ◌∙◌, ap, sym, arith, Lis
 use Rattle.std.specs.Prelude.{unwrap_or}
 use Rattle.path_requests.specs.Meaning.{Range, AsItIs}
 use Rattle.path_requests.specs.Chosen.{last_said}
-use Rattle.path_requests.proofs.Ranges.{decided_more, decided_by_all, decided_by_none}
+use Rattle.path_requests.proofs.RangeSteps.{decided_more, decided_by_all, decided_by_none}
 use Rattle.path_requests.proofs.ranges.decide_lines.Goals as goal
 
 pub returns-in-Some : goal.returns-in-Some
