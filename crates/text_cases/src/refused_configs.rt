@@ -1,9 +1,8 @@
 //! Configurations that are refused: each refusal of the tables of lines.
+use crate::texts::{add, config_of, joined};
 use config_reader::{ConfigFault, ConfigStop};
 use std::alloc::Global;
 use std::test::Fail;
-
-use crate::texts::{add, config_of, joined};
 
 /// Whether a configuration is refused with this fault at this line.
 fn is_refused(alloc: Global, text: &[u8], fault: ConfigFault, line: u32) -> bool {
@@ -37,7 +36,12 @@ fn addresses_of_interfaces(rt: HostRuntime) -> Result<(), Fail> {
     ];
     for line in lines {
         assert!(rt;
-            is_refused_behind(rt.alloc(), b"interface eth0\n", line, ConfigFault::BadAddress)?
+            is_refused_behind(
+                rt.alloc(),
+                b"interface eth0\n",
+                line,
+                ConfigFault::BadAddress
+            )?
         );
     }
     Ok(())
@@ -58,7 +62,12 @@ fn numbers_of_interfaces(rt: HostRuntime) -> Result<(), Fail> {
     ];
     for line in lines {
         assert!(rt;
-            is_refused_behind(rt.alloc(), b"interface eth0\n", line, ConfigFault::BadNumber)?
+            is_refused_behind(
+                rt.alloc(),
+                b"interface eth0\n",
+                line,
+                ConfigFault::BadNumber
+            )?
         );
     }
     Ok(())
@@ -105,7 +114,12 @@ fn unsupported_lines_of_interfaces(rt: HostRuntime) -> Result<(), Fail> {
     ];
     for line in lines {
         assert!(rt;
-            is_refused_behind(rt.alloc(), b"interface eth0\n", line, ConfigFault::Unsupported)?
+            is_refused_behind(
+                rt.alloc(),
+                b"interface eth0\n",
+                line,
+                ConfigFault::Unsupported
+            )?
         );
     }
     Ok(())
@@ -126,9 +140,15 @@ fn lines_of_router_blocks(rt: HostRuntime) -> Result<(), Fail> {
         (b" network 10.0.0.0/8 area x", ConfigFault::BadArea),
         (b" passive-interface", ConfigFault::Unsupported),
         (b" passive-interface default", ConfigFault::Unsupported),
-        (b" passive-interface eth0 10.0.0.1", ConfigFault::Unsupported),
+        (
+            b" passive-interface eth0 10.0.0.1",
+            ConfigFault::Unsupported,
+        ),
         (b" area 1 virtual-link 192.0.2.1", ConfigFault::Unsupported),
-        (b" max-metric router-lsa administrative", ConfigFault::Unsupported),
+        (
+            b" max-metric router-lsa administrative",
+            ConfigFault::Unsupported,
+        ),
         (b" max-metric", ConfigFault::Unsupported),
         (b" no passive-interface eth0", ConfigFault::Unsupported),
         (b" no network 10.0.0.0/8 area 0", ConfigFault::Unsupported),
@@ -147,11 +167,19 @@ fn heads(rt: HostRuntime) {
         (b"router ospf 1\n", ConfigFault::Unsupported, 1),
         (b"!\nrouter ospf x y\n", ConfigFault::Unsupported, 2),
         (b"ip address 10.0.0.1/24\n", ConfigFault::Unsupported, 1),
-        (b"interface eth0\nip ospf area 0\n", ConfigFault::Unsupported, 2),
+        (
+            b"interface eth0\nip ospf area 0\n",
+            ConfigFault::Unsupported,
+            2,
+        ),
         (b"hostname\n", ConfigFault::BadName, 1),
         (b"hostname A\nhostname b!\n", ConfigFault::BadName, 2),
         (b"hostname R\xe9\n", ConfigFault::BadName, 1),
-        (b"hostname a:b\ninterface eth0\n ip address x\n", ConfigFault::BadName, 1),
+        (
+            b"hostname a:b\ninterface eth0\n ip address x\n",
+            ConfigFault::BadName,
+            1,
+        ),
         (
             b"hostname 01234567890123456789012345678901234567890123456789012345678901234\n",
             ConfigFault::BadName,

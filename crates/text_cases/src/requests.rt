@@ -30,7 +30,14 @@ fn request_empty(rt: HostRuntime) {
 
 #[test]
 fn request_header_alone(rt: HostRuntime) {
-    assert!(rt; is_refused(rt.alloc(), b"ospfcost request 1\n", RequestFault::BadRequestLine, 2));
+    assert!(rt;
+        is_refused(
+            rt.alloc(),
+            b"ospfcost request 1\n",
+            RequestFault::BadRequestLine,
+            2
+        )
+    );
 }
 
 #[test]
@@ -93,8 +100,22 @@ fn bounds_off(rt: HostRuntime) -> Result<(), Fail> {
 
 #[test]
 fn first_lines(rt: HostRuntime) {
-    assert!(rt; is_refused(rt.alloc(), b"\n# costs\narea 0\n", RequestFault::BadRequestLine, 3));
-    assert!(rt; is_refused(rt.alloc(), b"ospfcost request 2\narea 0\n", RequestFault::BadRequestLine, 1));
+    assert!(rt;
+        is_refused(
+            rt.alloc(),
+            b"\n# costs\narea 0\n",
+            RequestFault::BadRequestLine,
+            3
+        )
+    );
+    assert!(rt;
+        is_refused(
+            rt.alloc(),
+            b"ospfcost request 2\narea 0\n",
+            RequestFault::BadRequestLine,
+            1
+        )
+    );
     assert!(rt;
         is_read(
             rt.alloc(),
@@ -183,9 +204,12 @@ fn is_wanted(item: &Item) -> bool {
 
 #[test]
 fn one_line_of_each_kind(rt: HostRuntime) -> Result<(), Fail> {
-    let text =
-        b"ospfcost request 1\narea 0.0.0.7\ndefault-cost 010\nfree all 1 65535\nfree all 1 2 3\nfix A eth0:1\nsymmetric all\nsymmetric B eth0\npath A:eth0 B\npath A:eth0 B without C D:eth1\n";
-    let requests = requests_of(rt.alloc(), text)?;
+    let first =
+        b"ospfcost request 1\narea 0.0.0.7\ndefault-cost 010\nfree all 1 65535\nfree all 1 2 3\nfix A eth0:1\n";
+    let second =
+        b"symmetric all\nsymmetric B eth0\npath A:eth0 B\npath A:eth0 B without C D:eth1\n";
+    let text = joined(rt.alloc(), first, second)?;
+    let requests = requests_of(rt.alloc(), &text)?;
     assert_eq!(rt; requests.area, 7);
     assert_eq!(rt; requests.default_cost, Some(10));
     assert_eq!(rt; requests.items.as_slice().len(), 7);

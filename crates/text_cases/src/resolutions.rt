@@ -103,9 +103,7 @@ fn is_fixed(alloc: Global, lines: &[u8]) -> bool {
     };
     let edges = problem.graph.edges();
     let fixed = edges.iter().filter(|edge| edge.price == Price::Fixed(7));
-    problem.vars.as_slice().is_empty()
-        && problem.low.as_slice().is_empty()
-        && fixed.count() == 4
+    problem.vars.as_slice().is_empty() && problem.low.as_slice().is_empty() && fixed.count() == 4
 }
 
 #[test]
@@ -153,23 +151,65 @@ fn symmetric_ends_share_a_variable(rt: HostRuntime) {
 #[test]
 fn refused_lines(rt: HostRuntime) {
     let cases: [(&[u8], ResolutionFault); 17] = [
-        (b"free X eth0 1 9\n", ResolutionFault::UnknownRouter { line: 3 }),
+        (
+            b"free X eth0 1 9\n",
+            ResolutionFault::UnknownRouter { line: 3 },
+        ),
         (b"fix X eth1\n", ResolutionFault::UnknownRouter { line: 3 }),
-        (b"path A:eth0 X\n", ResolutionFault::UnknownRouter { line: 3 }),
-        (b"path A:eth0 B without X\n", ResolutionFault::UnknownRouter { line: 3 }),
-        (b"fix A eth1\n", ResolutionFault::UnknownInterface { line: 3 }),
-        (b"path A:eth0 B without B:eth1\n", ResolutionFault::UnknownInterface { line: 3 }),
+        (
+            b"path A:eth0 X\n",
+            ResolutionFault::UnknownRouter { line: 3 },
+        ),
+        (
+            b"path A:eth0 B without X\n",
+            ResolutionFault::UnknownRouter { line: 3 },
+        ),
+        (
+            b"fix A eth1\n",
+            ResolutionFault::UnknownInterface { line: 3 },
+        ),
+        (
+            b"path A:eth0 B without B:eth1\n",
+            ResolutionFault::UnknownInterface { line: 3 },
+        ),
         (b"symmetric C eth0\n", ResolutionFault::NotALink { line: 3 }),
-        (b"path A:eth0 C\n", ResolutionFault::BrokenPath { line: 3, hop: 1 }),
-        (b"path A:eth0 B:eth0 B\n", ResolutionFault::BrokenPath { line: 3, hop: 2 }),
-        (b"path A:eth0 B:eth0 A\n", ResolutionFault::LoopPath { line: 3 }),
-        (b"path C:eth0 D:eth0 C\n", ResolutionFault::LoopPath { line: 3 }),
-        (b"path A:eth0 B without A\n", ResolutionFault::PathGone { line: 3 }),
-        (b"path A:eth0 B without A:eth0\n", ResolutionFault::PathGone { line: 3 }),
-        (b"path A:eth0 B without B:eth0\n", ResolutionFault::PathGone { line: 3 }),
+        (
+            b"path A:eth0 C\n",
+            ResolutionFault::BrokenPath { line: 3, hop: 1 },
+        ),
+        (
+            b"path A:eth0 B:eth0 B\n",
+            ResolutionFault::BrokenPath { line: 3, hop: 2 },
+        ),
+        (
+            b"path A:eth0 B:eth0 A\n",
+            ResolutionFault::LoopPath { line: 3 },
+        ),
+        (
+            b"path C:eth0 D:eth0 C\n",
+            ResolutionFault::LoopPath { line: 3 },
+        ),
+        (
+            b"path A:eth0 B without A\n",
+            ResolutionFault::PathGone { line: 3 },
+        ),
+        (
+            b"path A:eth0 B without A:eth0\n",
+            ResolutionFault::PathGone { line: 3 },
+        ),
+        (
+            b"path A:eth0 B without B:eth0\n",
+            ResolutionFault::PathGone { line: 3 },
+        ),
         (b"path A without A\n", ResolutionFault::PathGone { line: 3 }),
-        (b"free A eth0 1 9\nsymmetric A eth0\n", ResolutionFault::EndsDiffer { line: 4 }),
-        (b"free all 1 9\nfree B eth0 2 9\nsymmetric all\n", ResolutionFault::EndsDiffer { line: 5 }),
+        (
+            b"free A eth0 1 9\nsymmetric A eth0\n",
+            ResolutionFault::EndsDiffer { line: 4 },
+        ),
+        (
+            b"free all 1 9\nfree B eth0 2 9\nsymmetric all\n",
+            ResolutionFault::EndsDiffer { line: 5 },
+        ),
     ];
     for (lines, fault) in cases {
         assert_eq!(rt; fault_of(rt.alloc(), lines), Some(fault));
@@ -215,13 +255,20 @@ fn many_links(alloc: Global, name: &[u8], count: u32, byte: &[u8]) -> Result<Vec
         add(&mut text, b".")?;
         add_number(&mut text, i % 200)?;
         add(&mut text, byte)?;
-        add(&mut text, b"/30\n ip ospf area 0\n ip ospf network point-to-point")?;
+        add(
+            &mut text,
+            b"/30\n ip ospf area 0\n ip ospf network point-to-point",
+        )?;
     }
     Ok(text)
 }
 
 /// The fault of these lines on two routers that so many links join.
-fn fault_on_links(alloc: Global, count: u32, lines: &[u8]) -> Result<Option<ResolutionFault>, Fail> {
+fn fault_on_links(
+    alloc: Global,
+    count: u32,
+    lines: &[u8],
+) -> Result<Option<ResolutionFault>, Fail> {
     let first = many_links(alloc, b"A", count, b".1")?;
     let second = many_links(alloc, b"B", count, b".2")?;
     Ok(fault_on(alloc, &[&first, &second], lines))
@@ -232,6 +279,9 @@ fn most_variables(rt: HostRuntime) -> Result<(), Fail> {
     let many = Some(ResolutionFault::TooManyVariables);
     assert_eq!(rt; fault_on_links(rt.alloc(), 501, b"free all 1 9\n")?, many);
     assert_eq!(rt; fault_on_links(rt.alloc(), 500, b"free all 1 9\n")?, None);
-    assert_eq!(rt; fault_on_links(rt.alloc(), 501, b"free all 1 9\nsymmetric all\n")?, None);
+    assert_eq!(rt;
+        fault_on_links(rt.alloc(), 501, b"free all 1 9\nsymmetric all\n")?,
+        None
+    );
     Ok(())
 }

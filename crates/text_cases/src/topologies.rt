@@ -99,7 +99,8 @@ fn refused_topologies(rt: HostRuntime) {
         b"hostname A\ninterface eth0\n ip address 10.0.1.1/24\n ip ospf area 0\ninterface eth1\n ip address 10.0.1.2/24\n ip ospf area 0\n";
     let again: &[u8] =
         b"hostname C\ninterface eth0\n ip address 10.0.0.1/30\n ip ospf area 0\n ip ospf network point-to-point\n";
-    let other_kind: &[u8] = b"hostname C\ninterface eth0\n ip address 10.0.0.2/30\n ip ospf area 0\n";
+    let other_kind: &[u8] =
+        b"hostname C\ninterface eth0\n ip address 10.0.0.2/30\n ip ospf area 0\n";
     let third: &[u8] =
         b"hostname C\n!\ninterface eth0\n ip address 10.0.0.3/30\n ip ospf area 0\n ip ospf network point-to-point\n";
     let longer: &[u8] = b"hostname C\ninterface eth0\n ip address 10.0.0.9/31\n ip ospf area 0\n";
@@ -134,9 +135,15 @@ fn empties(alloc: Global, count: u32) -> Result<Vec<RouterConfig>, Fail> {
 #[test]
 fn most_configurations(rt: HostRuntime) -> Result<(), Fail> {
     let many = empties(rt.alloc(), 1001)?;
-    assert_eq!(rt; build(rt.alloc(), &many, 0).err(), at(TopologyFault::TooMany, 1000, 0));
+    assert_eq!(rt;
+        build(rt.alloc(), &many, 0).err(),
+        at(TopologyFault::TooMany, 1000, 0)
+    );
     let most = empties(rt.alloc(), 1000)?;
-    assert_eq!(rt; build(rt.alloc(), &most, 0).err(), at(TopologyFault::NameTwice, 1, 0));
+    assert_eq!(rt;
+        build(rt.alloc(), &most, 0).err(),
+        at(TopologyFault::NameTwice, 1, 0)
+    );
     Ok(())
 }
 
@@ -158,7 +165,10 @@ fn many_interfaces(alloc: Global, count: u32) -> Result<Vec<u8>, OutOfMemory> {
 #[test]
 fn most_interfaces(rt: HostRuntime) -> Result<(), Fail> {
     let many = many_interfaces(rt.alloc(), 4001)?;
-    assert_eq!(rt; refused(rt.alloc(), &[&many]), at(TopologyFault::TooMany, 0, 12_001));
+    assert_eq!(rt;
+        refused(rt.alloc(), &[&many]),
+        at(TopologyFault::TooMany, 0, 12_001)
+    );
     let most = many_interfaces(rt.alloc(), 4000)?;
     assert_eq!(rt; refused(rt.alloc(), &[&most]), None);
     Ok(())
