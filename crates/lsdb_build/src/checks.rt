@@ -4,8 +4,9 @@ ghost use Rattle.cost_base.specs.Lists.{same_bytes};
 ghost use Rattle.lsdb_build.specs.Neighbours.{Port};
 ghost use Rattle.lsdb_build.specs.Tallies.{IsTally, same_subnet, same_trait, subnet_of, member_of, kind_on, rank_on};
 ghost use Rattle.lsdb_build.specs.Topology.{is_second_of_router, is_second_of_address, is_mismatch, is_crowding, lacks_designated, first_where, at_port, at_config, past, second_of_name, Tells};
+ghost use Rattle.lsdb_build.specs.declared.stop.TopologyFault.TheVariants.{TooMany, NameTwice, SameRouterTwice, AddressTwice, TypeMismatch, CrowdedLink, NoDesignated};
 
-use crate::TopologyStop;
+use crate::{TopologyFault, TopologyStop};
 use crate::members::members_on;
 use crate::port::{Port, Subnet, is_broadcast, subnet_of};
 use crate::tally::Tally;
@@ -14,12 +15,12 @@ use indexmap::IndexSet;
 use interface_model::RouterConfig;
 use std::alloc::Global;
 
-/// The refusal with a number at a port.
-pub fn refusal_at(number: u8, port: &Port) -> TopologyStop
-    ensures { result ≡ TopologyStop.Refused number port.now.router port.now.interface.line }
+/// The refusal of a port.
+pub fn refusal_at(fault: TopologyFault, port: &Port) -> TopologyStop
+    ensures { result ≡ TopologyStop.Refused fault port.now.router port.now.interface.line }
 {
     TopologyStop::Refused {
-        number,
+        fault,
         config: port.router,
         line: port.interface.line,
     }
@@ -35,13 +36,13 @@ fn member_of(port: &Port) -> (u32, Subnet)
 /// Refuses the first port of which an earlier one is of the same router and on the same subnet.
 pub fn refuse_second_of_router(alloc: Global, ports: &[Port]) -> Result<(), TopologyStop>
     requires { length ports.now ≤ 4000 }
-    ensures { let fault = at_port 14 (first_where is_second_of_router [] ports.now) in
+    ensures { let fault = at_port SameRouterTwice (first_where is_second_of_router [] ports.now) in
         MatchResult result (λ _. fault ≡ None) (Tells fault) }
 {
     let mut seen = Tally::new(alloc);
     for port in ports {
         if seen.add(member_of(port))? > 0 {
-            return Err(refusal_at(14, port));
+            return Err(refusal_at(TopologyFault::SameRouterTwice, port));
         }
     }
     Ok(())
@@ -50,13 +51,13 @@ pub fn refuse_second_of_router(alloc: Global, ports: &[Port]) -> Result<(), Topo
 /// Refuses the first port of which an earlier one has the address.
 pub fn refuse_second_of_address(alloc: Global, ports: &[Port]) -> Result<(), TopologyStop>
     requires { length ports.now ≤ 4000 }
-    ensures { let fault = at_port 11 (first_where is_second_of_address [] ports.now) in
+    ensures { let fault = at_port AddressTwice (first_where is_second_of_address [] ports.now) in
         MatchResult result (λ _. fault ≡ None) (Tells fault) }
 {
     let mut seen = Tally::new(alloc);
     for port in ports {
         if seen.add(port.address)? > 0 {
-            return Err(refusal_at(11, port));
+            return Err(refusal_at(TopologyFault::AddressTwice, port));
         }
     }
     Ok(())
@@ -80,13 +81,13 @@ fn is_mismatch(seen: &Tally<(bool, Subnet)>, port: &Port) -> bool
 /// Refuses the first port of which an earlier one on the same subnet has another network kind.
 pub fn refuse_mismatch(alloc: Global, ports: &[Port]) -> Result<(), TopologyStop>
     requires { length ports.now ≤ 4000 }
-    ensures { let fault = at_port 12 (first_where is_mismatch [] ports.now) in
+    ensures { let fault = at_port TypeMismatch (first_where is_mismatch [] ports.now) in
         MatchResult result (λ _. fault ≡ None) (Tells fault) }
 {
     let mut seen = Tally::new(alloc);
     for port in ports {
         if is_mismatch(&seen, port) {
-            return Err(refusal_at(12, port));
+            return Err(refusal_at(TopologyFault::TypeMismatch, port));
         }
         seen.add(kind_on(port))?;
     }
@@ -104,13 +105,13 @@ fn is_crowding(seen: &Tally<Subnet>, port: &Port) -> bool
 /// Refuses the first port of which two earlier ones are on the same point-to-point subnet.
 pub fn refuse_crowding(alloc: Global, ports: &[Port]) -> Result<(), TopologyStop>
     requires { length ports.now ≤ 4000 }
-    ensures { let fault = at_port 13 (first_where is_crowding [] ports.now) in
+    ensures { let fault = at_port CrowdedLink (first_where is_crowding [] ports.now) in
         MatchResult result (λ _. fault ≡ None) (Tells fault) }
 {
     let mut seen = Tally::new(alloc);
     for port in ports {
         if is_crowding(&seen, port) {
-            return Err(refusal_at(13, port));
+            return Err(refusal_at(TopologyFault::CrowdedLink, port));
         }
         seen.add(subnet_of(port))?;
     }
@@ -150,13 +151,13 @@ pub fn refuse_undesignated(
     transit: &[Port],
 ) -> Result<(), TopologyStop>
     requires { length ports.now ≤ 4000 }
-    ensures { let fault = at_port 15 (first_where (λ before p. lacks_designated ports.now p) [] transit.now) in
+    ensures { let fault = at_port NoDesignated (first_where (λ before p. lacks_designated ports.now p) [] transit.now) in
         MatchResult result (λ _. fault ≡ None) (Tells fault) }
 {
     let ranks = count_ranks(alloc, ports)?;
     for port in transit {
         if lacks_designated(&ranks, port) {
-            return Err(refusal_at(15, port));
+            return Err(refusal_at(TopologyFault::NoDesignated, port));
         }
     }
     Ok(())
@@ -164,13 +165,13 @@ pub fn refuse_undesignated(
 
 /// Refuses more than 1,000 configurations.
 pub fn refuse_many_configs(configs: &[RouterConfig]) -> Result<(), TopologyStop>
-    ensures fault { let fault = at_config 17 (past 1000 (length configs.now)) in
+    ensures fault { let fault = at_config TooMany (past 1000 (length configs.now)) in
         MatchResult result (λ _. fault ≡ None) (Tells fault) }
     ensures few { MatchResult result (λ _. length configs.now ≤ 1000) (λ _. 1000 < length configs.now) }
 {
     if configs.len() > 1000 {
         return Err(TopologyStop::Refused {
-            number: 17,
+            fault: TopologyFault::TooMany,
             config: 1000,
             line: 0,
         });
@@ -180,12 +181,12 @@ pub fn refuse_many_configs(configs: &[RouterConfig]) -> Result<(), TopologyStop>
 
 /// Refuses more than 4,000 ports, at the first past them.
 pub fn refuse_many_ports(ports: &[Port]) -> Result<(), TopologyStop>
-    ensures fault { let fault = at_port 17 (slice_get ports.now 4000) in
+    ensures fault { let fault = at_port TooMany (slice_get ports.now 4000) in
         MatchResult result (λ _. fault ≡ None) (Tells fault) }
     ensures few { MatchResult result (λ _. length ports.now ≤ 4000) (λ _. 4000 < length ports.now) }
 {
     match ports.get(4000) {
-        Some(port) => Err(refusal_at(17, port)),
+        Some(port) => Err(refusal_at(TopologyFault::TooMany, port)),
         None => Ok(()),
     }
 }
@@ -201,14 +202,14 @@ fn see<'a>(seen: &mut IndexSet<&'a [u8]>, name: &'a Name) -> Result<bool, OutOfM
 /// Refuses the first configuration of which an earlier one has the name.
 pub fn refuse_second_name(alloc: Global, configs: &[RouterConfig]) -> Result<(), TopologyStop>
     requires { length configs.now ≤ 1000 }
-    ensures { let fault = at_config 10 (second_of_name [] 0 configs.now) in
+    ensures { let fault = at_config NameTwice (second_of_name [] 0 configs.now) in
         MatchResult result (λ _. fault ≡ None) (Tells fault) }
 {
     let mut seen = IndexSet::new(alloc);
     for (i, config) in configs.iter().enumerate() {
         if !see(&mut seen, &config.name)? {
             return Err(TopologyStop::Refused {
-                number: 10,
+                fault: TopologyFault::NameTwice,
                 config: i as u32,
                 line: 0,
             });

@@ -4,6 +4,7 @@ use Rattle.lsdb_build.specs.Topology.{first_where, is_mismatch, at_port}
 use Rattle.lsdb_build.specs.Tallies.{same_trait, kind_on}
 use Rattle.lsdb_build.proofs.Firsts.{first_where-more}
 use Rattle.lsdb_build.proofs.Tallies.{tally_on, tally_few}
+use Rattle.lsdb_build.specs.declared.stop.TopologyFault.TheVariants.{TypeMismatch}
 use Rattle.lsdb_build.proofs.checks.refuse_mismatch.Goals as goal
 
 pub add-requires : goal.add-requires
@@ -25,8 +26,8 @@ returns-then-is_mismatch c =
     let i = c.loop-port.port-index in
     let before = reverse (take i ports) in
     rw c.refusal_at.ensures
-    (ap (at_port 12) (c.loop-port.invariant.left ∙ first_where-more is_mismatch ports i c.port-item.result c.loop-port-test.true c.port-item.is _ (sym (c.is_mismatch.ensures before c.loop-port.invariant.seen) ∙ c.if-is_mismatch.true)))
+    (ap (at_port TypeMismatch) (c.loop-port.invariant.left ∙ first_where-more is_mismatch ports i c.port-item.result c.loop-port-test.true c.port-item.is _ (sym (c.is_mismatch.ensures before c.loop-port.invariant.seen) ∙ c.if-is_mismatch.true)))
 
 pub returns : goal.returns
 returns c =
-    ap (at_port 12) (c.loop-port.invariant.left ∙ at_drop_all (first_where is_mismatch (reverse (take c.loop-port.port-index c.args.ports.now))) c.args.ports.now c.loop-port.port-index c.loop-port-test.false)
+    ap (at_port TypeMismatch) (c.loop-port.invariant.left ∙ at_drop_all (first_where is_mismatch (reverse (take c.loop-port.port-index c.args.ports.now))) c.args.ports.now c.loop-port.port-index c.loop-port-test.false)
