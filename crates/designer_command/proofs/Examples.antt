@@ -5,10 +5,10 @@ use Rattle.area_graph.specs.declared.Vertex.TheVariants.{Router as RouterVertex}
 use Rattle.area_graph.specs.declared.Price.TheVariants.{Fixed, Var}
 use Rattle.lsdb_build.specs.declared.Far.TheVariants.{Router}
 use Rattle.lsdb_build.specs.Graphs.{Database}
-use Rattle.path_requests.specs.declared.Wish.TheVariants.{FreeAll, Path}
-use Rattle.path_requests.specs.Meaning.{Asked}
+use Rattle.request_reader.specs.declared.Wish.TheVariants.{FreeAll, Path}
+use Rattle.request_reader.specs.Asked.{Asked}
 use Rattle.text_lines.specs.Lines.{lines}
-use Rattle.path_requests.specs.Reading.{request_fault, asked_by}
+use Rattle.request_reader.specs.Reading.{request_fault, asked_by}
 use Rattle.input_files.specs.declared.problem.View.TheVariants.{AsRequested}
 use Rattle.input_files.specs.Inputs.{InputFiles}
 use Rattle.cost_base.specs.declared.ShelfStop.TheVariants.{Failed as NotRead}

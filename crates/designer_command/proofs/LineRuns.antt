@@ -11,10 +11,11 @@ use Rattle.lsdb_build.specs.Graphs.{Database, IsDatabase, IsLink}
 use Rattle.lsdb_build.proofs.LinkOwners.{interface_names, IsLinkOf}
 use Rattle.path_rows.specs.declared.problem.VarName.{VarName}
 use Rattle.path_rows.specs.declared.answer.CostLine.{CostLine}
-use Rattle.path_requests.specs.declared.resolution.ranges.Range.{Range}
-use Rattle.path_requests.specs.declared.resolution.ranges.Range.TheVariants.{Within, AsItIs}
-use Rattle.path_requests.specs.Meaning.{Asked, range_of, is_free, variable_of, names_from}
-use Rattle.path_requests.proofs.RouteLaws.{same_bytes-true, same_bytes-same, router_number_is}
+use Rattle.path_requests.specs.declared.ranges.Range.{Range}
+use Rattle.path_requests.specs.declared.ranges.Range.TheVariants.{Within, AsItIs}
+use Rattle.request_reader.specs.Asked.{Asked}
+use Rattle.path_requests.specs.Meaning.{range_of, is_free, variable_of, names_from}
+use Rattle.wanted_paths.proofs.RouteLaws.{same_bytes-true, same_bytes-same, router_number_is}
 use Rattle.designer_command.proofs.PresentCosts.{line_at}
 use Rattle.designer_command.proofs.PrintedSections.{NoneOf, AfterRun, OneRun}
 

@@ -14,10 +14,12 @@ use Rattle.lsdb_build.specs.Graphs.{Database, IsDatabase, graph_at, far_vertex, 
 use Rattle.lsdb_build.proofs.Recosted.{recosted_link, recosted, recosted_graph}
 use Rattle.path_rows.specs.declared.problem.VarName.{VarName}
 use Rattle.path_rows.specs.declared.answer.CostLine.{CostLine}
-use Rattle.path_requests.specs.declared.resolution.ranges.Range.{Range}
-use Rattle.path_requests.specs.declared.resolution.ranges.Range.TheVariants.{Within, AsItIs}
-use Rattle.path_requests.specs.Meaning.{Asked, range_of, is_free, is_named, variable_of, present_cost, price_of, prices_from, names_from}
-use Rattle.path_requests.proofs.RouteLaws.{same_bytes-true, same_bytes-same, router_number_is}
+use Rattle.path_requests.specs.declared.ranges.Range.{Range}
+use Rattle.path_requests.specs.declared.ranges.Range.TheVariants.{Within, AsItIs}
+use Rattle.request_reader.specs.Asked.{Asked}
+use Rattle.path_requests.specs.Meaning.{range_of, is_free, variable_of, present_cost, price_of, prices_from, names_from}
+use Rattle.wanted_paths.specs.Paths.{is_named}
+use Rattle.wanted_paths.proofs.RouteLaws.{same_bytes-true, same_bytes-same, router_number_is}
 use Rattle.designer_command.specs.ReadBack.{fixed_at, graph_with}
 use Rattle.designer_command.proofs.CheapestWith.{edge_with}
 

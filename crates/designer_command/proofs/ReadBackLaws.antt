@@ -24,8 +24,9 @@ use Rattle.path_rows.specs.declared.answer.CostLine.{CostLine}
 use Rattle.path_rows.specs.Problems.{DesignProblem}
 use Rattle.path_rows.specs.Answers.{AnswerParts, Names}
 use Rattle.path_rows.specs.Text.{text}
-use Rattle.path_requests.specs.Meaning.{Asked, present_cost, names_from, problem_of}
-use Rattle.path_requests.proofs.RouteLaws.{same_bytes-true, same_bytes-same}
+use Rattle.request_reader.specs.Asked.{Asked}
+use Rattle.path_requests.specs.Meaning.{present_cost, names_from, problem_of}
+use Rattle.wanted_paths.proofs.RouteLaws.{same_bytes-true, same_bytes-same}
 use Rattle.input_files.specs.Outcomes.{ConfigFile, Input, routers_of}
 use Rattle.designer_command.specs.ReadBack.{router_back, database_back, graph_back, graph_with}
 use Rattle.input_files.proofs.ReadyInputs.{IsReadyInput}

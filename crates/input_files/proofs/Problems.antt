@@ -6,7 +6,7 @@ use Rattle.cost_base.specs.Histories.{Taken}
 use Rattle.interface_model.specs.Records.{Router}
 use Rattle.lsdb_build.specs.Graphs.{Database, IsDatabase}
 use Rattle.path_rows.specs.Problems.{DesignProblem}
-use Rattle.path_requests.specs.Meaning.{Asked}
+use Rattle.request_reader.specs.Asked.{Asked}
 use Rattle.input_files.specs.declared.stop.Stop.{Stop}
 use Rattle.input_files.specs.declared.problem.View.{View}
 use Rattle.input_files.specs.Inputs.{InputFiles}

@@ -4,8 +4,10 @@ use Rattle.cost_base.specs.Histories.{Taken}
 use Rattle.lsdb_build.specs.Graphs.{Database}
 use Rattle.lsdb_build.specs.Topology.{TopologyFault, topology_fault, database_of}
 use Rattle.path_rows.specs.Problems.{DesignProblem}
-use Rattle.path_requests.specs.Meaning.{Asked, problem_of}
-use Rattle.path_requests.specs.Resolving.{ResolutionFault, resolution_fault}
+use Rattle.request_reader.specs.Asked.{Asked}
+use Rattle.path_requests.specs.Meaning.{problem_of}
+use Rattle.wanted_paths.specs.declared.stop.ResolutionFault.{ResolutionFault}
+use Rattle.path_requests.specs.Resolving.{resolution_fault}
 use Rattle.input_files.specs.declared.problem.View.TheVariants.{AsRequested}
 use Rattle.input_files.specs.Inputs.{InputFiles}
 use Rattle.input_files.specs.Readings.{Reading, Refused, Ready, ◌>>=◌, Says, EndsAs}

@@ -2,16 +2,21 @@
 use Rattle.std.specs.Prelude.{ℕ, List, [], ◌∷◌, Option, Some, None, map, slice_get, slice_index_or}
 use Rattle.interface_model.specs.Records.{Router}
 use Rattle.config_reader.specs.Configs.{config_of}
-use Rattle.config_reader.specs.declared.ConfigFault.{ConfigFault}
-use Rattle.config_reader.specs.declared.ConfigFault.TheVariants.{LongLine, BadAddress, BadNumber, BadArea, Unsupported, SecondAddress, AreaTwice, BadName}
+use Rattle.config_reader.specs.FaultNumbers.{number_of as number_of_config}
 use Rattle.config_reader.specs.FaultList.{Fault, config_fault}
 use Rattle.lsdb_build.specs.declared.Linked.{Linked}
 use Rattle.lsdb_build.specs.Graphs.{Database}
-use Rattle.lsdb_build.specs.Topology.{TopologyFault, topology_fault, database_of}
+use Rattle.lsdb_build.specs.FaultNumbers.{number_of as number_of_topology}
+use Rattle.lsdb_build.specs.Topology.{FaultyPlace, topology_fault, database_of}
 use Rattle.path_rows.specs.Problems.{DesignProblem}
-use Rattle.path_requests.specs.Meaning.{Asked, problem_of}
-use Rattle.path_requests.specs.Reading.{RequestFault, request_fault, asked_by}
-use Rattle.path_requests.specs.Resolving.{ResolutionFault, AtLine, LacksCost, resolution_fault, present_fault, present_problem_of}
+use Rattle.request_reader.specs.Asked.{Asked}
+use Rattle.path_requests.specs.Meaning.{problem_of}
+use Rattle.request_reader.specs.FaultNumbers.{number_of as number_of_request}
+use Rattle.request_reader.specs.Reading.{FaultyLine, request_fault, asked_by}
+use Rattle.wanted_paths.specs.declared.stop.ResolutionFault.{ResolutionFault}
+use Rattle.wanted_paths.specs.declared.stop.ResolutionFault.TheVariants.{UnknownRouter, UnknownInterface, NotALink, BrokenPath, LoopPath, PathGone, EndsDiffer, TooManyVariables, NoCost}
+use Rattle.wanted_paths.specs.FaultNumbers.{number_of}
+use Rattle.path_requests.specs.Resolving.{resolution_fault, present_fault, present_problem_of}
 use Rattle.input_files.specs.declared.problem.View.{View}
 use Rattle.input_files.specs.declared.problem.View.TheVariants.{AsRequested, AtPresent}
 use Rattle.input_files.specs.Inputs.{InputFiles}
@@ -41,27 +46,17 @@ longest_answer = 1073741824
 abbrev pub file_read : ℕ → List ℕ → Reading (List ℕ)
 file_read most name = Take name most (λ bytes. Ready bytes)
 
-abbrev pub if_asked : List ℕ → List ℕ → Option RequestFault → Reading Asked
+abbrev pub if_asked : List ℕ → List ℕ → Option FaultyLine → Reading Asked
 if_asked name bytes None = Ready (asked_by bytes)
-if_asked name bytes (Some fault) = Refused (record { number = fault.number; file = name; line = fault.line })
+if_asked name bytes (Some faulty) = Refused (record { number = number_of_request faulty.fault; file = name; line = faulty.line })
 
 -- the request: its file's size, and then its lines
 abbrev pub request_read : List ℕ → Reading Asked
 request_read name = file_read longest_file name >>= λ bytes. if_asked name bytes (request_fault bytes)
 
-abbrev pub fault_number : ConfigFault → ℕ
-fault_number LongLine = 1
-fault_number BadAddress = 2
-fault_number BadNumber = 3
-fault_number BadArea = 4
-fault_number Unsupported = 5
-fault_number SecondAddress = 6
-fault_number AreaTwice = 7
-fault_number BadName = 8
-
 abbrev pub if_config : List ℕ → List ℕ → Option Fault → Reading ConfigFile
 if_config name bytes None = Ready (record { name = name; bytes = bytes })
-if_config name bytes (Some fault) = Refused (record { number = fault_number fault.fault; file = name; line = fault.line })
+if_config name bytes (Some fault) = Refused (record { number = number_of_config fault.fault; file = name; line = fault.line })
 
 -- a configuration: its file's size, and then its lines
 abbrev pub config_read : List ℕ → Reading ConfigFile
@@ -80,22 +75,40 @@ routers_of files = map (λ file. config_of file.name file.bytes) files
 abbrev pub file_of : InputFiles → ℕ → List ℕ
 file_of names router = slice_index_or names.configs router names.request
 
-abbrev pub if_faultless : InputFiles → Database → Option TopologyFault → Reading Database
+abbrev pub if_faultless : InputFiles → Database → Option FaultyPlace → Reading Database
 if_faultless names d None = Ready d
-if_faultless names d (Some fault) = Refused (record { number = fault.number; file = file_of names fault.config; line = fault.line })
+if_faultless names d (Some place) = Refused (record { number = number_of_topology place.fault; file = file_of names place.config; line = place.line })
 
 -- the topology
 abbrev pub topology_read : InputFiles → ℕ → List Router → Reading Database
 topology_read names area routers = if_faultless names (database_of area routers) (topology_fault area routers)
 
--- an interface without a cost is refused at its first head
-abbrev pub cost_refusal : InputFiles → Option Linked → Refusal
-cost_refusal names None = record { number = 26; file = names.request; line = 0 }
-cost_refusal names (Some link) = record { number = 26; file = file_of names link.router; line = link.line }
+-- a line of a file
+pub record FilePlace : Type 0 where
+  pub file : List ℕ
+  pub line : ℕ
 
+-- an interface without a cost is refused at its first head
+abbrev pub head_of : InputFiles → Option Linked → FilePlace
+head_of names None = record { file = names.request; line = 0 }
+head_of names (Some link) = record { file = file_of names link.router; line = link.line }
+
+-- the place of a fault of resolution: a line of the request, but for an interface without a cost
+abbrev pub resolution_place : InputFiles → Database → ResolutionFault → FilePlace
+resolution_place names d (NoCost link) = head_of names (slice_get d.links link)
+resolution_place names d (UnknownRouter line) = record { file = names.request; line = line }
+resolution_place names d (UnknownInterface line) = record { file = names.request; line = line }
+resolution_place names d (NotALink line) = record { file = names.request; line = line }
+resolution_place names d (BrokenPath line hop) = record { file = names.request; line = line }
+resolution_place names d (LoopPath line) = record { file = names.request; line = line }
+resolution_place names d (PathGone line) = record { file = names.request; line = line }
+resolution_place names d (EndsDiffer line) = record { file = names.request; line = line }
+resolution_place names d TooManyVariables = record { file = names.request; line = 0 }
+
+-- how a fault of resolution is written
 abbrev pub resolution_refusal : InputFiles → Database → ResolutionFault → Refusal
-resolution_refusal names d (AtLine number line hop) = record { number = number; file = names.request; line = line }
-resolution_refusal names d (LacksCost l) = cost_refusal names (slice_get d.links l)
+resolution_refusal names d fault =
+    record { number = number_of fault; file = (resolution_place names d fault).file; line = (resolution_place names d fault).line }
 
 abbrev pub if_resolved : InputFiles → Database → DesignProblem → Option ResolutionFault → Reading DesignProblem
 if_resolved names d p None = Ready p

@@ -4,21 +4,25 @@ use Rattle.std.specs.Borrow.{Bor}
 use Rattle.cost_base.specs.declared.ShelfStop.{ShelfStop}
 use Rattle.cost_base.specs.declared.ShelfStop.TheVariants.{Failed as NotRead, TooLong, OutOfMemory as NoMemory}
 use Rattle.cost_base.specs.Histories.{Taken}
-use Rattle.config_reader.specs.declared.ConfigStop.{ConfigStop}
-use Rattle.config_reader.specs.declared.ConfigStop.TheVariants.{Refused as ConfigRefused, OutOfMemory as NoMemoryForConfig}
-use Rattle.lsdb_build.specs.declared.TopologyStop.{TopologyStop}
-use Rattle.lsdb_build.specs.declared.TopologyStop.TheVariants.{Refused as TopologyRefused, OutOfMemory as NoMemoryForTopology}
+use Rattle.config_reader.specs.declared.stop.ConfigStop.{ConfigStop}
+use Rattle.config_reader.specs.declared.stop.ConfigStop.TheVariants.{Refused as ConfigRefused, OutOfMemory as NoMemoryForConfig}
+use Rattle.lsdb_build.specs.declared.stop.TopologyStop.{TopologyStop}
+use Rattle.lsdb_build.specs.declared.stop.TopologyStop.TheVariants.{Refused as TopologyRefused, OutOfMemory as NoMemoryForTopology}
 use Rattle.lsdb_build.specs.Graphs.{Database}
-use Rattle.path_requests.specs.declared.stop.RequestStop.{RequestStop}
-use Rattle.path_requests.specs.declared.stop.RequestStop.TheVariants.{Refused as RequestRefused, NoCost, OutOfMemory as NoMemoryForRequest}
-use Rattle.path_requests.specs.Resolving.{AtLine, LacksCost}
+use Rattle.request_reader.specs.declared.stop.RequestStop.{RequestStop}
+use Rattle.request_reader.specs.declared.stop.RequestStop.TheVariants.{Refused as RequestRefused, OutOfMemory as NoMemoryForRequest}
+use Rattle.wanted_paths.specs.declared.stop.ResolutionStop.{ResolutionStop}
+use Rattle.wanted_paths.specs.declared.stop.ResolutionStop.TheVariants.{Refused as ResolutionRefused, OutOfMemory as NoMemoryForResolution}
+use Rattle.config_reader.specs.FaultNumbers.{number_of as number_of_config}
+use Rattle.lsdb_build.specs.FaultNumbers.{number_of as number_of_topology}
+use Rattle.request_reader.specs.FaultNumbers.{number_of as number_of_request}
 use Rattle.command_words.specs.Words.{texts}
 use Rattle.input_files.specs.declared.stop.Stop.{Stop}
 use Rattle.input_files.specs.declared.stop.Stop.TheVariants.{Refused, ReadFault, OutOfMemory}
 use Rattle.input_files.specs.declared.reading.FileWords.{FileWords}
 use Rattle.input_files.specs.Inputs.{InputFiles}
 use Rattle.input_files.specs.Readings.{Refusal, Reading, End, Says, Faulty, Failed, EndsAs, too_long}
-use Rattle.input_files.specs.Outcomes.{fault_number, file_of, resolution_refusal}
+use Rattle.input_files.specs.Outcomes.{file_of, resolution_refusal}
 
 -- the files that words name
 abbrev pub files_named : FileWords → InputFiles
@@ -52,13 +56,12 @@ file_stop NoMemory file = OutOfMemory
 
 -- the stop of a request that is refused by itself
 abbrev pub request_stop : RequestStop → Bor (List ℕ) → Stop
-request_stop (RequestRefused number line hop) file = Refused number file line
-request_stop (NoCost link) file = OutOfMemory
+request_stop (RequestRefused fault line) file = Refused (number_of_request fault) file line
 request_stop NoMemoryForRequest file = OutOfMemory
 
 -- the stop of a configuration that is refused
 abbrev pub config_stop : ConfigStop → Bor (List ℕ) → Stop
-config_stop (ConfigRefused fault line) file = Refused (fault_number fault) file line
+config_stop (ConfigRefused fault line) file = Refused (number_of_config fault) file line
 config_stop NoMemoryForConfig file = OutOfMemory
 
 -- a stop that is a refusal of these parts
@@ -69,11 +72,10 @@ IsRefusal r OutOfMemory = ⊥
 
 -- the stop of a topology that is refused
 abbrev pub topology_stop : TopologyStop → InputFiles → Stop → Type 0
-topology_stop (TopologyRefused number config line) names stop = IsRefusal (record { number = number; file = file_of names config; line = line }) stop
+topology_stop (TopologyRefused fault config line) names stop = IsRefusal (record { number = number_of_topology fault; file = file_of names config; line = line }) stop
 topology_stop NoMemoryForTopology names stop = stop ≡ OutOfMemory
 
 -- the stop of requests that aren't resolved
-abbrev pub resolution_stop : RequestStop → Database → InputFiles → Stop → Type 0
-resolution_stop (RequestRefused number line hop) d names stop = IsRefusal (resolution_refusal names d (AtLine number line hop)) stop
-resolution_stop (NoCost link) d names stop = IsRefusal (resolution_refusal names d (LacksCost link)) stop
-resolution_stop NoMemoryForRequest d names stop = stop ≡ OutOfMemory
+abbrev pub resolution_stop : ResolutionStop → Database → InputFiles → Stop → Type 0
+resolution_stop (ResolutionRefused fault) d names stop = IsRefusal (resolution_refusal names d fault) stop
+resolution_stop NoMemoryForResolution d names stop = stop ≡ OutOfMemory

@@ -2,7 +2,7 @@
 ghost use Rattle.std.specs.Prelude.{◌≡◌, ℕ, List, [], IfOk};
 ghost use Rattle.lsdb_build.specs.Graphs.{IsDatabase};
 ghost use Rattle.input_files.specs.Readings.{Gave};
-ghost use Rattle.input_files.specs.Outcomes.{outcome, topology_read, problem_read, file_of};
+ghost use Rattle.input_files.specs.Outcomes.{outcome, topology_read, problem_read, file_of, resolution_place};
 ghost use Rattle.input_files.specs.Stops.{IsReadAs, files_named, topology_stop, resolution_stop};
 
 use crate::reading::{FileWords, read_configs, read_request};
@@ -10,9 +10,11 @@ use crate::stop::Stop;
 use cost_base::Shelf;
 use interface_model::RouterConfig;
 use lsdb_build::{Lsdb, TopologyStop, build};
-use path_requests::{RequestStop, Requests, resolve, resolve_present};
+use path_requests::{resolve, resolve_present};
 use path_rows::Problem;
+use request_reader::Requests;
 use std::alloc::Global;
+use wanted_paths::{ResolutionFault, ResolutionStop};
 
 /// Which interfaces of a problem are free: those that the request frees, or none, as every interface stands at present.
 #[derive(Clone, Copy)]
@@ -39,11 +41,11 @@ fn stop_of_topology(stop: TopologyStop, words: FileWords<'_>) -> Stop<'_>
 {
     match stop {
         TopologyStop::Refused {
-            number,
+            fault,
             config,
             line,
         } => Stop::Refused {
-            number,
+            number: fault.number(),
             file: file_of(words, config),
             line,
         },
@@ -66,29 +68,34 @@ fn topology<'a>(
     }
 }
 
+/// The place of a fault of resolution: the file, and the line in it. An interface without a cost is refused at its first
+/// head, any other fault in the request.
+fn place_of<'a>(fault: ResolutionFault, lsdb: &Lsdb, words: FileWords<'a>) -> (&'a str, u32)
+    ensures { resolution_place (files_named words.entry) lsdb.now fault ≡ record { file = result.0.now; line = result.1 } }
+{
+    match fault {
+        ResolutionFault::NoCost { link } => match lsdb.links.as_slice().get(link as usize) {
+            Some(link) => (file_of(words, link.router), link.line),
+            None => (words.request, 0),
+        },
+        fault => (words.request, fault.line()),
+    }
+}
+
 /// The stop of requests that aren't resolved.
-fn stop_of_resolution<'a>(stop: RequestStop, lsdb: &Lsdb, words: FileWords<'a>) -> Stop<'a>
+fn stop_of_resolution<'a>(stop: ResolutionStop, lsdb: &Lsdb, words: FileWords<'a>) -> Stop<'a>
     ensures { resolution_stop stop lsdb.now (files_named words.entry) result }
 {
     match stop {
-        RequestStop::Refused { number, line, .. } => Stop::Refused {
-            number,
-            file: words.request,
-            line,
-        },
-        RequestStop::NoCost { link } => match lsdb.links.as_slice().get(link as usize) {
-            Some(link) => Stop::Refused {
-                number: 26,
-                file: file_of(words, link.router),
-                line: link.line,
-            },
-            None => Stop::Refused {
-                number: 26,
-                file: words.request,
-                line: 0,
-            },
-        },
-        RequestStop::OutOfMemory => Stop::OutOfMemory,
+        ResolutionStop::Refused(fault) => {
+            let (file, line) = place_of(fault, lsdb, words);
+            Stop::Refused {
+                number: fault.number(),
+                file,
+                line,
+            }
+        }
+        ResolutionStop::OutOfMemory => Stop::OutOfMemory,
     }
 }
 

@@ -3,14 +3,14 @@ ghost use Rattle.std.specs.Prelude.{◌≡◌, ℕ, List, ◌≤◌, ◌<◌, �
 ghost use Rattle.config_reader.specs.Configs.{config_of};
 ghost use Rattle.command_words.specs.Words.{texts};
 ghost use Rattle.input_files.specs.Readings.{Gave};
-ghost use Rattle.input_files.specs.Outcomes.{longest_answer, file_read, request_read, configs_read, config_read, routers_of, fault_number};
+ghost use Rattle.input_files.specs.Outcomes.{longest_answer, file_read, request_read, configs_read, config_read, routers_of};
 ghost use Rattle.input_files.specs.Stops.{IsReadAs, file_stop, request_stop, config_stop};
 
 use crate::stop::Stop;
-use config_reader::{ConfigFault, ConfigStop};
+use config_reader::ConfigStop;
 use cost_base::{Shelf, ShelfStop};
 use interface_model::RouterConfig;
-use path_requests::{RequestStop, Requests, read_requests};
+use request_reader::{RequestStop, Requests, read_requests};
 use std::alloc::Global;
 use std::marker::Model;
 
@@ -67,8 +67,12 @@ fn stop_of_request(stop: RequestStop, file: &str) -> Stop<'_>
     ensures { result ≡ request_stop stop file.entry }
 {
     match stop {
-        RequestStop::Refused { number, line, .. } => Stop::Refused { number, file, line },
-        RequestStop::NoCost { .. } | RequestStop::OutOfMemory => Stop::OutOfMemory,
+        RequestStop::Refused { fault, line } => Stop::Refused {
+            number: fault.number(),
+            file,
+            line,
+        },
+        RequestStop::OutOfMemory => Stop::OutOfMemory,
     }
 }
 
@@ -87,29 +91,13 @@ pub(crate) fn read_request<'a, S: Shelf>(
     }
 }
 
-/// The number of a fault of a configuration.
-fn number_of(fault: ConfigFault) -> u8
-    ensures { result ≡ fault_number fault }
-{
-    match fault {
-        ConfigFault::LongLine => 1,
-        ConfigFault::BadAddress => 2,
-        ConfigFault::BadNumber => 3,
-        ConfigFault::BadArea => 4,
-        ConfigFault::Unsupported => 5,
-        ConfigFault::SecondAddress => 6,
-        ConfigFault::AreaTwice => 7,
-        ConfigFault::BadName => 8,
-    }
-}
-
 /// The stop of a configuration that is refused.
 fn stop_of_config(stop: ConfigStop, file: &str) -> Stop<'_>
     ensures { result ≡ config_stop stop file.entry }
 {
     match stop {
         ConfigStop::Refused { fault, line } => Stop::Refused {
-            number: number_of(fault),
+            number: fault.number(),
             file,
             line,
         },

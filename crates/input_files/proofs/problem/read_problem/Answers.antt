@@ -3,7 +3,7 @@ use Rattle.std.proofs.Common.{◌≡◌, List, [], ◌++◌, ◌∙◌, sym, sub
 use Rattle.std.proofs.lemmas.Result.{err_from_is_err_and}
 use Rattle.cost_base.specs.Histories.{Taken}
 use Rattle.lsdb_build.specs.Graphs.{Database, IsDatabase}
-use Rattle.path_requests.specs.Meaning.{Asked}
+use Rattle.request_reader.specs.Asked.{Asked}
 use Rattle.input_files.specs.Outcomes.{topology_read}
 use Rattle.input_files.specs.Stops.{StopsAs, IsReady, files_named}
 use Rattle.input_files.proofs.Problems.{request_stops, configs_stop, topology_stops, problem_is, routers_of_vector}
