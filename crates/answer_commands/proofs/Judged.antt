@@ -8,7 +8,7 @@ use Rattle.answer_commands.specs.Checks.{Claim, IsInvalid, IsOffGrammar, IsRejec
 
 -- a text that is off the grammar
 pub off_grammar_rejected : (p : DesignProblem) (bytes : List ℕ) (rejection : Rejection) → IsOffGrammar bytes rejection → IsRejected (record { problem = p; bytes = bytes }) rejection
-off_grammar_rejected p bytes rejection off = record { cause = inl off; never = refused_invalid p bytes rejection.number rejection.place off }
+off_grammar_rejected p bytes rejection off = record { cause = inl off; never = refused_invalid p bytes off.fault rejection.place off.refused }
 
 -- the text of an answer that isn't valid
 pub invalid_rejected : (claim : Claim) (rejection : Rejection) → IsInvalid claim rejection → IsRejected claim rejection

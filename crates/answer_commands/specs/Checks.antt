@@ -5,8 +5,9 @@ use Rattle.path_rows.specs.Problems.{DesignProblem}
 use Rattle.path_rows.specs.Answers.{AnswerParts, IsValid}
 use Rattle.path_rows.specs.ProblemLaws.{IsTrueVerdict}
 use Rattle.path_rows.specs.Text.{text, IsAnswer}
-use Rattle.evidence_text.specs.Grammar.{AtHead}
-use Rattle.evidence_text.specs.Refusals.{IsRefused}
+use Rattle.answer_lines.specs.Grammar.{AtHead}
+use Rattle.evidence_reader.specs.declared.stop.AnswerFault.{AnswerFault}
+use Rattle.evidence_reader.specs.Refusals.{IsRefused, number_of}
 use Rattle.answer_laws.specs.Laws.{IsNoValidText}
 use Rattle.evidence_checker.specs.declared.stop.Accepted.{Accepted as Acceptance}
 use Rattle.evidence_checker.specs.Laws.{IsAcceptedAs}
@@ -53,8 +54,10 @@ pub record IsInvalid (claim : Claim) (rejection : Rejection) : Type 0 where
   pub invalid : IsValid claim.problem answer → ⊥
 
 -- the bytes are off the grammar of answers, by the first line that is at fault
-abbrev pub IsOffGrammar : List ℕ → Rejection → Type 0
-IsOffGrammar bytes rejection = IsRefused AtHead 0 bytes rejection.number rejection.place
+pub record IsOffGrammar (bytes : List ℕ) (rejection : Rejection) : Type 0 where
+  pub fault : AnswerFault
+  pub refused : IsRefused AtHead 0 bytes fault rejection.place
+  pub number : rejection.number ≡ number_of fault
 
 -- the bytes are no valid answer's text: they are off the grammar of answers, or their answer isn't valid
 pub record IsRejected (claim : Claim) (rejection : Rejection) : Type 0 where

@@ -12,7 +12,7 @@ ghost use Rattle.answer_commands.specs.Checks.{Claim, IsInvalid, IsJudged, IsTex
 use crate::rejection::{Rejection, rejection_of_text};
 use cost_base::{OutOfMemory, Shelf};
 use evidence_checker::{Accepted, CheckStop, check};
-use evidence_text::read_answer;
+use evidence_reader::read_answer;
 use input_files::{FileWords, Stop, View, read_answer_file, read_problem};
 use path_rows::{Answer, Problem};
 use std::alloc::Global;
@@ -31,7 +31,10 @@ fn rejection_of_answer(stop: CheckStop) -> Result<Rejection, OutOfMemory>
     ensures { (claim : Claim) (answer : AnswerParts) → IsTextOf claim.bytes answer → StopsBy (tests claim.problem answer) stop → RefusesInvalid claim.problem answer stop → IfOk result (IsInvalid claim) }
 {
     match stop {
-        CheckStop::Refused { number, place } => Ok(Rejection { number, place }),
+        CheckStop::Refused { fault, place } => Ok(Rejection {
+            number: fault.number(),
+            place,
+        }),
         CheckStop::OutOfMemory => Err(OutOfMemory),
     }
 }

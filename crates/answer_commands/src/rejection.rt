@@ -1,11 +1,11 @@
 //! Why an answer's file is refused.
 ghost use Rattle.std.specs.Prelude.{ℕ, List, IfOk};
-ghost use Rattle.evidence_text.specs.Grammar.{AtHead};
-ghost use Rattle.evidence_text.specs.Refusals.{IsStop};
+ghost use Rattle.answer_lines.specs.Grammar.{AtHead};
+ghost use Rattle.evidence_reader.specs.Refusals.{IsStop};
 ghost use Rattle.answer_commands.specs.Checks.{IsOffGrammar};
 
 use cost_base::OutOfMemory;
-use evidence_text::AnswerStop;
+use evidence_reader::AnswerStop;
 
 /// A rejection of an answer's file: the number of a fault of its text or of a test of its answer, and the place.
 #[derive(Clone, Copy, Debug, PartialEq, Eq)]
@@ -21,8 +21,8 @@ pub(crate) fn rejection_of_text(stop: AnswerStop) -> Result<Rejection, OutOfMemo
     ensures { (bytes : List ℕ) → IsStop AtHead 0 bytes stop → IfOk result (IsOffGrammar bytes) }
 {
     match stop {
-        AnswerStop::Refused { number, line } => Ok(Rejection {
-            number,
+        AnswerStop::Refused { fault, line } => Ok(Rejection {
+            number: fault.number(),
             place: u64::from(line),
         }),
         AnswerStop::OutOfMemory => Err(OutOfMemory),

@@ -14,7 +14,7 @@ use crate::own_lines::last_lines;
 use crate::rejection::{Rejection, rejection_of_text};
 use config_writer::{RewriteStop, rewrite};
 use cost_base::{OutOfMemory, Shelf};
-use evidence_text::read_answer;
+use evidence_reader::read_answer;
 use input_files::{ConfigText, Stop, read_answer_file, read_config_text};
 use path_rows::{Answer, CostLine};
 use std::alloc::Global;

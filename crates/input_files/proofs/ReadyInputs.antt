@@ -2,7 +2,7 @@
 use Rattle.std.proofs.Common.{◌≡◌, sym, subst, List, [], ◌∷◌, Option, Some, None}
 use Rattle.cost_base.specs.Histories.{Taken}
 use Rattle.lsdb_build.specs.Graphs.{Database}
-use Rattle.lsdb_build.specs.Topology.{TopologyFault, topology_fault, database_of}
+use Rattle.lsdb_build.specs.Topology.{FaultyPlace, topology_fault, database_of}
 use Rattle.path_rows.specs.Problems.{DesignProblem}
 use Rattle.request_reader.specs.Asked.{Asked}
 use Rattle.path_requests.specs.Meaning.{problem_of}
@@ -19,7 +19,7 @@ pub record IsReadyInput (d : Input) : Type 0 where
   pub database_is : d.database ≡ database_of d.asked.area (routers_of d.files)
   pub problem_is : d.problem ≡ problem_of d.asked d.database
 
-topology_ready : (names : InputFiles) (made d : Database) (o : Option TopologyFault) (came : List Taken) → EndsAs (if_faultless names made o) came (Says d) → d ≡ made
+topology_ready : (names : InputFiles) (made d : Database) (o : Option FaultyPlace) (came : List Taken) → EndsAs (if_faultless names made o) came (Says d) → d ≡ made
 topology_ready names made d (Some fault) [] is = absurd (said_faulty d _ is)
 topology_ready names made d (Some fault) (taken ∷ more) is = absurd is
 topology_ready names made d None [] is = one_said d made is
