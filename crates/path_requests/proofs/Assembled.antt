@@ -10,30 +10,34 @@ use Rattle.lsdb_build.specs.Graphs.{Database, IsLink, IsCost, IsLinkPrice, graph
 use Rattle.path_rows.specs.declared.problem.VarName.{VarName}
 use Rattle.path_rows.specs.declared.problem.Request.{Request}
 use Rattle.path_rows.specs.Problems.{DesignProblem}
-use Rattle.path_requests.specs.Meaning.{Asked, IsAsked, IsDefault, Range, Within, AsItIs, range_of, low_of, high_of, ranges, price_of, prices_from, names_from, request_of, problem_of}
-use Rattle.path_requests.specs.Resolving.{LacksCost, lacks_cost, cost_faults, outline}
-use Rattle.path_requests.proofs.Walks.{no_parts}
-use Rattle.path_requests.proofs.Outline.{as_outline, requests_same}
+use Rattle.request_reader.specs.Asked.{Asked, IsAsked, IsDefault}
+use Rattle.path_requests.specs.Meaning.{Range, Within, AsItIs, range_of, low_of, high_of, ranges, price_of, prices_from, names_from, problem_of}
+use Rattle.wanted_paths.specs.Paths.{request_of}
+use Rattle.path_requests.specs.Resolving.{lacks_cost, cost_faults}
+use Rattle.wanted_paths.specs.Paths.{outline}
+use Rattle.wanted_paths.proofs.Walks.{no_parts}
+use Rattle.wanted_paths.proofs.Outline.{as_outline, requests_same}
 use Rattle.path_requests.proofs.ProblemLaws.{same_whole_problem}
+use Rattle.wanted_paths.specs.declared.stop.ResolutionFault.TheVariants.{NoCost}
 use Rattle.path_requests.proofs.WholeProblems.{prices_count}
 
 -- where each fixed link has a cost, each price is one that a link may have
 pub prices_link : (a : Asked) (d : Database) (l : ℕ) (links : List Linked) → IsAsked a → All (IsLink d) links → cost_faults a d l links ≡ [] → All IsLinkPrice (prices_from a d l links)
 prices_link a d l [] asked each none = All-nil IsLinkPrice
 prices_link a d l (link ∷ links) asked each none =
-    let parts = no_parts (if lacks_cost a link (range_of a d link) then LacksCost l ∷ [] else []) (cost_faults a d (l + 1) links) none in
+    let parts = no_parts (if lacks_cost a link (range_of a d link) then NoCost l ∷ [] else []) (cost_faults a d (l + 1) links) none in
     All-cons IsLinkPrice (price_of a d l link (range_of a d link)) (prices_from a d (l + 1) links)
     (by_range (range_of a d link) parts.0) (prices_link a d (l + 1) links asked (All-tail (IsLink d) link links each) parts.1)
   where
-    clash : (LacksCost l ∷ []) ≡ [] → ⊥
+    clash : (NoCost l ∷ []) ≡ [] → ⊥
     clash h = cc
 
-    by_cost : (cost default : Option ℕ) → IsCost cost → IsDefault default → (if lacks_cost (record a { default_cost = default }) (record link { cost = cost }) AsItIs then LacksCost l ∷ [] else []) ≡ [] → 0 < unwrap_or cost (unwrap_or default 0)
+    by_cost : (cost default : Option ℕ) → IsCost cost → IsDefault default → (if lacks_cost (record a { default_cost = default }) (record link { cost = cost }) AsItIs then NoCost l ∷ [] else []) ≡ [] → 0 < unwrap_or cost (unwrap_or default 0)
     by_cost (Some c) default here other none = here
     by_cost None (Some c) here other none = other
     by_cost None None here other none = absurd (clash none)
 
-    by_range : (range : Range) → (if lacks_cost a link range then LacksCost l ∷ [] else []) ≡ [] → IsLinkPrice (price_of a d l link range)
+    by_range : (range : Range) → (if lacks_cost a link range then NoCost l ∷ [] else []) ≡ [] → IsLinkPrice (price_of a d l link range)
     by_range (Within lo hi) none = tt
     by_range AsItIs none = by_cost link.cost a.default_cost (All-head (IsLink d) link links each).cost asked.default none
 

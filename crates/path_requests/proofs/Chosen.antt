@@ -12,14 +12,15 @@ use Rattle.std.proofs.lemmas.Bool.{or_parts, false_from_ne_true}
 use native.Mathlib.Decide.{ℕ_discrete}
 use Rattle.lsdb_build.specs.declared.Linked.{Linked}
 use Rattle.lsdb_build.specs.Graphs.{Database, IsDatabase}
-use Rattle.path_requests.specs.declared.Wish.{Wish}
-use Rattle.path_requests.specs.declared.Wish.TheVariants.{FreeAll, Free, Fix, Path, SymmetricAll, Symmetric}
-use Rattle.path_requests.specs.declared.Item.{Item}
-use Rattle.path_requests.specs.Meaning.{is_named, says_symmetric, link_number}
-use Rattle.path_requests.specs.Resolution.{knows_link}
+use Rattle.request_reader.specs.declared.Wish.{Wish}
+use Rattle.request_reader.specs.declared.Wish.TheVariants.{FreeAll, Free, Fix, Path, SymmetricAll, Symmetric}
+use Rattle.request_reader.specs.declared.Item.{Item}
+use Rattle.wanted_paths.specs.Paths.{is_named, link_number}
+use Rattle.path_requests.specs.Meaning.{says_symmetric}
+use Rattle.wanted_paths.specs.Resolution.{knows_link}
 use Rattle.path_requests.specs.Chosen.{ties_all, ties_one}
-use Rattle.path_requests.proofs.LookUps.{link_number_is}
-use Rattle.path_requests.proofs.ProblemLaws.{no_link}
+use Rattle.wanted_paths.proofs.LookUps.{link_number_is}
+use Rattle.wanted_paths.proofs.LookUps.{no_link}
 
 -- functions that agree where no element passes a test make the same list
 pub map_agree : {X Y : Type 0} (p : X → Bool) (f g : X → Y) (xs : List X) → list_any p xs ≡ false → ((x : X) → p x ≡ false → f x ≡ g x) → map f xs ≡ map g xs

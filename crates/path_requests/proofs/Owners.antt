@@ -8,13 +8,16 @@ use Rattle.lsdb_build.specs.declared.Far.{Far}
 use Rattle.lsdb_build.specs.declared.Far.TheVariants.{Router as ToRouter, Subnet as ToSubnet}
 use Rattle.lsdb_build.specs.declared.Linked.{Linked}
 use Rattle.lsdb_build.specs.Graphs.{Database, IsDatabase, HasMate, IsMateOf}
-use Rattle.path_requests.specs.declared.Wish.{Wish}
-use Rattle.path_requests.specs.declared.Wish.TheVariants.{FreeAll, Free, Fix, Path, SymmetricAll, Symmetric}
-use Rattle.path_requests.specs.declared.Item.{Item}
-use Rattle.path_requests.specs.Meaning.{Asked, Range, Within, AsItIs, range_of, is_free, is_free_at, says_symmetric, any_symmetric, is_symmetric, option_at, owner_by_mate, owner_at, owner, own, owners, variable_of}
-use Rattle.path_requests.specs.Resolving.{fault_unless, same_range, ends_differ, ends_differ_at, ties_different, ends_faults}
-use Rattle.path_requests.proofs.Walks.{no_parts, well_from}
-use Rattle.path_requests.proofs.LookUps.{link_number_is, none_there}
+use Rattle.request_reader.specs.declared.Wish.{Wish}
+use Rattle.request_reader.specs.declared.Wish.TheVariants.{FreeAll, Free, Fix, Path, SymmetricAll, Symmetric}
+use Rattle.request_reader.specs.declared.Item.{Item}
+use Rattle.request_reader.specs.Asked.{Asked}
+use Rattle.path_requests.specs.Meaning.{Range, Within, AsItIs, range_of, is_free, is_free_at, says_symmetric, any_symmetric, is_symmetric, option_at, owner_by_mate, owner_at, owner, own, owners, variable_of}
+use Rattle.wanted_paths.specs.LineFaults.{fault_unless}
+use Rattle.path_requests.specs.Resolving.{same_range, ends_differ, ends_differ_at, ties_different, ends_faults}
+use Rattle.wanted_paths.proofs.Walks.{no_parts, well_from}
+use Rattle.wanted_paths.proofs.LookUps.{link_number_is, none_there}
+use Rattle.wanted_paths.specs.declared.stop.ResolutionFault.TheVariants.{EndsDiffer}
 use Rattle.path_requests.proofs.Numbering.{passing, count_before, fewer_before}
 
 not_false : (b : Bool) → not b ≡ true → b ≡ false
@@ -49,8 +52,8 @@ ends_are a d link other m mate there = rw (mate, there) refl
 said_same : (a : Asked) (d : Database) (items : List Item) (l : ℕ) (link : Linked) → IsDatabase d → slice_get d.links l ≡ Some link → list_any (λ item. says_symmetric d link item.what) items ≡ true → ends_faults a d items ≡ [] → ends_differ a d link ≡ false
 said_same a d [] l link base there said none = absurd (false≢true said)
 said_same a d (item ∷ items) l link base there said none =
-    let parts = no_parts (fault_unless (not (ties_different a d item.what)) 29 item.line) (ends_faults a d items) none in
-    let ties = not_false (ties_different a d item.what) (well_from (not (ties_different a d item.what)) 29 item.line parts.0) in
+    let parts = no_parts (fault_unless (not (ties_different a d item.what)) (EndsDiffer item.line)) (ends_faults a d items) none in
+    let ties = not_false (ties_different a d item.what) (well_from (not (ties_different a d item.what)) (EndsDiffer item.line) parts.0) in
     elim (cases_Bool (says_symmetric d link item.what)) [
       | inl here ↦ by_wish item.what here ties
       | inr later ↦ said_same a d items l link base there (rw later at said) parts.1

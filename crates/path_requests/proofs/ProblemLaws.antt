@@ -11,10 +11,6 @@ use Rattle.lsdb_build.specs.Graphs.{subnet_edges, router_of}
 use Rattle.path_rows.specs.Problems.{DesignProblem}
 use Rattle.path_rows.proofs.RestrictedProblems.{same_problem}
 
--- what a read past the last link gives
-abbrev pub no_link : Linked
-no_link = record { router = 0; interface = []; line = 0; cost = None; to = Router 0; mate = None }
-
 -- edges out of subnets have no variable
 pub subnets_priced : (n : ℕ) (links : List Linked) (vertex : ℕ) (subnets : List (List ℕ)) → All (λ edge. IsPriced n edge.price) (subnet_edges links vertex subnets)
 subnets_priced n links vertex [] = All-nil (λ (edge : Edge). IsPriced n edge.price)

@@ -6,12 +6,13 @@ use Rattle.area_graph.specs.declared.Price.TheVariants.{Fixed}
 use Rattle.lsdb_build.specs.declared.Far.TheVariants.{Router, Subnet}
 use Rattle.lsdb_build.specs.declared.Linked.{Linked}
 use Rattle.lsdb_build.specs.Graphs.{Database}
-use Rattle.path_requests.specs.declared.Wish.{Wish}
-use Rattle.path_requests.specs.declared.Wish.TheVariants.{FreeAll, Free, Fix, Path, SymmetricAll, Symmetric}
-use Rattle.path_requests.specs.declared.Part.TheVariants.{Router as RouterPart, Interface as InterfacePart}
-use Rattle.path_requests.specs.declared.Item.{Item}
-use Rattle.path_requests.specs.Meaning.{Asked}
-use Rattle.path_requests.specs.Resolving.{AtLine, LacksCost, resolution_fault, present_fault, present_problem_of}
+use Rattle.request_reader.specs.declared.Wish.{Wish}
+use Rattle.request_reader.specs.declared.Wish.TheVariants.{FreeAll, Free, Fix, Path, SymmetricAll, Symmetric}
+use Rattle.request_reader.specs.declared.Part.TheVariants.{Router as RouterPart, Interface as InterfacePart}
+use Rattle.request_reader.specs.declared.Item.{Item}
+use Rattle.request_reader.specs.Asked.{Asked}
+use Rattle.wanted_paths.specs.declared.stop.ResolutionFault.TheVariants.{UnknownRouter, UnknownInterface, NotALink, LoopPath, PathGone, EndsDiffer, BrokenPath, NoCost}
+use Rattle.path_requests.specs.Resolving.{resolution_fault, present_fault, present_problem_of}
 
 abbrev link_to : ℕ → List ℕ → ℕ → ℕ → Linked
 link_to r name far mate = record { router = r; interface = name; line = 1; cost = None; to = Router far; mate = Some mate }
@@ -48,50 +49,50 @@ ab_to last = Path (record { hops = (codes "A", codes "0") ∷ (codes "B", codes 
 resolves : resolution_fault (asked (line 4 SymmetricAll ∷ line 5 (ab_to (codes "C")) ∷ [])) triangle ≡ None
 resolves = refl
 
-unknown_router : resolution_fault (asked (line 4 (ab_to (codes "Z")) ∷ [])) triangle ≡ Some (AtLine 21 4 0)
+unknown_router : resolution_fault (asked (line 4 (ab_to (codes "Z")) ∷ [])) triangle ≡ Some (UnknownRouter 4)
 unknown_router = refl
 
-unknown_interface : resolution_fault (asked (line 4 (Fix (codes "A") (codes "9")) ∷ [])) triangle ≡ Some (AtLine 22 4 0)
+unknown_interface : resolution_fault (asked (line 4 (Fix (codes "A") (codes "9")) ∷ [])) triangle ≡ Some (UnknownInterface 4)
 unknown_interface = refl
 
-not_a_link : resolution_fault (asked (line 4 (Symmetric (codes "A") (codes "0")) ∷ [])) lan ≡ Some (AtLine 28 4 0)
+not_a_link : resolution_fault (asked (line 4 (Symmetric (codes "A") (codes "0")) ∷ [])) lan ≡ Some (NotALink 4)
 not_a_link = refl
 
-broken_path : resolution_fault (asked (line 4 (ab_to (codes "A")) ∷ [])) triangle ≡ Some (AtLine 23 4 2)
+broken_path : resolution_fault (asked (line 4 (ab_to (codes "A")) ∷ [])) triangle ≡ Some (BrokenPath 4 2)
 broken_path = refl
 
-loop_path : resolution_fault (asked (line 4 (Path (record { hops = (codes "A", codes "0") ∷ (codes "B", codes "1") ∷ []; last = codes "A" }) []) ∷ [])) triangle ≡ Some (AtLine 24 4 0)
+loop_path : resolution_fault (asked (line 4 (Path (record { hops = (codes "A", codes "0") ∷ (codes "B", codes "1") ∷ []; last = codes "A" }) []) ∷ [])) triangle ≡ Some (LoopPath 4)
 loop_path = refl
 
 -- over the same subnet twice
-loop_over_lan : resolution_fault (asked (line 4 (ab_to (codes "C")) ∷ [])) lan ≡ Some (AtLine 24 4 0)
+loop_over_lan : resolution_fault (asked (line 4 (ab_to (codes "C")) ∷ [])) lan ≡ Some (LoopPath 4)
 loop_over_lan = refl
 
-unknown_part : resolution_fault (asked (line 4 (Path (record { hops = []; last = codes "A" }) (InterfacePart (codes "Z") (codes "0") ∷ [])) ∷ [])) triangle ≡ Some (AtLine 21 4 0)
+unknown_part : resolution_fault (asked (line 4 (Path (record { hops = []; last = codes "A" }) (InterfacePart (codes "Z") (codes "0") ∷ [])) ∷ [])) triangle ≡ Some (UnknownRouter 4)
 unknown_part = refl
 
 -- the link is taken away in both directions
-path_gone : resolution_fault (asked (line 4 (Path (record { hops = (codes "A", codes "0") ∷ []; last = codes "B" }) (InterfacePart (codes "B") (codes "1") ∷ [])) ∷ [])) triangle ≡ Some (AtLine 70 4 0)
+path_gone : resolution_fault (asked (line 4 (Path (record { hops = (codes "A", codes "0") ∷ []; last = codes "B" }) (InterfacePart (codes "B") (codes "1") ∷ [])) ∷ [])) triangle ≡ Some (PathGone 4)
 path_gone = refl
 
-start_gone : resolution_fault (asked (line 4 (Path (record { hops = []; last = codes "A" }) (RouterPart (codes "A") ∷ [])) ∷ [])) triangle ≡ Some (AtLine 70 4 0)
+start_gone : resolution_fault (asked (line 4 (Path (record { hops = []; last = codes "A" }) (RouterPart (codes "A") ∷ [])) ∷ [])) triangle ≡ Some (PathGone 4)
 start_gone = refl
 
 start_stays : resolution_fault (asked (line 4 (Path (record { hops = []; last = codes "A" }) (InterfacePart (codes "A") (codes "0") ∷ [])) ∷ [])) triangle ≡ None
 start_stays = refl
 
 -- at the first line that names such a link
-one_end_fixed : resolution_fault (asked (line 4 (Symmetric (codes "B") (codes "0")) ∷ line 5 SymmetricAll ∷ line 6 (Fix (codes "A") (codes "0")) ∷ [])) triangle ≡ Some (AtLine 29 5 0)
+one_end_fixed : resolution_fault (asked (line 4 (Symmetric (codes "B") (codes "0")) ∷ line 5 SymmetricAll ∷ line 6 (Fix (codes "A") (codes "0")) ∷ [])) triangle ≡ Some (EndsDiffer 5)
 one_end_fixed = refl
 
-other_bounds : resolution_fault (asked (line 4 (Symmetric (codes "B") (codes "1")) ∷ line 5 (Free (codes "A") (codes "0") 1 8) ∷ [])) triangle ≡ Some (AtLine 29 4 0)
+other_bounds : resolution_fault (asked (line 4 (Symmetric (codes "B") (codes "1")) ∷ line 5 (Free (codes "A") (codes "0") 1 8) ∷ [])) triangle ≡ Some (EndsDiffer 4)
 other_bounds = refl
 
 -- the last line on an interface counts
-no_cost : resolution_fault (asked (line 4 (Fix (codes "B") (codes "0")) ∷ line 5 (Fix (codes "C") (codes "0")) ∷ line 6 (Free (codes "B") (codes "0") 2 3) ∷ [])) triangle ≡ Some (LacksCost 4)
+no_cost : resolution_fault (asked (line 4 (Fix (codes "B") (codes "0")) ∷ line 5 (Fix (codes "C") (codes "0")) ∷ line 6 (Free (codes "B") (codes "0") 2 3) ∷ [])) triangle ≡ Some (NoCost 4)
 no_cost = refl
 
-present_no_cost : present_fault (asked []) triangle ≡ Some (LacksCost 0)
+present_no_cost : present_fault (asked []) triangle ≡ Some (NoCost 0)
 present_no_cost = refl
 
 abbrev pair : Database

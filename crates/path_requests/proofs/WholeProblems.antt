@@ -19,23 +19,29 @@ use Rattle.lsdb_build.proofs.Pairs.{all_at}
 use Rattle.path_rows.specs.declared.problem.VarName.{VarName}
 use Rattle.path_rows.specs.declared.problem.Request.{Request}
 use Rattle.path_rows.specs.Problems.{IsProblem, TakesAway, ends_of}
-use Rattle.path_requests.specs.declared.Part.{Part}
-use Rattle.path_requests.specs.declared.Wish.{Wish}
-use Rattle.path_requests.specs.declared.Wish.TheVariants.{FreeAll, Free, Fix, Path, SymmetricAll, Symmetric}
-use Rattle.path_requests.specs.declared.Item.{Item}
-use Rattle.path_requests.specs.Wishes.{Route}
-use Rattle.path_requests.specs.Meaning.{Asked, KeepsBounds, IsAsked, is_path_wish, is_path, Range, Within, AsItIs, is_named, range_said, range_of, is_free, is_free_at, low_of, high_of, owner, own, owners, variable_of, ranges, price_of, prices_from, names_from, next_name, router_number, route_edges, takes, gone_edges, request_of, problem_of}
-use Rattle.path_requests.specs.Resolution.{is_known, is_joined, is_loop_free}
-use Rattle.path_requests.specs.Resolving.{fault_unless, hop_faults, broken_faults, walk_faults, parts_faults, without_faults, is_router_part, is_path_gone, wish_faults, line_faults, ends_faults, outline}
-use Rattle.path_requests.proofs.RouteLaws.{route_simple}
-use Rattle.path_requests.proofs.GoneLaws.{gone_takes}
-use Rattle.path_requests.proofs.ProblemLaws.{no_link, subnets_priced}
-use Rattle.path_requests.proofs.Walks.{no_parts, well_from, words_known, hops_joined}
-use Rattle.path_requests.proofs.Withouts.{walk_simple}
-use Rattle.path_requests.proofs.Gone.{has_kept, lacks_from, joins_within}
-use Rattle.path_requests.proofs.Ranges.{range_after, range_is}
-use Rattle.path_requests.proofs.Outline.{as_outline, route_same, gone_same, loop_free_same}
+use Rattle.request_reader.specs.declared.Part.{Part}
+use Rattle.request_reader.specs.declared.Wish.{Wish}
+use Rattle.request_reader.specs.declared.Wish.TheVariants.{FreeAll, Free, Fix, Path, SymmetricAll, Symmetric}
+use Rattle.request_reader.specs.declared.Item.{Item}
+use Rattle.request_reader.specs.Wishes.{Route}
+use Rattle.request_reader.specs.Asked.{Asked, KeepsBounds, IsAsked, is_path_wish, is_path}
+use Rattle.path_requests.specs.Meaning.{Range, Within, AsItIs, range_said, range_of, is_free, is_free_at, low_of, high_of, owner, own, owners, variable_of, ranges, price_of, prices_from, names_from, problem_of}
+use Rattle.wanted_paths.specs.Paths.{is_named, next_name, router_number, route_edges, takes, gone_edges, request_of}
+use Rattle.wanted_paths.specs.Resolution.{is_known, is_joined, is_loop_free}
+use Rattle.wanted_paths.specs.LineFaults.{fault_unless, hop_faults, broken_faults, walk_faults, parts_faults, without_faults, is_router_part, is_path_gone, wish_faults, line_faults}
+use Rattle.path_requests.specs.Resolving.{ends_faults}
+use Rattle.wanted_paths.specs.Paths.{outline}
+use Rattle.wanted_paths.proofs.RouteLaws.{route_simple}
+use Rattle.wanted_paths.proofs.GoneLaws.{gone_takes}
+use Rattle.wanted_paths.proofs.LookUps.{no_link}
+use Rattle.path_requests.proofs.ProblemLaws.{subnets_priced}
+use Rattle.wanted_paths.proofs.Walks.{no_parts, well_from, words_known, hops_joined}
+use Rattle.wanted_paths.proofs.Withouts.{walk_simple}
+use Rattle.wanted_paths.proofs.Gone.{has_kept, lacks_from, joins_within}
+use Rattle.path_requests.proofs.RangeSteps.{range_after, range_is}
+use Rattle.wanted_paths.proofs.Outline.{as_outline, route_same, gone_same, loop_free_same}
 use Rattle.path_requests.proofs.Numbering.{passing, numbered, passing_all}
+use Rattle.wanted_paths.specs.declared.stop.ResolutionFault.TheVariants.{LoopPath, PathGone}
 use Rattle.path_requests.proofs.Owners.{has_owner, variable_is, variable_below}
 
 -- Ranges
@@ -174,17 +180,17 @@ path_good d prices line route parts base same none =
     let words = hop_faults d line route.hops route.last in
     let joins = broken_faults d line 1 route.hops route.last in
     let free = is_loop_free d (outline d) route in
-    let walk = no_parts (words ++ joins) (fault_unless free 24 line) whole.0 in
+    let walk = no_parts (words ++ joins) (fault_unless free (LoopPath line)) whole.0 in
     let first = no_parts words joins walk.0 in
     let known = words_known d line route.hops route.last first.0 in
     let joined = hops_joined d line 1 route.hops route.last first.1 in
-    let loops = loop_free_same d g (outline d) route ends ∙ well_from free 24 line walk.1 in
+    let loops = loop_free_same d g (outline d) route ends ∙ well_from free (LoopPath line) walk.1 in
     let resolves = and_from (is_known d route.hops route.last && is_joined d route.hops route.last) (is_loop_free d g route) (and_from (is_known d route.hops route.last) (is_joined d route.hops route.last) known joined) loops in
     let out = walk_simple d line route base whole.0 in
     let edges = route_edges d (outline d) route.hops route.last in
     let start = router_number d (next_name route.hops route.last) in
-    let stays = no_parts (parts_faults d line parts) (fault_unless (not (is_path_gone d route parts)) 70 line) whole.1 in
-    let kept = or_parts (list_any (is_router_part (next_name route.hops route.last)) parts) (list_any (λ e. list_any (takes d (outline d) e) parts) edges) (not_gone (is_path_gone d route parts) (well_from (not (is_path_gone d route parts)) 70 line stays.1)) in
+    let stays = no_parts (parts_faults d line parts) (fault_unless (not (is_path_gone d route parts)) (PathGone line)) whole.1 in
+    let kept = or_parts (list_any (is_router_part (next_name route.hops route.last)) parts) (list_any (λ e. list_any (takes d (outline d) e) parts) edges) (not_gone (is_path_gone d route parts) (well_from (not (is_path_gone d route parts)) (PathGone line) stays.1)) in
     let avoids = avoids_taken d (outline d) parts edges kept.1 (joins_within (outline d) start edges (router_number d route.last) out.joins) in
     record {
       path = record {

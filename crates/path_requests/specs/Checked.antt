@@ -1,7 +1,8 @@
 -- What stands once no fault was found after all lines.
 use Rattle.std.specs.Prelude.{◌≡◌, ◌≤◌, ℕ, List, [], length}
 use Rattle.lsdb_build.specs.Graphs.{Database}
-use Rattle.path_requests.specs.Meaning.{Asked, owners}
+use Rattle.request_reader.specs.Asked.{Asked}
+use Rattle.path_requests.specs.Meaning.{owners}
 use Rattle.path_requests.specs.Resolving.{ends_faults, variable_faults, cost_faults}
 
 -- the links with a variable of their own, where there are few enough, no ends differ and each fixed link has a cost

@@ -4,10 +4,12 @@ use Rattle.std.specs.List.{filter_map}
 use Rattle.cost_base.specs.Lists.{last_of}
 use Rattle.lsdb_build.specs.declared.Linked.{Linked}
 use Rattle.lsdb_build.specs.Graphs.{Database}
-use Rattle.path_requests.specs.declared.Wish.{Wish}
-use Rattle.path_requests.specs.declared.Wish.TheVariants.{FreeAll, Free, Fix, SymmetricAll, Symmetric}
-use Rattle.path_requests.specs.declared.Item.{Item}
-use Rattle.path_requests.specs.Meaning.{Asked, Range, Within, AsItIs, is_named, range_said}
+use Rattle.request_reader.specs.declared.Wish.{Wish}
+use Rattle.request_reader.specs.declared.Wish.TheVariants.{FreeAll, Free, Fix, SymmetricAll, Symmetric}
+use Rattle.request_reader.specs.declared.Item.{Item}
+use Rattle.request_reader.specs.Asked.{Asked}
+use Rattle.path_requests.specs.Meaning.{Range, Within, AsItIs, range_said}
+use Rattle.wanted_paths.specs.Paths.{is_named}
 
 -- the range that a line gives to each link
 abbrev pub said_of_all : Wish → Option Range

@@ -1,57 +1,42 @@
-//! The problem that requests make of a database.
+//! The problem that requests make of a database, or their first fault.
 ghost use Rattle.std.specs.Prelude.{◌≡◌, ◌≤◌, nat_le, [], None, OnOk, IfOk, IfErr};
 ghost use Rattle.std.specs.List.{filter_map};
 ghost use Rattle.cost_base.specs.Lists.{first_of};
-ghost use Rattle.path_requests.specs.Meaning.{request_of, problem_of};
+ghost use Rattle.wanted_paths.specs.Paths.{request_of};
+ghost use Rattle.path_requests.specs.Meaning.{problem_of};
 ghost use Rattle.path_requests.specs.Checked.{AreOwners};
-ghost use Rattle.path_requests.specs.Resolving.{fault_unless, line_faults, whole_faults, outline, resolution_fault, present_fault, present_problem_of, TellsResolution};
+ghost use Rattle.wanted_paths.specs.LineFaults.{fault_unless, line_faults, TellsResolution};
+ghost use Rattle.path_requests.specs.Resolving.{whole_faults, resolution_fault, present_fault, present_problem_of};
+ghost use Rattle.wanted_paths.specs.Paths.{outline};
+ghost use Rattle.wanted_paths.specs.declared.stop.ResolutionFault.TheVariants.{TooManyVariables};
 
-mod choices;
-mod lines;
-mod names;
-mod parts;
-mod paths;
-mod present;
-mod problems;
-mod ranges;
-mod routes;
-mod symmetric;
-mod variables;
-
-use self::choices::{Choices, items};
-use self::lines::resolve_lines;
-use self::names::Names;
-use self::present::{assemble_present, check_present};
-use self::problems::assemble;
-use self::variables::{check_costs, check_ends, own_links};
-use crate::Requests;
-use crate::stop::RequestStop;
+use crate::choices::{Choices, items};
+use crate::present::{assemble_present, check_present};
+use crate::problems::assemble;
+use crate::variables::{check_costs, check_ends, own_links};
 use lsdb_build::Lsdb;
 use path_rows::{Problem, Request};
+use request_reader::Requests;
 use std::alloc::Global;
+use wanted_paths::{Names, ResolutionFault, ResolutionStop, resolve_lines};
 
 /// The most variables that a problem has.
 const MOST_VARIABLES: usize = 1000;
 
-/// Whether there are few enough variables; else 27 with line 0.
-fn check_count(count: usize) -> Result<(), RequestStop>
-    ensures made { OnOk result (fault_unless (nat_le count 1000) 27 0 ≡ []) }
+/// Whether there are few enough variables.
+fn check_count(count: usize) -> Result<(), ResolutionStop>
+    ensures made { OnOk result (fault_unless (nat_le count 1000) TooManyVariables ≡ []) }
     ensures few { OnOk result (count ≤ 1000) }
-    ensures refused { IfErr result (TellsResolution (first_of (fault_unless (nat_le count 1000) 27 0))) }
+    ensures refused { IfErr result (TellsResolution (first_of (fault_unless (nat_le count 1000) TooManyVariables))) }
 {
     if count > MOST_VARIABLES {
-        return Err(RequestStop::Refused {
-            number: 27,
-            line: 0,
-            hop: 0,
-        });
+        return Err(ResolutionStop::Refused(ResolutionFault::TooManyVariables));
     }
     Ok(())
 }
 
-/// The links that have a variable of their own; 29, 27 or the first link without a cost where the requests don't
-/// resolve.
-fn check_whole(alloc: Global, choices: &Choices) -> Result<Vec<u32>, RequestStop>
+/// The links that have a variable of their own; the first fault after all lines.
+fn check_whole(alloc: Global, choices: &Choices) -> Result<Vec<u32>, ResolutionStop>
     ensures made { IfOk result (λ own. AreOwners choices.now.asked choices.now.database own.items) }
     ensures refused { IfErr result (TellsResolution (first_of (whole_faults choices.now.asked choices.now.database))) }
 {
@@ -67,7 +52,7 @@ fn resolve_choices(
     alloc: Global,
     choices: &Choices,
     paths: Vec<Request>,
-) -> Result<Problem, RequestStop>
+) -> Result<Problem, ResolutionStop>
     requires lines { line_faults choices.now.database choices.now.asked.items ≡ [] }
     requires paths { paths.items ≡ filter_map (λ item. request_of choices.now.database (outline choices.now.database) item.what) choices.now.asked.items }
     ensures made { IfOk result (λ p. (whole_faults choices.now.asked choices.now.database ≡ []) × (p ≡ problem_of choices.now.asked choices.now.database)) }
@@ -83,7 +68,7 @@ fn resolve_whole(
     names: &Names,
     requests: &Requests,
     paths: Vec<Request>,
-) -> Result<Problem, RequestStop>
+) -> Result<Problem, ResolutionStop>
     requires lines { line_faults names.now requests.now.items ≡ [] }
     requires paths { paths.items ≡ filter_map (λ item. request_of names.now (outline names.now) item.what) requests.now.items }
     ensures made { IfOk result (λ p. (whole_faults requests.now names.now ≡ []) × (p ≡ problem_of requests.now names.now)) }
@@ -98,14 +83,11 @@ fn resolve_whole(
 ///
 /// # Errors
 ///
-/// `Refused` and `NoCost` at the first fault. Line by line: 21 no configuration has the name of a router; 22 the
-/// router has no linked interface of the name; 28 `symmetric` names an interface that leads to a subnet; 23 a hop,
-/// counted from 1, doesn't lead to the router of the next word; 24 a router or a transit subnet comes twice; 70 the
-/// path's start or one of its edges is taken away. After all lines: 29 a symmetric link has one free and one fixed
-/// end, or two free ends with different bounds, at the first `symmetric` line that names such a link; 27, with
-/// line 0, more than 1,000 variables; `NoCost` at the first fixed link without a present cost, where there is no
-/// default. `OutOfMemory` where memory runs out.
-pub fn resolve(alloc: Global, requests: &Requests, lsdb: &Lsdb) -> Result<Problem, RequestStop>
+/// `Refused` with the first fault. Line by line: `UnknownRouter` and `UnknownInterface` for a word; `NotALink` for a
+/// `symmetric` line; `BrokenPath`, `LoopPath` and `PathGone` for a path. After all lines: `EndsDiffer` at the first
+/// `symmetric` line that names a link whose ends differ; `TooManyVariables`; `NoCost` at the first fixed link without
+/// a present cost, where there is no default. `OutOfMemory` where memory runs out.
+pub fn resolve(alloc: Global, requests: &Requests, lsdb: &Lsdb) -> Result<Problem, ResolutionStop>
     ensures made { IfOk result (λ p. (resolution_fault requests.now lsdb.now ≡ None) × (p ≡ problem_of requests.now lsdb.now)) }
     ensures refused { IfErr result (TellsResolution (resolution_fault requests.now lsdb.now)) }
 {
@@ -120,13 +102,13 @@ pub fn resolve(alloc: Global, requests: &Requests, lsdb: &Lsdb) -> Result<Proble
 ///
 /// # Errors
 ///
-/// As `resolve`, without 29 and 27: line by line 21, 22, 28, 23, 24 and 70, and then `NoCost` at the first link
-/// without a present cost, where there is no default.
+/// As `resolve`, without `EndsDiffer` and `TooManyVariables`; `NoCost` comes at the first link without a present cost,
+/// where there is no default.
 pub fn resolve_present(
     alloc: Global,
     requests: &Requests,
     lsdb: &Lsdb,
-) -> Result<Problem, RequestStop>
+) -> Result<Problem, ResolutionStop>
     ensures made { IfOk result (λ p. (present_fault requests.now lsdb.now ≡ None) × (p ≡ present_problem_of requests.now lsdb.now)) }
     ensures refused { IfErr result (TellsResolution (present_fault requests.now lsdb.now)) }
 {
@@ -136,6 +118,3 @@ pub fn resolve_present(
     check_present(&names, requests)?;
     Ok(assemble_present(alloc, &names, requests, paths)?)
 }
-
-#[cfg(test)]
-mod tests;

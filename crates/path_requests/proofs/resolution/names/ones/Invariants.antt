@@ -1,6 +1,0 @@
-use Rattle.std.proofs.Common.{◌≡◌, map, take}
-use Rattle.area_graph.specs.declared.Price.TheVariants.{Fixed}
-use Rattle.path_requests.proofs.resolution.names.ones.Given as goal
-
-abbrev pub invariant-loop-link : goal.invariant-loop-link
-invariant-loop-link l = l.made.items ≡ map (λ link. Fixed 1) (take l.link-index l.links)

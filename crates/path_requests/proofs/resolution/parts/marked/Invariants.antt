@@ -1,9 +1,0 @@
-use Rattle.std.proofs.Common.{◌≡◌, ◌-◌, ◌++◌, length, false}
-use Rattle.std.specs.Prelude.{filter, slice_index_or}
-use Rattle.cost_base.specs.Lists.{numbers_from}
-use Rattle.path_requests.proofs.resolution.parts.marked.Given as goal
-
-abbrev pub invariant-loop-edge : goal.invariant-loop-edge
-invariant-loop-edge l =
-    l.found.items ++ filter (λ e. slice_index_or l.fn.marks e false) (numbers_from l.edge (length l.fn.marks - l.edge))
-    ≡ filter (λ e. slice_index_or l.fn.marks e false) (numbers_from 0 (length l.fn.marks))

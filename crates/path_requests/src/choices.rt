@@ -1,0 +1,129 @@
+//! What requests choose for each link of an area.
+ghost use Rattle.std.specs.Prelude.{◌≡◌, Some, slice_get, IfOk};
+ghost use Rattle.lsdb_build.specs.declared.Linked.{Linked as LinkValue};
+ghost use Rattle.lsdb_build.specs.Graphs.{IsDatabase};
+ghost use Rattle.request_reader.specs.Asked.{IsAsked};
+ghost use Rattle.path_requests.specs.Meaning.{any_symmetric, is_symmetric, option_at, range_at, range_of};
+
+use crate::ranges::{Range, ranges_by};
+use crate::symmetric::symmetric_by;
+use cost_base::OutOfMemory;
+use lsdb_build::Linked;
+use request_reader::{Item, Requests};
+use std::alloc::Global;
+use std::marker::Model;
+use wanted_paths::Names;
+
+/// The range of each link, and whether lines make it symmetric. Contracts see the requests and the database.
+#[derive(Drop)]
+pub struct Choices<'a> {
+    names: &'a Names<'a>,
+    requests: &'a Requests,
+    ranges: Vec<Range>,
+    symmetric: Vec<bool>,
+}
+
+impl<'a> Model for Choices<'a> {
+    ghost use Rattle.std.specs.Prelude.{◌≡◌, Some, map};
+    ghost use Rattle.path_requests.specs.Meaning.{range_of, any_symmetric};
+    ghost use Rattle.path_requests.specs.Chosen.{Chosen};
+
+    ghost Value = { Chosen };
+
+    ghost view = { λ c. record { asked = c.requests.now; database = c.names.now } };
+
+    ghost invariant = { λ c. record {
+      ranges : c.ranges.items ≡ map (range_of c.requests.now c.names.now) c.names.now.links;
+      symmetric : c.symmetric.items ≡ map (λ link. any_symmetric c.requests.now c.names.now (Some link)) c.names.now.links;
+    } };
+}
+
+/// The lines of requests.
+pub fn items(requests: &Requests) -> &[Item]
+    ensures value { result.now ≡ requests.now.items }
+    ensures asked { IsAsked requests.now }
+{
+    requests.items.as_slice()
+}
+
+impl<'a> Choices<'a> {
+    /// The choices of requests for an area's links, by one pass over the lines.
+    pub fn new(
+        alloc: Global,
+        names: &'a Names<'a>,
+        requests: &'a Requests,
+    ) -> Result<Choices<'a>, OutOfMemory>
+        ensures { IfOk result (λ choices. choices ≡ record { asked = requests.now; database = names.now }) }
+    {
+        let lines = items(requests);
+        let ranges = ranges_by(alloc, names, lines)?;
+        let symmetric = symmetric_by(alloc, names, lines)?;
+        Ok(Choices {
+            names,
+            requests,
+            ranges,
+            symmetric,
+        })
+    }
+
+    /// The names of the area's routers and links.
+    pub fn names(&self) -> &Names<'a>
+        ensures { result.now ≡ self.now.database }
+    {
+        self.names
+    }
+
+    /// The requests.
+    pub fn requests(&self) -> &Requests
+        ensures value { result.now ≡ self.now.asked }
+        ensures asked { IsAsked self.now.asked }
+    {
+        let _lines = items(self.requests);
+        self.requests
+    }
+
+    /// The links, in order.
+    pub fn links(&self) -> &[Linked]
+        ensures value { result.now ≡ self.now.database.links }
+        ensures base { IsDatabase self.now.database }
+    {
+        self.names.links()
+    }
+
+    /// The range of the link of a number, where there is one.
+    pub fn range_at(&self, number: u32) -> Option<Range>
+        ensures { result ≡ range_at self.now.asked self.now.database (slice_get self.now.database.links number) }
+    {
+        self.ranges.get(number as usize).copied()
+    }
+
+    /// The range of a link, by its number.
+    pub fn range_of(&self, number: u32) -> Range
+        ensures { (link : LinkValue) → slice_get self.now.database.links number ≡ Some link → result ≡ range_of self.now.asked self.now.database link }
+    {
+        self.range_at(number).unwrap_or(Range::AsItIs)
+    }
+
+    /// Whether lines make the link of a number symmetric.
+    fn any_symmetric(&self, number: Option<u32>) -> bool
+        ensures { result ≡ any_symmetric self.now.asked self.now.database (option_at self.now.database.links number) }
+    {
+        match number {
+            Some(number) => self
+                .symmetric
+                .get(number as usize)
+                .copied()
+                .unwrap_or(false),
+            None => false,
+        }
+    }
+
+    /// Whether a link is symmetric, by its number.
+    pub fn is_symmetric(&self, number: u32, link: &Linked) -> bool
+        requires { slice_get self.now.database.links number ≡ Some link.now }
+        ensures { result ≡ is_symmetric self.now.asked self.now.database link.now }
+    {
+        let here = self.any_symmetric(Some(number));
+        here || self.any_symmetric(link.mate)
+    }
+}

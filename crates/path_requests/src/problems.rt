@@ -1,0 +1,150 @@
+//! The prices and the names of links, and the problem that is made of them.
+ghost use Rattle.std.specs.Prelude.{◌≡◌, ◌<◌, ◌≤◌, ◌^◌, ◌++◌, ◌∷◌, [], Some, count_by, nat_lt, if◌then◌else◌, length, slice_get, slice_index_or, IfOk, OnOk};
+ghost use Rattle.std.specs.List.{filter_map};
+ghost use Rattle.path_requests.specs.Meaning.{range_of, is_free, owner_at, owners, variable_of, present_cost, price_of, prices_from, names_from, problem_of};
+ghost use Rattle.wanted_paths.specs.Paths.{request_of};
+ghost use Rattle.wanted_paths.specs.LineFaults.{line_faults};
+ghost use Rattle.path_requests.specs.Resolving.{ends_faults, cost_faults};
+ghost use Rattle.wanted_paths.specs.Paths.{outline};
+
+use crate::choices::Choices;
+use crate::ranges::Range;
+use crate::variables::{high_bounds, is_free, low_bounds, owner};
+use area_graph::Price;
+use cost_base::{Listed, Name, OutOfMemory};
+use lsdb_build::Linked;
+use path_rows::{Problem, Request, VarName};
+use request_reader::Requests;
+use std::alloc::Global;
+use wanted_paths::Names;
+
+/// How many links with a variable of their own stand before a link's owner: the number of its variable.
+fn variable(choices: &Choices, own: &[u32], number: u32, link: &Linked) -> u32
+    requires few { length own.now < 2 ^ 32 }
+    requires there { slice_get choices.now.database.links number ≡ Some link.now }
+    ensures { result ≡ count_by (λ m. nat_lt m (owner_at choices.now.asked choices.now.database number (Some link.now))) own.now }
+{
+    let owner = owner(choices, number, link);
+    own.iter().filter(|link| **link < owner).count() as u32
+}
+
+/// The number of a link's variable.
+fn variable_of(choices: &Choices, own: &[u32], number: u32, link: &Linked) -> u32
+    requires few { length own.now < 2 ^ 32 }
+    requires own { own.now ≡ owners choices.now.asked choices.now.database }
+    requires there { slice_get choices.now.database.links number ≡ Some link.now }
+    ensures { result ≡ variable_of choices.now.asked choices.now.database number }
+{
+    variable(choices, own, number, link)
+}
+
+/// The present cost of a link's interface, or the default, or 0.
+pub fn present_cost(requests: &Requests, link: &Linked) -> u16
+    ensures { result ≡ present_cost requests.now link.now }
+{
+    link.cost.unwrap_or(requests.default_cost.unwrap_or(0))
+}
+
+/// The price of a link: its variable where it is free, else its present cost.
+fn price_of(choices: &Choices, own: &[u32], number: u32, link: &Linked) -> Price
+    requires few { length own.now < 2 ^ 32 }
+    requires own { own.now ≡ owners choices.now.asked choices.now.database }
+    requires there { slice_get choices.now.database.links number ≡ Some link.now }
+    ensures { result ≡ price_of choices.now.asked choices.now.database number link.now (range_of choices.now.asked choices.now.database link.now) }
+{
+    match choices.range_of(number) {
+        Range::Within(_, _) => Price::Var(variable_of(choices, own, number, link)),
+        Range::AsItIs => Price::Fixed(present_cost(choices.requests(), link)),
+    }
+}
+
+/// The prices of the links, in order.
+fn prices(alloc: Global, choices: &Choices, own: &[u32]) -> Result<Vec<Price>, OutOfMemory>
+    requires few { length own.now < 2 ^ 32 }
+    requires own { own.now ≡ owners choices.now.asked choices.now.database }
+    ensures { IfOk result (λ made. made.items ≡ prices_from choices.now.asked choices.now.database 0 choices.now.database.links) }
+{
+    let mut made = Vec::new(alloc);
+    for (i, link) in choices.links().iter().enumerate() {
+        let price = price_of(choices, own, i as u32, link);
+        made.push(price)?;
+    }
+    Ok(made)
+}
+
+/// The name of a link with the number of its variable.
+fn name_of(alloc: Global, names: &Names, link: &Linked, var: u32) -> Result<VarName, OutOfMemory>
+    ensures { IfOk result (λ name. name ≡ record { router = slice_index_or names.now.routers link.now.router []; interface = link.now.interface; var = var }) }
+{
+    Ok(VarName {
+        router: Name::from_bytes(alloc, names.router_name(link.router))?,
+        interface: Name::from_bytes(alloc, link.interface.as_bytes())?,
+        var,
+    })
+}
+
+/// Appends the name of a link, where it is free.
+fn push_name(
+    alloc: Global,
+    choices: &Choices,
+    own: &[u32],
+    number: u32,
+    link: &Linked,
+    made: &mut Vec<VarName>,
+) -> Result<(), OutOfMemory>
+    requires few { length own.now < 2 ^ 32 }
+    requires own { own.now ≡ owners choices.now.asked choices.now.database }
+    requires there { slice_get choices.now.database.links number ≡ Some link.now }
+    ensures { OnOk result (made.new.items ≡ made.old.items ++ (if is_free (range_of choices.now.asked choices.now.database link.now) then record { router = slice_index_or choices.now.database.routers link.now.router []; interface = link.now.interface; var = variable_of choices.now.asked choices.now.database number } ∷ [] else [])) }
+{
+    if is_free(choices.range_of(number)) {
+        let var = variable_of(choices, own, number, link);
+        let name = name_of(alloc, choices.names(), link, var)?;
+        made.push(name)?;
+    }
+    Ok(())
+}
+
+/// The names of the free links, in order, each with the number of its variable.
+fn var_names(alloc: Global, choices: &Choices, own: &[u32]) -> Result<Vec<VarName>, OutOfMemory>
+    requires few { length own.now < 2 ^ 32 }
+    requires own { own.now ≡ owners choices.now.asked choices.now.database }
+    ensures { IfOk result (λ made. made.items ≡ names_from choices.now.asked choices.now.database 0 choices.now.database.links) }
+{
+    let mut made = Vec::new(alloc);
+    for (i, link) in choices.links().iter().enumerate() {
+        push_name(alloc, choices, own, i as u32, link, &mut made)?;
+    }
+    Ok(made)
+}
+
+/// The problem of requests whose lines have no fault, with their paths and the links with a variable of their own.
+pub fn assemble(
+    alloc: Global,
+    choices: &Choices,
+    own: &[u32],
+    paths: Vec<Request>,
+) -> Result<Problem, OutOfMemory>
+    requires few { length own.now ≤ 1000 }
+    requires own { own.now ≡ owners choices.now.asked choices.now.database }
+    requires paths { paths.items ≡ filter_map (λ item. request_of choices.now.database (outline choices.now.database) item.what) choices.now.asked.items }
+    requires lines { line_faults choices.now.database choices.now.asked.items ≡ [] }
+    requires ends { ends_faults choices.now.asked choices.now.database choices.now.asked.items ≡ [] }
+    requires costs { cost_faults choices.now.asked choices.now.database 0 choices.now.database.links ≡ [] }
+    ensures { IfOk result (λ problem. problem ≡ problem_of choices.now.asked choices.now.database) }
+{
+    let _requests = choices.requests();
+    let _links = choices.links();
+    let prices = prices(alloc, choices, own)?;
+    let graph = choices.names().graph(alloc, prices.as_slice())?;
+    let vars = var_names(alloc, choices, own)?;
+    let low = low_bounds(alloc, choices, own)?;
+    let high = high_bounds(alloc, choices, own)?;
+    Ok(Problem {
+        graph,
+        vars: Listed::from_items(vars),
+        low: Listed::from_items(low),
+        high: Listed::from_items(high),
+        paths: Listed::from_items(paths),
+    })
+}

@@ -1,0 +1,5 @@
+mod ReadingExamples
+pub mod ReadingLaws
+pub mod ReadingParts
+pub mod ReadingRoutes
+pub mod ReadingRules

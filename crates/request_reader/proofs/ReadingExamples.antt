@@ -1,0 +1,96 @@
+-- Request files, read and refused.
+use Rattle.std.proofs.Common.{◌≡◌, ℕ, refl, List, [], ◌∷◌, ◌++◌}
+use Rattle.std.specs.Prelude.{Option, Some, None, codes, map}
+use Rattle.std.specs.List.{concat}
+use Rattle.request_reader.specs.declared.Part.TheVariants.{Router, Interface}
+use Rattle.request_reader.specs.declared.Wish.TheVariants.{FreeAll, Free, Fix, Path, SymmetricAll, Symmetric}
+use Rattle.request_reader.specs.declared.stop.RequestFault.{RequestFault}
+use Rattle.request_reader.specs.declared.stop.RequestFault.TheVariants.{BadRequestLine, BadBounds}
+use Rattle.request_reader.specs.declared.reading.statement.Statement.TheVariants.{Passed, Ask, Refused}
+use Rattle.request_reader.specs.Reading.{FaultyLine, asked_by, request_fault, said_by}
+
+-- a text of lines
+abbrev text : List (List ℕ) → List ℕ
+text ls = concat (map (λ line. line ++ 10 ∷ []) ls)
+
+abbrev with_head : List (List ℕ) → List ℕ
+with_head ls = text (codes "ospfcost request 1" ∷ codes "area 0" ∷ ls)
+
+abbrev refused : RequestFault → ℕ → Option FaultyLine
+refused fault line = Some (record { fault = fault; line = line })
+
+-- one line of each kind
+abbrev each_kind : List ℕ
+each_kind = text (
+    codes "# costs" ∷ [] ∷ codes "ospfcost request 1" ∷ codes " default-cost 010" ∷ codes "area 0.0.0.7" ∷ codes "free all 1 9"
+    ∷ codes "free R eth0:1 2 3" ∷ codes "fix R eth1" ∷ codes "! both ends" ∷ codes "symmetric all" ∷ codes "symmetric R eth0"
+    ∷ codes "path R:eth0:1 S" ∷ codes "path R without S T:eth0" ∷ [])
+
+each_kind_asks : asked_by each_kind ≡ record {
+  area = 7;
+  default_cost = Some 10;
+  items = record { line = 6; what = FreeAll 1 9 }
+      ∷ record { line = 7; what = Free (codes "R") (codes "eth0:1") 2 3 }
+      ∷ record { line = 8; what = Fix (codes "R") (codes "eth1") }
+      ∷ record { line = 10; what = SymmetricAll }
+      ∷ record { line = 11; what = Symmetric (codes "R") (codes "eth0") }
+      ∷ record { line = 12; what = Path (record { hops = (codes "R", codes "eth0:1") ∷ []; last = codes "S" }) [] }
+      ∷ record { line = 13; what = Path (record { hops = []; last = codes "R" }) (Router (codes "S") ∷ Interface (codes "T") (codes "eth0") ∷ []) } ∷ [];
+}
+each_kind_asks = refl
+
+each_kind_lawful : request_fault each_kind ≡ None
+each_kind_lawful = refl
+
+-- a missing header or area
+empty_refused : request_fault [] ≡ refused BadRequestLine 1
+empty_refused = refl
+
+header_alone : request_fault (text (codes "ospfcost request 1" ∷ [])) ≡ refused BadRequestLine 2
+header_alone = refl
+
+other_header : request_fault (text (codes "" ∷ codes "area 0" ∷ [])) ≡ refused BadRequestLine 2
+other_header = refl
+
+-- a second area, and a second header
+second_area : request_fault (with_head (codes "area 0" ∷ [])) ≡ refused BadRequestLine 3
+second_area = refl
+
+second_header : request_fault (with_head (codes "ospfcost request 1" ∷ [])) ≡ refused BadRequestLine 3
+second_header = refl
+
+-- the first of two faults
+first_of_two : request_fault (with_head (codes "free all 0 5" ∷ codes "free all" ∷ [])) ≡ refused BadBounds 3
+first_of_two = refl
+
+-- bounds
+too_high : said_by (codes "free all 1 65536") ≡ Refused BadBounds
+too_high = refl
+
+crossed : said_by (codes "free R eth0 3 2") ≡ Refused BadBounds
+crossed = refl
+
+ten_digits : said_by (codes "free all 1 0000000009") ≡ Refused BadRequestLine
+ten_digits = refl
+
+router_all : said_by (codes "free all 1 2 3") ≡ Ask (Free (codes "all") (codes "1") 2 3)
+router_all = refl
+
+wrong_word_first : said_by (codes "free R:eth0 eth0 0 5") ≡ Refused BadRequestLine
+wrong_word_first = refl
+
+-- words behind `without`
+without_nothing : said_by (codes "path A:eth0 B without") ≡ Refused BadRequestLine
+without_nothing = refl
+
+router_without : said_by (codes "path without") ≡ Ask (Path (record { hops = []; last = codes "without" }) [])
+router_without = refl
+
+ends_at_without : said_by (codes "path A:eth0 without") ≡ Refused BadRequestLine
+ends_at_without = refl
+
+empty_part : said_by (codes "path A without :eth0") ≡ Refused BadRequestLine
+empty_part = refl
+
+comment_passed : said_by (codes "  #area 0") ≡ Passed
+comment_passed = refl

@@ -1,0 +1,7 @@
+pub mod Wishes
+pub mod Asked
+pub mod Routes
+pub mod FaultNumbers
+pub mod ReadingLines
+pub mod Reading
+pub mod ReadingSteps

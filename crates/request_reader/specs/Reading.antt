@@ -1,0 +1,117 @@
+-- What a request file asks for, and its faults.
+use Rattle.std.specs.Prelude.{◌≡◌, ℕ, ◌+◌, List, [], ◌∷◌, ◌++◌, ◌&&◌, nat_le, if◌then◌else◌, Bool, true, false, Option, Some, None, length, count_by, is_some, unwrap_or}
+use Rattle.std.specs.List.{filter_map, list_any}
+use Rattle.cost_base.specs.Lists.{first_of}
+use Rattle.text_lines.specs.Lines.{lines, words}
+use Rattle.request_reader.specs.declared.Item.{Item}
+use Rattle.request_reader.specs.declared.stop.RequestFault.{RequestFault}
+use Rattle.request_reader.specs.declared.stop.RequestFault.TheVariants.{BadRequestLine, TooManyPaths}
+use Rattle.request_reader.specs.declared.reading.statement.Statement.{Statement}
+use Rattle.request_reader.specs.declared.reading.statement.Statement.TheVariants.{Passed, Header, Area, DefaultCost, Ask, Refused}
+use Rattle.request_reader.specs.declared.stop.RequestStop.{RequestStop}
+use Rattle.request_reader.specs.declared.stop.RequestStop.TheVariants.{Refused as StopRefused, OutOfMemory}
+use Rattle.request_reader.specs.Asked.{Asked, is_path, is_path_wish}
+use Rattle.request_reader.specs.ReadingLines.{statement_of}
+
+-- what a line says
+abbrev pub said_by : List ℕ → Statement
+said_by line = statement_of (words line)
+
+-- the line is neither blank nor a comment
+abbrev pub speaks : Statement → Bool
+speaks Passed = false
+speaks _ = true
+
+abbrev pub area_in : Statement → Option ℕ
+area_in (Area a) = Some a
+area_in _ = None
+
+abbrev pub cost_in : Statement → Option ℕ
+cost_in (DefaultCost n) = Some n
+cost_in _ = None
+
+abbrev pub item_in : ℕ → Statement → List Item
+item_in n (Ask wish) = record { line = n; what = wish } ∷ []
+item_in n _ = []
+
+-- what the lines from number n on ask for
+abbrev pub items_from : ℕ → List (List ℕ) → List Item
+items_from n [] = []
+items_from n (line ∷ more) = item_in n (said_by line) ++ items_from (n + 1) more
+
+-- what some lines say together
+pub record Told : Type 0 where
+  pub spoken : Bool
+  pub area : Option ℕ
+  pub default_cost : Option ℕ
+  pub items : List Item
+
+-- whether one of the first lines is neither blank nor a comment, the first area and default cost, and what they ask for
+abbrev pub told_by : List (List ℕ) → Told
+told_by file = record {
+  spoken = list_any (λ line. speaks (said_by line)) file;
+  area = first_of (filter_map (λ line. area_in (said_by line)) file);
+  default_cost = first_of (filter_map (λ line. cost_in (said_by line)) file);
+  items = items_from 1 file;
+}
+
+-- the fault of a line behind a header: a second area or default cost, a path too many, or the line's own fault
+abbrev pub fault_behind_header : Told → Statement → Option RequestFault
+fault_behind_header told (Area a) = if is_some told.area then Some BadRequestLine else None
+fault_behind_header told (DefaultCost n) = if is_some told.default_cost then Some BadRequestLine else None
+fault_behind_header told (Ask wish) = if is_path_wish wish && nat_le 10000 (count_by is_path told.items) then Some TooManyPaths else None
+fault_behind_header told (Refused fault) = Some fault
+fault_behind_header told Header = Some BadRequestLine
+fault_behind_header told Passed = None
+
+-- the fault of a line behind lines that say these things: the first that isn't passed has to be the header
+abbrev pub fault_said : Told → Statement → Option RequestFault
+fault_said told Passed = None
+fault_said told Header = if told.spoken then Some BadRequestLine else None
+fault_said told statement = if told.spoken then fault_behind_header told statement else Some BadRequestLine
+
+-- the fault of a line of any length
+abbrev pub fault_of : Told → List ℕ → Option RequestFault
+fault_of told line = if nat_le (length line) 65536 then fault_said told (said_by line) else Some BadRequestLine
+
+-- a fault, and the line at which it stands
+pub record FaultyLine : Type 0 where
+  pub fault : RequestFault
+  pub line : ℕ
+
+abbrev pub fault_at : ℕ → RequestFault → FaultyLine
+fault_at n fault = record { fault = fault; line = n }
+
+abbrev pub faults_at : ℕ → Option RequestFault → List FaultyLine
+faults_at n None = []
+faults_at n (Some fault) = fault_at n fault ∷ []
+
+-- the faults of these lines, which follow some lines
+abbrev pub line_faults : List (List ℕ) → List (List ℕ) → List FaultyLine
+line_faults before [] = []
+line_faults before (line ∷ more) =
+    faults_at (length before + 1) (fault_of (told_by before) line) ++ line_faults (before ++ line ∷ []) more
+
+-- the fault of a text that says no area, as of one that has no header: it stands behind the last line
+abbrev pub end_faults : List (List ℕ) → List FaultyLine
+end_faults file = if is_some (told_by file).area then [] else fault_at (length file + 1) BadRequestLine ∷ []
+
+-- the faults of a request file, in the order of its lines
+abbrev pub request_faults : List (List ℕ) → List FaultyLine
+request_faults file = line_faults [] file ++ end_faults file
+
+-- the fault for which a request file is refused
+abbrev pub request_fault : List ℕ → Option FaultyLine
+request_fault bytes = first_of (request_faults (lines bytes))
+
+abbrev pub asked_of : Told → Asked
+asked_of told = record { area = unwrap_or told.area 0; default_cost = told.default_cost; items = told.items }
+
+-- what a request file without a fault asks for
+abbrev pub asked_by : List ℕ → Asked
+asked_by bytes = asked_of (told_by (lines bytes))
+
+-- a stop tells the fault; want of memory says nothing
+abbrev pub TellsReading : Option FaultyLine → RequestStop → Type 0
+TellsReading faulty (StopRefused fault line) = faulty ≡ Some (fault_at line fault)
+TellsReading faulty OutOfMemory = Unit {0}

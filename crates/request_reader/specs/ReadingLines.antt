@@ -1,0 +1,144 @@
+-- What a line of a request file says by itself.
+use Rattle.std.specs.Prelude.{ℕ, List, [], ◌∷◌, ◌==◌, ◌&&◌, nat_le, if◌then◌else◌, Bool, Option, Some, None, Result, Ok, Err, codes, is_none}
+use Rattle.cost_base.specs.Lists.{same_bytes}
+use Rattle.text_lines.specs.Lines.{words, starts_comment}
+use Rattle.text_lines.specs.Numbers.{number, number_within, area}
+use Rattle.request_reader.specs.declared.Part.{Part}
+use Rattle.request_reader.specs.declared.Part.TheVariants.{Router, Interface}
+use Rattle.request_reader.specs.declared.Wish.TheVariants.{FreeAll, Free, Fix, Path, SymmetricAll, Symmetric}
+use Rattle.request_reader.specs.declared.stop.RequestFault.{RequestFault}
+use Rattle.request_reader.specs.declared.stop.RequestFault.TheVariants.{BadRequestLine, BadBounds}
+use Rattle.request_reader.specs.declared.reading.statement.Statement.{Statement}
+use Rattle.request_reader.specs.declared.reading.statement.Statement.TheVariants.{Passed, Header, Area, DefaultCost, Ask, Refused}
+use Rattle.request_reader.specs.declared.reading.statement.Bounds.{Bounds}
+use Rattle.request_reader.specs.Wishes.{Route}
+use Rattle.request_reader.specs.Routes.{cut, hop_of, route_of}
+
+-- a line off the table
+abbrev pub off : Statement
+off = Refused BadRequestLine
+
+-- `ospfcost request 1`
+abbrev pub header_line : List (List ℕ) → Statement
+header_line (request ∷ version ∷ []) = if same_bytes request (codes "request") && same_bytes version (codes "1") then Header else off
+header_line _ = off
+
+abbrev pub area_said : Option ℕ → Statement
+area_said None = off
+area_said (Some a) = Area a
+
+-- `area X`
+abbrev pub area_line : List (List ℕ) → Statement
+area_line (word ∷ []) = area_said (area word)
+area_line _ = off
+
+abbrev pub cost_said : Option ℕ → Statement
+cost_said None = off
+cost_said (Some n) = if n == 0 then off else DefaultCost n
+
+-- `default-cost N`, N from 1 to 65535
+abbrev pub cost_line : List (List ℕ) → Statement
+cost_line (word ∷ []) = cost_said (number word 65535)
+cost_line _ = off
+
+-- a number of at most nine digits
+abbrev pub bound : List ℕ → Option ℕ
+bound word = number_within 9 999999999 word
+
+abbrev pub bounds_of : Option ℕ → Option ℕ → Result Bounds RequestFault
+bounds_of (Some lo) (Some hi) = if nat_le 1 lo && nat_le lo hi && nat_le hi 65535 then Ok (record { lowest = lo; highest = hi }) else Err BadBounds
+bounds_of _ _ = Err BadRequestLine
+
+-- LO and HI: numbers, of which 1 ≤ LO ≤ HI ≤ 65535
+abbrev pub bounds_said : List ℕ → List ℕ → Result Bounds RequestFault
+bounds_said lo hi = bounds_of (bound lo) (bound hi)
+
+abbrev pub free_all : Result Bounds RequestFault → Statement
+free_all (Ok b) = Ask (FreeAll b.lowest b.highest)
+free_all (Err fault) = Refused fault
+
+abbrev pub free_one : List ℕ → List ℕ → Result Bounds RequestFault → Statement
+free_one router interface (Ok b) = Ask (Free router interface b.lowest b.highest)
+free_one router interface (Err fault) = Refused fault
+
+-- a word R has no `:`
+abbrev pub is_router : List ℕ → Bool
+is_router word = is_none (cut 58 word)
+
+-- `free all LO HI` or `free R IF LO HI`
+abbrev pub free_line : List (List ℕ) → Statement
+free_line (all ∷ lo ∷ hi ∷ []) = if same_bytes all (codes "all") then free_all (bounds_said lo hi) else off
+free_line (router ∷ interface ∷ lo ∷ hi ∷ []) = if is_router router then free_one router interface (bounds_said lo hi) else off
+free_line _ = off
+
+-- `fix R IF`
+abbrev pub fix_line : List (List ℕ) → Statement
+fix_line (router ∷ interface ∷ []) = if is_router router then Ask (Fix router interface) else off
+fix_line _ = off
+
+-- `symmetric all` or `symmetric R IF`
+abbrev pub symmetric_line : List (List ℕ) → Statement
+symmetric_line (all ∷ []) = if same_bytes all (codes "all") then Ask SymmetricAll else off
+symmetric_line (router ∷ interface ∷ []) = if is_router router then Ask (Symmetric router interface) else off
+symmetric_line _ = off
+
+abbrev pub is_without : List ℕ → Bool
+is_without word = same_bytes word (codes "without")
+
+-- the words before the first `without`
+abbrev pub to_without : List (List ℕ) → List (List ℕ)
+to_without [] = []
+to_without (word ∷ words) = if is_without word then [] else word ∷ to_without words
+
+-- the words behind the first `without`, where there is one
+abbrev pub behind_without : List (List ℕ) → Option (List (List ℕ))
+behind_without [] = None
+behind_without (word ∷ words) = if is_without word then Some words else behind_without words
+
+abbrev pub part_of_hop : Option (List ℕ × List ℕ) → Option Part
+part_of_hop None = None
+part_of_hop (Some hop) = Some (Interface hop.0 hop.1)
+
+-- a word R or R:IF
+abbrev pub part_of : List ℕ → Option Part
+part_of word = if is_router word then Some (Router word) else part_of_hop (hop_of word)
+
+abbrev pub with_part : Option Part → Option (List Part) → Option (List Part)
+with_part (Some part) (Some parts) = Some (part ∷ parts)
+with_part _ _ = None
+
+abbrev pub parts_of : List (List ℕ) → Option (List Part)
+parts_of [] = Some []
+parts_of (word ∷ words) = with_part (part_of word) (parts_of words)
+
+-- what a path takes away: nothing without the word `without`, and at least one part behind it
+abbrev pub taken_away : Option (List (List ℕ)) → Option (List Part)
+taken_away None = Some []
+taken_away (Some []) = None
+taken_away (Some (word ∷ words)) = parts_of (word ∷ words)
+
+abbrev pub path_said : Option Route → Option (List Part) → Statement
+path_said (Some route) (Some parts) = Ask (Path route parts)
+path_said _ _ = off
+
+-- `path R:IF R:IF .. R` or `path R:IF R:IF .. R without W ..`; the word `without` is looked for from the line's third word on
+abbrev pub path_line : List (List ℕ) → Statement
+path_line [] = off
+path_line (word ∷ words) = path_said (route_of (word ∷ to_without words)) (taken_away (behind_without words))
+
+-- what the words behind the first one say
+abbrev pub line_of : List ℕ → List (List ℕ) → Statement
+line_of word words =
+    if same_bytes word (codes "path") then path_line words
+    else if same_bytes word (codes "free") then free_line words
+    else if same_bytes word (codes "fix") then fix_line words
+    else if same_bytes word (codes "symmetric") then symmetric_line words
+    else if same_bytes word (codes "area") then area_line words
+    else if same_bytes word (codes "default-cost") then cost_line words
+    else if same_bytes word (codes "ospfcost") then header_line words
+    else off
+
+-- what a line with these words says: nothing where it is blank or a comment
+abbrev pub statement_of : List (List ℕ) → Statement
+statement_of [] = Passed
+statement_of (word ∷ words) = if starts_comment word then Passed else line_of word words

@@ -1,0 +1,35 @@
+-- What the reader of a request file keeps while it goes over the lines.
+use Rattle.std.specs.Prelude.{◌≡◌, ℕ, ◌≤◌, List, [], ◌∷◌, ◌++◌, true, Option, Some, None, All, count_by}
+use Rattle.request_reader.specs.declared.Item.{Item}
+use Rattle.request_reader.specs.declared.stop.RequestFault.{RequestFault}
+use Rattle.request_reader.specs.declared.reading.statement.Statement.{Statement}
+use Rattle.request_reader.specs.declared.reading.statement.Statement.TheVariants.{Passed, Header, Area, DefaultCost, Ask, Refused}
+use Rattle.request_reader.specs.Asked.{KeepsBounds, IsDefault, is_path}
+use Rattle.request_reader.specs.Reading.{Told, FaultyLine, fault_at}
+
+-- what is said together with one line more, of number n, that has no fault
+abbrev pub told_with : Told → ℕ → Statement → Told
+told_with told n Passed = told
+told_with told n Header = record told { spoken = true }
+told_with told n (Area a) = record told { area = Some a }
+told_with told n (DefaultCost cost) = record told { default_cost = Some cost }
+told_with told n (Ask wish) = record told { items = told.items ++ record { line = n; what = wish } ∷ [] }
+told_with told n (Refused fault) = told
+
+-- the fault of a line of number n
+abbrev pub fault_in_line : ℕ → Option RequestFault → Option FaultyLine
+fault_in_line n None = None
+fault_in_line n (Some fault) = Some (fault_at n fault)
+
+-- what a line says keeps the rules of requests
+abbrev pub KeepsRules : Statement → Type 0
+KeepsRules (Ask wish) = KeepsBounds wish
+KeepsRules (DefaultCost cost) = IsDefault (Some cost)
+KeepsRules _ = Unit {0}
+
+-- items and a default cost keep the rules of requests, and there are so many paths
+pub record KeepsTold (default_cost : Option ℕ) (paths : ℕ) (items : List Item) : Type 0 where
+  pub bounds : All (λ item. KeepsBounds item.what) items
+  pub default : IsDefault default_cost
+  pub counted : count_by is_path items ≡ paths
+  pub few : paths ≤ 10000

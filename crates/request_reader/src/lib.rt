@@ -1,0 +1,69 @@
+//! The request file: what its lines ask for.
+#![tactic(auto)]
+
+mod hops;
+mod reading;
+mod stop;
+
+use cost_base::{Listed, Name};
+pub use hops::Hops;
+pub use reading::read_requests;
+use std::marker::Model;
+pub use stop::{RequestFault, RequestStop};
+
+/// What a wanted path goes without.
+#[derive(Drop)]
+pub enum Part {
+    /// The router of a name: each edge into or out of it.
+    Router(Name),
+    /// The link of an interface, in both directions: the router's name, and the interface's.
+    Interface(Name, Name),
+}
+
+/// What a line of a request file asks for.
+#[derive(Drop)]
+pub enum Wish {
+    /// Every linked interface becomes free: the least cost, and the greatest.
+    FreeAll(u16, u16),
+    /// An interface becomes free: its router, its name, the least cost, and the greatest.
+    Free(Name, Name, u16, u16),
+    /// An interface becomes fixed: its router, and its name.
+    Fix(Name, Name),
+    /// A path is wanted: its hops, and what it goes without.
+    Path(Hops, Listed<Part>),
+    /// The two ends of each point-to-point link have one cost where both are free.
+    SymmetricAll,
+    /// The same for the link of an interface: its router, and its name.
+    Symmetric(Name, Name),
+}
+
+/// A line of a request file that asks for something.
+#[derive(Drop)]
+pub struct Item {
+    /// The line's number, from 1.
+    pub line: u32,
+    /// What the line asks for.
+    pub what: Wish,
+}
+
+/// What a request file asks for. Kept: 1 <= least <= greatest in each `free` line, a default cost isn't 0, and there
+/// are at most 10,000 paths.
+#[derive(Drop)]
+pub struct Requests {
+    /// The area that the network is read in.
+    pub area: u32,
+    /// The present cost of an interface that has none, where one is given.
+    pub default_cost: Option<u16>,
+    /// What the lines ask for, in their order.
+    pub items: Listed<Item>,
+}
+
+impl Model for Requests {
+    ghost use Rattle.request_reader.specs.Asked.{Asked, IsAsked};
+
+    ghost Value = { Asked };
+
+    ghost view = { λ r. record { area = r.area; default_cost = r.default_cost; items = r.items } };
+
+    ghost invariant = { λ r. IsAsked (record { area = r.area; default_cost = r.default_cost; items = r.items }) };
+}

@@ -1,0 +1,172 @@
+//! What the lines of a request file say together.
+ghost use Rattle.std.specs.Prelude.{◌≡◌, ◌+◌, ◌-◌, ◌^◌, ◌<◌, ◌++◌, ◌∷◌, [], Some, None, true, false, IfOk, IfErr, OnOk, OnErr, is_some};
+ghost use Rattle.request_reader.specs.Asked.{KeepsBounds, IsDefault, is_path};
+ghost use Rattle.request_reader.specs.Reading.{told_by, fault_said, fault_behind_header, asked_of, fault_at, TellsReading};
+ghost use Rattle.request_reader.specs.ReadingSteps.{told_with, fault_in_line, KeepsRules};
+ghost use Rattle.request_reader.specs.declared.stop.RequestFault.TheVariants.{BadRequestLine};
+ghost use Rattle.request_reader.specs.declared.reading.statement.Statement.TheVariants.{Area as AreaSaid, DefaultCost as DefaultCostSaid, Ask as AskSaid};
+
+use crate::reading::statement::Statement;
+use crate::{Item, RequestFault, RequestStop, Requests, Wish};
+use cost_base::{Listed, OutOfMemory};
+use std::alloc::Global;
+use std::marker::Model;
+
+/// The greatest count of wanted paths.
+const MOST_PATHS: u32 = 10_000;
+
+/// What the lines that were read say together: whether a header was among them, the area and the default cost so far, and what they ask for, of which `paths` are paths.
+#[derive(Drop)]
+pub(crate) struct Reader {
+    spoken: bool,
+    area: Option<u32>,
+    default_cost: Option<u16>,
+    paths: u32,
+    items: Vec<Item>,
+}
+
+impl Model for Reader {
+    ghost use Rattle.request_reader.specs.Reading.{Told};
+    ghost use Rattle.request_reader.specs.ReadingSteps.{KeepsTold};
+
+    ghost Value = { Told };
+
+    ghost view = { λ r. record { spoken = r.spoken; area = r.area; default_cost = r.default_cost; items = r.items.items } };
+
+    ghost invariant = { λ r. KeepsTold r.default_cost r.paths r.items.items };
+}
+
+impl Reader {
+    /// A reader that read nothing yet. It takes no memory.
+    pub(crate) fn new(alloc: Global) -> Reader
+        ensures { result ≡ told_by [] }
+    {
+        Reader {
+            spoken: false,
+            area: None,
+            default_cost: None,
+            paths: 0,
+            items: Vec::new(alloc),
+        }
+    }
+
+    /// Takes what the line of this number says, unless that is a fault behind what was said before.
+    pub(crate) fn take(&mut self, line: u32, said: Statement) -> Result<(), RequestStop>
+        requires { KeepsRules said }
+        ensures taken { OnOk result (fault_said self.old said ≡ None) }
+        ensures told { OnOk result (self.new ≡ told_with self.old line said) }
+        ensures refused { IfErr result (TellsReading (fault_in_line line (fault_said self.old said))) }
+    {
+        match (self.spoken, said) {
+            (_, Statement::Passed) => Ok(()),
+            (false, Statement::Header) => {
+                self.spoken = true;
+                Ok(())
+            }
+            (true, Statement::Area(area)) => self.take_area(line, area),
+            (true, Statement::DefaultCost(cost)) => self.take_default_cost(line, cost),
+            (true, Statement::Ask(wish)) => self.take_wish(line, wish),
+            (true, Statement::Refused(fault)) => Err(refusal(line, fault)),
+            (_, _) => Err(refusal(line, RequestFault::BadRequestLine)),
+        }
+    }
+
+    /// Takes the area of a line behind the header, unless it is the second.
+    fn take_area(&mut self, line: u32, area: u32) -> Result<(), RequestStop>
+        ensures taken { OnOk result (fault_behind_header self.old (AreaSaid area) ≡ None) }
+        ensures told { OnOk result (self.new ≡ told_with self.old line (AreaSaid area)) }
+        ensures refused { IfErr result (TellsReading (fault_in_line line (fault_behind_header self.old (AreaSaid area)))) }
+    {
+        if self.area.is_some() {
+            return Err(refusal(line, RequestFault::BadRequestLine));
+        }
+        self.area = Some(area);
+        Ok(())
+    }
+
+    /// Takes the default cost of a line behind the header, unless it is the second.
+    fn take_default_cost(&mut self, line: u32, cost: u16) -> Result<(), RequestStop>
+        requires { IsDefault (Some cost) }
+        ensures taken { OnOk result (fault_behind_header self.old (DefaultCostSaid cost) ≡ None) }
+        ensures told { OnOk result (self.new ≡ told_with self.old line (DefaultCostSaid cost)) }
+        ensures refused { IfErr result (TellsReading (fault_in_line line (fault_behind_header self.old (DefaultCostSaid cost)))) }
+    {
+        if self.default_cost.is_some() {
+            return Err(refusal(line, RequestFault::BadRequestLine));
+        }
+        self.default_cost = Some(cost);
+        Ok(())
+    }
+
+    /// Takes what a line behind the header asks for, unless it is a path too many.
+    fn take_wish(&mut self, line: u32, what: Wish) -> Result<(), RequestStop>
+        requires { KeepsBounds what }
+        ensures taken { OnOk result (fault_behind_header self.old (AskSaid what) ≡ None) }
+        ensures told { OnOk result (self.new ≡ told_with self.old line (AskSaid what)) }
+        ensures refused { IfErr result (TellsReading (fault_in_line line (fault_behind_header self.old (AskSaid what)))) }
+    {
+        let item = Item { line, what };
+        if is_path(&item) {
+            return self.take_path(item);
+        }
+        add_item(&mut self.items, item)?;
+        Ok(())
+    }
+
+    /// Takes a path, unless it is one too many.
+    fn take_path(&mut self, path: Item) -> Result<(), RequestStop>
+        requires bounds { KeepsBounds path.what }
+        requires path { is_path path ≡ true }
+        ensures taken { OnOk result (fault_behind_header self.old (AskSaid path.what) ≡ None) }
+        ensures told { OnOk result (self.new ≡ told_with self.old path.line (AskSaid path.what)) }
+        ensures refused { IfErr result (TellsReading (fault_in_line path.line (fault_behind_header self.old (AskSaid path.what)))) }
+    {
+        if self.paths >= MOST_PATHS {
+            return Err(refusal(path.line, RequestFault::TooManyPaths));
+        }
+        add_item(&mut self.items, path)?;
+        self.paths += 1;
+        Ok(())
+    }
+
+    /// What the lines ask for. `lines` is how many there are.
+    pub(crate) fn finish(self, lines: u32) -> Result<Requests, RequestStop>
+        requires { lines < 2 ^ 32 - 1 }
+        ensures made { IfOk result (λ r. (is_some self.area ≡ true) × (r ≡ asked_of self)) }
+        ensures refused { IfErr result (λ stop. (is_some self.area ≡ false) × TellsReading (Some (fault_at (lines + 1) BadRequestLine)) stop) }
+    {
+        match self.area {
+            Some(area) => Ok(Requests {
+                area,
+                default_cost: self.default_cost,
+                items: Listed::from_items(self.items),
+            }),
+            None => Err(refusal(lines + 1, RequestFault::BadRequestLine)),
+        }
+    }
+}
+
+/// Whether an item wants a path.
+fn is_path(item: &Item) -> bool
+    ensures { result ≡ is_path item.now }
+{
+    matches!(item.what, Wish::Path(_, _))
+}
+
+/// Adds an item.
+fn add_item(items: &mut Vec<Item>, item: Item) -> Result<(), OutOfMemory>
+    ensures added { OnOk result (items.new.items ≡ items.old.items ++ item ∷ []) }
+    ensures kept { OnErr result (items.new.items ≡ items.old.items) }
+{
+    match items.push(item) {
+        Ok(()) => Ok(()),
+        Err(_) => Err(OutOfMemory),
+    }
+}
+
+/// The refusal of a line.
+pub(crate) fn refusal(line: u32, fault: RequestFault) -> RequestStop
+    ensures { TellsReading (Some (fault_at line fault)) result }
+{
+    RequestStop::Refused { fault, line }
+}

@@ -1,0 +1,21 @@
+//! What a line of a request file says.
+use crate::{RequestFault, Wish};
+
+/// The bounds of a cost.
+#[derive(Clone, Copy)]
+pub(crate) struct Bounds {
+    pub(crate) lowest: u16,
+    pub(crate) highest: u16,
+}
+
+/// What a line of a request file says by itself.
+#[derive(Drop)]
+pub(crate) enum Statement {
+    /// Nothing: the line is blank or a comment.
+    Passed,
+    Header,
+    Area(u32),
+    DefaultCost(u16),
+    Ask(Wish),
+    Refused(RequestFault),
+}

@@ -1,0 +1,107 @@
+-- What of the lines of a request file can't be resolved in a database, as the whole list of faults in their order.
+use Rattle.std.specs.Prelude.{◌≡◌, ℕ, ◌+◌, List, [], ◌∷◌, ◌++◌, ◌||◌, not, if◌then◌else◌, Bool, true, false, Option, Some, None, slice_get}
+use Rattle.std.specs.List.{list_any}
+use Rattle.cost_base.specs.Lists.{same_bytes}
+use Rattle.lsdb_build.specs.declared.Linked.{Linked}
+use Rattle.lsdb_build.specs.Graphs.{Database}
+use Rattle.request_reader.specs.declared.Part.{Part}
+use Rattle.request_reader.specs.declared.Part.TheVariants.{Router, Interface}
+use Rattle.request_reader.specs.declared.Wish.{Wish}
+use Rattle.request_reader.specs.declared.Wish.TheVariants.{FreeAll, Free, Fix, Path, SymmetricAll, Symmetric}
+use Rattle.request_reader.specs.declared.Item.{Item}
+use Rattle.request_reader.specs.Wishes.{Route}
+use Rattle.wanted_paths.specs.declared.stop.ResolutionFault.{ResolutionFault}
+use Rattle.wanted_paths.specs.declared.stop.ResolutionFault.TheVariants.{UnknownRouter, UnknownInterface, NotALink, BrokenPath, LoopPath, PathGone}
+use Rattle.wanted_paths.specs.declared.stop.ResolutionStop.{ResolutionStop}
+use Rattle.wanted_paths.specs.declared.stop.ResolutionStop.TheVariants.{Refused, OutOfMemory}
+use Rattle.wanted_paths.specs.Paths.{next_name, link_number, router_number, route_edges, takes, outline}
+use Rattle.wanted_paths.specs.Resolution.{knows_router, knows_link, leads_to_router, is_loop_free}
+
+-- the fault, unless all is well
+abbrev pub fault_unless : Bool → ResolutionFault → List ResolutionFault
+fault_unless well fault = if well then [] else fault ∷ []
+
+-- The faults of words.
+
+abbrev pub router_faults : Database → ℕ → List ℕ → List ResolutionFault
+router_faults d line router = fault_unless (knows_router d router) (UnknownRouter line)
+
+abbrev pub interface_faults : Database → ℕ → List ℕ → List ℕ → List ResolutionFault
+interface_faults d line router interface = router_faults d line router ++ fault_unless (knows_link d router interface) (UnknownInterface line)
+
+abbrev pub hop_faults : Database → ℕ → List (List ℕ × List ℕ) → List ℕ → List ResolutionFault
+hop_faults d line [] last = router_faults d line last
+hop_faults d line (hop ∷ hops) last = interface_faults d line hop.0 hop.1 ++ hop_faults d line hops last
+
+abbrev pub part_faults : Database → ℕ → Part → List ResolutionFault
+part_faults d line (Router router) = router_faults d line router
+part_faults d line (Interface router interface) = interface_faults d line router interface
+
+abbrev pub parts_faults : Database → ℕ → List Part → List ResolutionFault
+parts_faults d line [] = []
+parts_faults d line (part ∷ parts) = part_faults d line part ++ parts_faults d line parts
+
+-- The faults of a path.
+
+-- the interface leads to the router of that name
+abbrev pub leads_on : Database → List ℕ × List ℕ → List ℕ → Bool
+leads_on d hop next = leads_to_router d (router_number d next) (slice_get d.links (link_number d hop.0 hop.1))
+
+-- the hops that don't lead to the router of the next word, counted from `number` on
+abbrev pub broken_faults : Database → ℕ → ℕ → List (List ℕ × List ℕ) → List ℕ → List ResolutionFault
+broken_faults d line number [] last = []
+broken_faults d line number (hop ∷ hops) last =
+    (if leads_on d hop (next_name hops last) then [] else BrokenPath line number ∷ []) ++ broken_faults d line (number + 1) hops last
+
+abbrev pub is_router_part : List ℕ → Part → Bool
+is_router_part name (Router router) = same_bytes router name
+is_router_part name (Interface router interface) = false
+
+-- the path's start is taken away, or an edge of the path
+abbrev pub is_path_gone : Database → Route → List Part → Bool
+is_path_gone d route parts =
+    list_any (is_router_part (next_name route.hops route.last)) parts
+    || list_any (λ e. list_any (takes d (outline d) e) parts) (route_edges d (outline d) route.hops route.last)
+
+-- the words of a path one by one, then its hops one by one, then a router or a transit subnet that comes twice
+abbrev pub walk_faults : Database → ℕ → Route → List ResolutionFault
+walk_faults d line route =
+    hop_faults d line route.hops route.last
+    ++ broken_faults d line 1 route.hops route.last
+    ++ fault_unless (is_loop_free d (outline d) route) (LoopPath line)
+
+-- the words after `without` one by one, then what they take away of the path
+abbrev pub without_faults : Database → ℕ → Route → List Part → List ResolutionFault
+without_faults d line route parts = parts_faults d line parts ++ fault_unless (not (is_path_gone d route parts)) (PathGone line)
+
+abbrev pub path_faults : Database → ℕ → Route → List Part → List ResolutionFault
+path_faults d line route parts = walk_faults d line route ++ without_faults d line route parts
+
+-- The faults of lines.
+
+-- the link is one of a point-to-point subnet
+abbrev pub has_mate : Option Linked → Bool
+has_mate None = false
+has_mate (Some link) = is_there link.mate
+  where
+    is_there : Option ℕ → Bool
+    is_there None = false
+    is_there (Some m) = true
+
+abbrev pub wish_faults : Database → ℕ → Wish → List ResolutionFault
+wish_faults d line (FreeAll lo hi) = []
+wish_faults d line (Free router interface lo hi) = interface_faults d line router interface
+wish_faults d line (Fix router interface) = interface_faults d line router interface
+wish_faults d line (Path route parts) = path_faults d line route parts
+wish_faults d line SymmetricAll = []
+wish_faults d line (Symmetric router interface) =
+    interface_faults d line router interface ++ fault_unless (has_mate (slice_get d.links (link_number d router interface))) (NotALink line)
+
+abbrev pub line_faults : Database → List Item → List ResolutionFault
+line_faults d [] = []
+line_faults d (item ∷ items) = wish_faults d item.line item.what ++ line_faults d items
+
+-- the refusal tells the fault; want of memory says nothing
+abbrev pub TellsResolution : Option ResolutionFault → ResolutionStop → Type 0
+TellsResolution fault (Refused told) = fault ≡ Some told
+TellsResolution fault OutOfMemory = Unit {0}

@@ -1,0 +1,33 @@
+-- The edges that parts take away, as a list in which one may come twice.
+use Rattle.std.specs.Prelude.{ℕ, ◌+◌, List, [], ◌∷◌, ◌++◌, ◌==◌, Option, Some, None, filter, length, slice_get, option_to_list}
+use Rattle.area_graph.specs.Area.{Area, edge_at, edges_out, edges_in}
+use Rattle.lsdb_build.specs.declared.Far.{Far}
+use Rattle.lsdb_build.specs.declared.Far.TheVariants.{Router as ToRouter, Subnet as ToSubnet}
+use Rattle.lsdb_build.specs.declared.Linked.{Linked}
+use Rattle.lsdb_build.specs.Graphs.{Database}
+use Rattle.request_reader.specs.declared.Part.{Part}
+use Rattle.request_reader.specs.declared.Part.TheVariants.{Router, Interface}
+use Rattle.wanted_paths.specs.Paths.{link_number, router_number}
+
+-- the edge from a transit subnet to the router
+abbrev pub taken_from : Database → Area → ℕ → Far → List ℕ
+taken_from d g router (ToRouter r) = []
+taken_from d g router (ToSubnet s) = filter (λ e. (edge_at g e).to == router) (edges_out g (length d.routers + s))
+
+-- the edge of the link, that of its mate, and that out of its subnet
+abbrev pub taken_by_link : Database → Area → ℕ → Linked → List ℕ
+taken_by_link d g l link = l ∷ option_to_list link.mate ++ taken_from d g link.router link.to
+
+abbrev pub taken_at : Database → Area → ℕ → Option Linked → List ℕ
+taken_at d g l None = []
+taken_at d g l (Some link) = taken_by_link d g l link
+
+abbrev pub taken_by : Database → Area → Part → List ℕ
+taken_by d g (Router name) = edges_out g (router_number d name) ++ edges_in g (router_number d name)
+taken_by d g (Interface router interface) =
+    let l = link_number d router interface in
+    taken_at d g l (slice_get d.links l)
+
+abbrev pub taken_by_all : Database → Area → List Part → List ℕ
+taken_by_all d g [] = []
+taken_by_all d g (part ∷ parts) = taken_by d g part ++ taken_by_all d g parts

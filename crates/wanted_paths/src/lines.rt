@@ -1,0 +1,105 @@
+//! Resolves the lines of requests, one by one.
+ghost use Rattle.std.specs.Prelude.{◌≡◌, ◌++◌, [], Some, length, slice_get, option_to_list, IfOk, IfErr, OnOk};
+ghost use Rattle.std.specs.List.{filter_map};
+ghost use Rattle.cost_base.specs.Lists.{first_of};
+ghost use Rattle.wanted_paths.specs.Paths.{request_of};
+ghost use Rattle.wanted_paths.specs.LineFaults.{has_mate, wish_faults, line_faults, TellsResolution};
+ghost use Rattle.wanted_paths.specs.Paths.{outline};
+ghost use Rattle.request_reader.specs.declared.Wish.TheVariants.{Symmetric as SymmetricWish};
+
+use crate::names::Names;
+use crate::paths::resolve_path;
+use crate::{ResolutionFault, ResolutionStop};
+use area_graph::Graph;
+use path_rows::Request;
+use request_reader::{Item, Wish};
+use std::alloc::Global;
+
+/// Whether the link of a number is one of a point-to-point subnet.
+fn has_mate(names: &Names, number: u32) -> bool
+    ensures { result ≡ has_mate (slice_get names.now.links number) }
+{
+    match names.links().get(number as usize) {
+        Some(link) => link.mate.is_some(),
+        None => false,
+    }
+}
+
+/// Looks up the link of a `symmetric` line; its first fault where it doesn't resolve.
+fn check_symmetric(
+    names: &Names,
+    line: u32,
+    router: &[u8],
+    interface: &[u8],
+) -> Result<(), ResolutionStop>
+    ensures made { OnOk result (wish_faults names.now line (SymmetricWish router.now interface.now) ≡ []) }
+    ensures refused { IfErr result (TellsResolution (first_of (wish_faults names.now line (SymmetricWish router.now interface.now)))) }
+{
+    let number = names.link(line, router, interface)?;
+    if !has_mate(names, number) {
+        return Err(ResolutionStop::Refused(ResolutionFault::NotALink { line }));
+    }
+    Ok(())
+}
+
+/// Appends the request of a line, where it wants a path; the line's first fault where it doesn't resolve. `marks` has
+/// a mark for each edge, and is written over.
+fn push_request(
+    alloc: Global,
+    names: &Names,
+    graph: &Graph,
+    marks: &mut Vec<bool>,
+    item: &Item,
+    made: &mut Vec<Request>,
+) -> Result<(), ResolutionStop>
+    requires graph { graph.now ≡ outline names.now }
+    requires marks { length marks.old.items ≡ length graph.now.edges }
+    ensures resolves { OnOk result (wish_faults names.now item.now.line item.now.what ≡ []) }
+    ensures made { OnOk result (made.new.items ≡ made.old.items ++ option_to_list (request_of names.now (outline names.now) item.now.what)) }
+    ensures refused { IfErr result (TellsResolution (first_of (wish_faults names.now item.now.line item.now.what))) }
+    ensures marks { length marks.new.items ≡ length graph.now.edges }
+{
+    let line = item.line;
+    match &item.what {
+        Wish::Path(route, parts) => {
+            let request = resolve_path(alloc, names, graph, marks, line, route, parts.as_slice())?;
+            if made.push(request).is_err() {
+                return Err(ResolutionStop::OutOfMemory);
+            }
+        }
+        Wish::Free(router, interface, _, _) => {
+            names.link(line, router.as_bytes(), interface.as_bytes())?;
+        }
+        Wish::Fix(router, interface) => {
+            names.link(line, router.as_bytes(), interface.as_bytes())?;
+        }
+        Wish::Symmetric(router, interface) => {
+            check_symmetric(names, line, router.as_bytes(), interface.as_bytes())?;
+        }
+        Wish::FreeAll(_, _) => {}
+        Wish::SymmetricAll => {}
+    }
+    Ok(())
+}
+
+/// The requests of the lines that want a path, in order; the first line's fault where one doesn't resolve.
+pub fn resolve_lines(
+    alloc: Global,
+    names: &Names,
+    graph: &Graph,
+    items: &[Item],
+) -> Result<Vec<Request>, ResolutionStop>
+    requires { graph.now ≡ outline names.now }
+    ensures made { IfOk result (λ made. (line_faults names.now items.now ≡ []) × (made.items ≡ filter_map (λ item. request_of names.now (outline names.now) item.what) items.now)) }
+    ensures refused { IfErr result (TellsResolution (first_of (line_faults names.now items.now))) }
+{
+    let mut marks = match vec![in alloc; false; graph.edges().len()] {
+        Ok(marks) => marks,
+        Err(_) => return Err(ResolutionStop::OutOfMemory),
+    };
+    let mut made = Vec::new(alloc);
+    for item in items {
+        push_request(alloc, names, graph, &mut marks, item, &mut made)?;
+    }
+    Ok(made)
+}

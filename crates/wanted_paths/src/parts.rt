@@ -1,0 +1,202 @@
+//! Resolves what a wanted path goes without.
+ghost use Rattle.std.specs.Prelude.{◌≡◌, ◌+◌, ◌^◌, ◌<◌, ◌==◌, ◌++◌, [], ◌∷◌, Some, false, filter, length, slice_get, slice_index_or, IfOk, IfErr, OnOk};
+ghost use Rattle.std.specs.List.{list_any};
+ghost use Rattle.cost_base.specs.Lists.{first_of, numbers_from};
+ghost use Rattle.area_graph.specs.Area.{edge_at, edges_out, edges_in};
+ghost use Rattle.lsdb_build.specs.Graphs.{IsFar};
+ghost use Rattle.wanted_paths.specs.LineFaults.{part_faults, parts_faults, is_router_part, TellsResolution};
+ghost use Rattle.wanted_paths.specs.Paths.{outline};
+ghost use Rattle.wanted_paths.specs.Taken.{taken_from, taken_by_link, taken_at, taken_by, taken_by_all};
+
+use crate::names::Names;
+use crate::routes::{far_end, subnet_vertex};
+use crate::ResolutionStop;
+use area_graph::Graph;
+use cost_base::OutOfMemory;
+use lsdb_build::{Far, Linked};
+use request_reader::Part;
+use std::alloc::Global;
+
+/// Appends those of some edges that end at a vertex.
+fn push_into(
+    graph: &Graph,
+    edges: &[u32],
+    vertex: u32,
+    taken: &mut Vec<u32>,
+) -> Result<(), OutOfMemory>
+    ensures { OnOk result (taken.new.items ≡ taken.old.items ++ filter (λ e. (edge_at graph.now e).to == vertex) edges.now) }
+{
+    for edge in edges {
+        if far_end(graph, *edge) == vertex {
+            taken.push(*edge)?;
+        }
+    }
+    Ok(())
+}
+
+/// Appends the edge from a transit subnet to a router, where a link of the router leads there.
+fn push_from(
+    names: &Names,
+    graph: &Graph,
+    router: u32,
+    far: Far,
+    taken: &mut Vec<u32>,
+) -> Result<(), OutOfMemory>
+    requires graph { graph.now ≡ outline names.now }
+    requires far { IsFar names.now far }
+    ensures { OnOk result (taken.new.items ≡ taken.old.items ++ taken_from names.now graph.now router far) }
+{
+    match far {
+        Far::Router(_) => Ok(()),
+        Far::Subnet(subnet) => {
+            let out = graph.edges_out(subnet_vertex(names, subnet));
+            push_into(graph, out, router, taken)
+        }
+    }
+}
+
+/// Appends the edges of a link in both directions.
+fn push_link(
+    names: &Names,
+    graph: &Graph,
+    number: u32,
+    link: &Linked,
+    taken: &mut Vec<u32>,
+) -> Result<(), OutOfMemory>
+    requires graph { graph.now ≡ outline names.now }
+    requires far { IsFar names.now link.now.to }
+    ensures { OnOk result (taken.new.items ≡ taken.old.items ++ taken_by_link names.now graph.now number link.now) }
+{
+    taken.push(number)?;
+    if let Some(mate) = link.mate {
+        taken.push(mate)?;
+    }
+    push_from(names, graph, link.router, link.to, taken)
+}
+
+/// Appends the edges of the link of a number in both directions.
+fn push_interface(
+    names: &Names,
+    graph: &Graph,
+    number: u32,
+    taken: &mut Vec<u32>,
+) -> Result<(), OutOfMemory>
+    requires { graph.now ≡ outline names.now }
+    ensures { OnOk result (taken.new.items ≡ taken.old.items ++ taken_at names.now graph.now number (slice_get names.now.links number)) }
+{
+    match names.links().get(number as usize) {
+        Some(link) => push_link(names, graph, number, link, taken),
+        None => Ok(()),
+    }
+}
+
+/// Appends the edges out of a vertex and those into it.
+fn push_router(graph: &Graph, vertex: u32, taken: &mut Vec<u32>) -> Result<(), OutOfMemory>
+    requires { vertex < length graph.now.vertices }
+    ensures { OnOk result (taken.new.items ≡ taken.old.items ++ (edges_out graph.now vertex ++ edges_in graph.now vertex)) }
+{
+    taken.extend_from_slice(graph.edges_out(vertex))?;
+    taken.extend_from_slice(graph.edges_in(vertex))?;
+    Ok(())
+}
+
+/// Appends the edges that a part takes away; the line's fault where a word of it is unknown.
+fn push_part(
+    names: &Names,
+    graph: &Graph,
+    line: u32,
+    part: &Part,
+    taken: &mut Vec<u32>,
+) -> Result<(), ResolutionStop>
+    requires { graph.now ≡ outline names.now }
+    ensures made { OnOk result (part_faults names.now line part.now ≡ []) }
+    ensures taken { OnOk result (taken.new.items ≡ taken.old.items ++ taken_by names.now graph.now part.now) }
+    ensures refused { IfErr result (TellsResolution (first_of (part_faults names.now line part.now))) }
+{
+    match part {
+        Part::Router(name) => {
+            let router = names.router(line, name.as_bytes())?;
+            push_router(graph, router, taken)?;
+        }
+        Part::Interface(router, interface) => {
+            let number = names.link(line, router.as_bytes(), interface.as_bytes())?;
+            push_interface(names, graph, number, taken)?;
+        }
+    }
+    Ok(())
+}
+
+/// The edges that parts take away, each maybe several times; the line's fault at the first unknown word.
+pub fn taken_by(
+    alloc: Global,
+    names: &Names,
+    graph: &Graph,
+    line: u32,
+    parts: &[Part],
+) -> Result<Vec<u32>, ResolutionStop>
+    requires { graph.now ≡ outline names.now }
+    ensures made { IfOk result (λ taken. (parts_faults names.now line parts.now ≡ []) × (taken.items ≡ taken_by_all names.now graph.now parts.now)) }
+    ensures refused { IfErr result (TellsResolution (first_of (parts_faults names.now line parts.now))) }
+{
+    let mut taken = Vec::new(alloc);
+    for part in parts {
+        push_part(names, graph, line, part, &mut taken)?;
+    }
+    Ok(taken)
+}
+
+/// Whether a part is the router of a name.
+fn is_router_part(name: &[u8], part: &Part) -> bool
+    ensures { result ≡ is_router_part name.now part.now }
+{
+    match part {
+        Part::Router(router) => router.as_bytes() == name,
+        Part::Interface(_, _) => false,
+    }
+}
+
+/// Whether one of the parts is the router of a name.
+pub fn has_router(name: &[u8], parts: &[Part]) -> bool
+    ensures { result ≡ list_any (is_router_part name.now) parts.now }
+{
+    parts.iter().any(|part| is_router_part(name, part))
+}
+
+/// Whether an edge is marked.
+fn is_marked(marks: &[bool], edge: u32) -> bool
+    ensures { result ≡ slice_index_or marks.now edge false }
+{
+    match marks.get(edge as usize) {
+        Some(mark) => *mark,
+        None => false,
+    }
+}
+
+/// Whether one of some edges is marked.
+pub fn has_marked(marks: &[bool], edges: &[u32]) -> bool
+    ensures { result ≡ list_any (λ e. slice_index_or marks.now e false) edges.now }
+{
+    edges.iter().any(|edge| is_marked(marks, *edge))
+}
+
+/// Appends an edge that is marked.
+fn push_marked(marks: &[bool], edge: u32, found: &mut Vec<u32>) -> Result<(), OutOfMemory>
+    ensures { OnOk result (found.new.items ≡ found.old.items ++ filter (λ e. slice_index_or marks.now e false) (edge ∷ [])) }
+{
+    if is_marked(marks, edge) {
+        found.push(edge)?;
+    }
+    Ok(())
+}
+
+/// The numbers of the marked edges, in rising order.
+pub fn marked(alloc: Global, marks: &[bool]) -> Result<Vec<u32>, OutOfMemory>
+    requires { length marks.now < 2 ^ 32 }
+    ensures { IfOk result (λ found. found.items ≡ filter (λ e. slice_index_or marks.now e false) (numbers_from 0 (length marks.now))) }
+{
+    let mut found = Vec::new(alloc);
+    for edge in 0..marks.len() as u32 {
+        push_marked(marks, edge, &mut found)?;
+    }
+    Ok(found)
+}
