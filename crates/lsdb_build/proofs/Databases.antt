@@ -18,6 +18,7 @@ use Rattle.lsdb_build.specs.Graphs.{IsDatabase, IsLink, IsFar, HasMate, IsMateOf
 use Rattle.lsdb_build.specs.Topology.{is_second_of_router, is_second_of_address, is_mismatch, is_crowding, is_overlap, lacks_designated, first_where, at_port, at_config, past, second_of_name, topology_fault, router_at, far_of, mate_of, link_of, places_from, database_of}
 use Rattle.lsdb_build.proofs.Pairs.{all_at, all_from_at, pair_at, pairs_nil, pairs_head, pairs_tail, pairs_weaker, map_at, at_map, count_agree, count_filter, other_place}
 use Rattle.lsdb_build.proofs.Subnets.{shares_itself, shares_back, shares_on, shares_alike, none_passes, differs_in_kind, kinds_at, place_only, firsts_all, firsts_length, firsts_are_first, FirstOf, first_found}
+use Rattle.lsdb_build.specs.declared.stop.TopologyFault.TheVariants.{TooMany, NameTwice, SameRouterTwice, AddressTwice, TypeMismatch, CrowdedLink, NoDesignated, OverlapPrefix}
 use Rattle.lsdb_build.proofs.Found.{IsPortFrom, InOrder, ports_from_all, ports_from_pairs, no_first, no_port, no_config, within, none_past, names_differ}
 
 -- what the ports of a topology without a fault keep
@@ -227,26 +228,26 @@ pub record IsFaultless (area : ℕ) (routers : List Router) : Type 0 where
 pub faultless : (area : ℕ) (routers : List Router) → topology_fault area routers ≡ None → IsFaultless area routers
 faultless area routers h =
     let all = ports area routers in
-    let overlap = at_port 16 (first_where is_overlap [] all) ∷ [] in
-    let designated = at_port 15 (first_where (λ before p. lacks_designated all p) [] (transit_subnets all)) ∷ overlap in
-    let crowded = at_port 13 (first_where is_crowding [] all) ∷ designated in
-    let kinds = at_port 12 (first_where is_mismatch [] all) ∷ crowded in
-    let addresses = at_port 11 (first_where is_second_of_address [] all) ∷ kinds in
-    let twice = at_port 14 (first_where is_second_of_router [] all) ∷ addresses in
-    let names = at_config 10 (second_of_name [] 0 routers) ∷ twice in
-    let ports = at_port 17 (slice_get all 4000) ∷ names in
-    let one = no_first (at_config 17 (past 1000 (length routers))) ports h in
-    let two = no_first (at_port 17 (slice_get all 4000)) names one.1 in
-    let three = no_first (at_config 10 (second_of_name [] 0 routers)) twice two.1 in
-    let four = no_first (at_port 14 (first_where is_second_of_router [] all)) addresses three.1 in
-    let five = no_first (at_port 11 (first_where is_second_of_address [] all)) kinds four.1 in
-    let six = no_first (at_port 12 (first_where is_mismatch [] all)) crowded five.1 in
+    let overlap = at_port OverlapPrefix (first_where is_overlap [] all) ∷ [] in
+    let designated = at_port NoDesignated (first_where (λ before p. lacks_designated all p) [] (transit_subnets all)) ∷ overlap in
+    let crowded = at_port CrowdedLink (first_where is_crowding [] all) ∷ designated in
+    let kinds = at_port TypeMismatch (first_where is_mismatch [] all) ∷ crowded in
+    let addresses = at_port AddressTwice (first_where is_second_of_address [] all) ∷ kinds in
+    let twice = at_port SameRouterTwice (first_where is_second_of_router [] all) ∷ addresses in
+    let names = at_config NameTwice (second_of_name [] 0 routers) ∷ twice in
+    let ports = at_port TooMany (slice_get all 4000) ∷ names in
+    let one = no_first (at_config TooMany (past 1000 (length routers))) ports h in
+    let two = no_first (at_port TooMany (slice_get all 4000)) names one.1 in
+    let three = no_first (at_config NameTwice (second_of_name [] 0 routers)) twice two.1 in
+    let four = no_first (at_port SameRouterTwice (first_where is_second_of_router [] all)) addresses three.1 in
+    let five = no_first (at_port AddressTwice (first_where is_second_of_address [] all)) kinds four.1 in
+    let six = no_first (at_port TypeMismatch (first_where is_mismatch [] all)) crowded five.1 in
     record {
-      few = no_config 17 (past 1000 (length routers)) one.0;
-      few_ports = no_port 17 (slice_get all 4000) two.0;
-      names = no_config 10 (second_of_name [] 0 routers) three.0;
-      addresses = no_port 11 (first_where is_second_of_address [] all) five.0;
-      kinds = no_port 12 (first_where is_mismatch [] all) six.0;
+      few = no_config TooMany (past 1000 (length routers)) one.0;
+      few_ports = no_port TooMany (slice_get all 4000) two.0;
+      names = no_config NameTwice (second_of_name [] 0 routers) three.0;
+      addresses = no_port AddressTwice (first_where is_second_of_address [] all) five.0;
+      kinds = no_port TypeMismatch (first_where is_mismatch [] all) six.0;
     }
 
 -- the ports of faultless configurations

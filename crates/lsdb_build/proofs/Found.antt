@@ -1,5 +1,5 @@
 -- What the ports of routers keep, and what a topology without a fault tells.
-use Rattle.std.proofs.Common.{◌≡◌, ◌≢◌, ℕ, zero, suc, ◌+◌, ◌<◌, ◌≤◌, inl, inr, Bool, true, false, cond, ◌&&◌, not, eqb, eq-eqb, ltb, nat_le, List, [], ◌∷◌, Option, Some, None, length, map, refl, sym, ap, ◌∙◌, arith, slice_get, All, AllPairs}
+use Rattle.std.proofs.Common.{◌≡◌, ◌≢◌, ℕ, zero, suc, ◌+◌, ◌<◌, ◌≤◌, inl, inr, Bool, true, false, cond, ◌&&◌, eqb, eq-eqb, ltb, nat_le, List, [], ◌∷◌, Option, Some, None, length, map, refl, sym, ap, ◌∙◌, arith, slice_get, All, AllPairs}
 use Rattle.std.specs.List.{list_any}
 use Rattle.std.proofs.lemmas.Bool.{false≢true, or_parts, cases_Bool, ltb-false, and_from}
 use Rattle.std.proofs.lemmas.Option.{none-some}
@@ -8,8 +8,10 @@ use Rattle.std.proofs.lemmas.List.Kept.{AllPairs-cons}
 use Rattle.cost_base.specs.Lists.{same_bytes}
 use Rattle.interface_model.specs.declared.Interface.{Interface}
 use Rattle.interface_model.specs.Records.{Router, IsInterface, IsRouter}
-use Rattle.lsdb_build.specs.Neighbours.{Port, port_of, ports_of, ports_from, is_in}
-use Rattle.lsdb_build.specs.Topology.{TopologyFault, first_some, at_port, at_config, past, second_of_name}
+use Rattle.interface_model.specs.Addresses.{takes_part}
+use Rattle.lsdb_build.specs.declared.stop.TopologyFault.{TopologyFault}
+use Rattle.lsdb_build.specs.Neighbours.{Port, port_of, ports_of, ports_from}
+use Rattle.lsdb_build.specs.Topology.{FaultyPlace, first_some, at_port, at_config, past, second_of_name}
 use Rattle.lsdb_build.proofs.Pairs.{pairs_nil, pairs_head, pairs_tail, pairs_append}
 
 -- what a port keeps: its router is one of those from a number on, its interface is as the model says
@@ -26,7 +28,7 @@ pub record InOrder (a b : Port) : Type 0 where
 -- what holds of the port of an interface
 port_all : (P : Port → Type 0) (area n : ℕ) (i : Interface) (address : Option ℕ) → ((a : ℕ) → P (record { router = n; interface = i; address = a })) → All P (port_of area n i address)
 port_all P area n i None each = All-nil P
-port_all P area n i (Some a) each = by_test (is_in i.area area && not i.passive && not i.down && nat_le i.length 31)
+port_all P area n i (Some a) each = by_test (takes_part i area && nat_le i.length 31)
   where
     by_test : (b : Bool) → All P (cond b (record { router = n; interface = i; address = a } ∷ []) [])
     by_test true = All-cons P (record { router = n; interface = i; address = a }) [] (each a) (All-nil P)
@@ -35,7 +37,7 @@ port_all P area n i (Some a) each = by_test (is_in i.area area && not i.passive 
 -- an interface has at most one port
 port_pairs : (R : Port → Port → Type 0) (area n : ℕ) (i : Interface) (address : Option ℕ) → AllPairs R (port_of area n i address)
 port_pairs R area n i None = pairs_nil R
-port_pairs R area n i (Some a) = by_test (is_in i.area area && not i.passive && not i.down && nat_le i.length 31)
+port_pairs R area n i (Some a) = by_test (takes_part i area && nat_le i.length 31)
   where
     by_test : (b : Bool) → AllPairs R (cond b (record { router = n; interface = i; address = a } ∷ []) [])
     by_test true = AllPairs-cons R (record { router = n; interface = i; address = a }) [] (All-nil (R (record { router = n; interface = i; address = a }))) (pairs_nil R)
@@ -89,17 +91,17 @@ ports_from_pairs area n (r ∷ routers) all =
     (All-weaker (λ p. (p.router ≡ n) × IsInterface p.interface) (λ a. All (InOrder a) (ports_from area (n + 1) routers)) (λ a h. All-weaker (IsPortFrom (n + 1) (n + 1 + length routers)) (InOrder a) (λ b k. later_routers n (n + 1 + length routers) a b h.0 k) (ports_from area (n + 1) routers) later) (ports_of area n r.interfaces) here)
 
 -- without a first fault none of two has one
-pub no_first : (f : Option TopologyFault) (more : List (Option TopologyFault)) → first_some (f ∷ more) ≡ None → (f ≡ None) × (first_some more ≡ None)
+pub no_first : (f : Option FaultyPlace) (more : List (Option FaultyPlace)) → first_some (f ∷ more) ≡ None → (f ≡ None) × (first_some more ≡ None)
 no_first None more h = (refl, h)
 no_first (Some fault) more h = absurd (none-some fault (sym h))
 
-pub no_port : (number : ℕ) (o : Option Port) → at_port number o ≡ None → o ≡ None
-no_port number None h = refl
-no_port number (Some p) h = absurd (none-some _ (sym h))
+pub no_port : (fault : TopologyFault) (o : Option Port) → at_port fault o ≡ None → o ≡ None
+no_port fault None h = refl
+no_port fault (Some p) h = absurd (none-some _ (sym h))
 
-pub no_config : (number : ℕ) (o : Option ℕ) → at_config number o ≡ None → o ≡ None
-no_config number None h = refl
-no_config number (Some n) h = absurd (none-some _ (sym h))
+pub no_config : (fault : TopologyFault) (o : Option ℕ) → at_config fault o ≡ None → o ≡ None
+no_config fault None h = refl
+no_config fault (Some n) h = absurd (none-some _ (sym h))
 
 -- within a limit none is past it
 pub within : (limit count : ℕ) → past limit count ≡ None → count ≤ limit

@@ -2,58 +2,59 @@
 use Rattle.std.proofs.Common.{◌≡◌, ℕ, ◌≤◌, ◌++◌, List, [], ◌∷◌, Option, Some, None, length, map, refl, sym, ap, ◌∙◌, subst, slice_get, All, arith}
 use Rattle.std.proofs.lemmas.Option.{none-some}
 use Rattle.interface_model.specs.Records.{Router, IsRouter}
-use Rattle.lsdb_build.specs.declared.TopologyStop.{TopologyStop}
-use Rattle.lsdb_build.specs.declared.TopologyStop.TheVariants.{Refused, OutOfMemory}
+use Rattle.lsdb_build.specs.declared.stop.TopologyStop.{TopologyStop}
+use Rattle.lsdb_build.specs.declared.stop.TopologyStop.TheVariants.{Refused, OutOfMemory}
 use Rattle.lsdb_build.specs.Neighbours.{Port, ports, linked, transit_subnets, shares_subnet}
 use Rattle.lsdb_build.specs.Graphs.{IsDatabase}
-use Rattle.lsdb_build.specs.Topology.{TopologyFault, is_second_of_router, is_second_of_address, is_mismatch, is_crowding, is_overlap, lacks_designated, first_where, at_port, at_config, past, second_of_name, first_some, topology_fault, places_from, Tells}
+use Rattle.lsdb_build.specs.Topology.{FaultyPlace, is_second_of_router, is_second_of_address, is_mismatch, is_crowding, is_overlap, lacks_designated, first_where, at_port, at_config, past, second_of_name, first_some, topology_fault, places_from, Tells}
 use Rattle.lsdb_build.specs.Checks.{link_among}
+use Rattle.lsdb_build.specs.declared.stop.TopologyFault.TheVariants.{TooMany, NameTwice, SameRouterTwice, AddressTwice, TypeMismatch, CrowdedLink, NoDesignated, OverlapPrefix}
 use Rattle.lsdb_build.proofs.Databases.{database_is, linked_length, transit_length}
 
 -- the checks that need no linked interface
-abbrev pub early : List Router → List Port → List (Option TopologyFault)
+abbrev pub early : List Router → List Port → List (Option FaultyPlace)
 early routers all =
-    at_port 17 (slice_get all 4000)
-    ∷ at_config 10 (second_of_name [] 0 routers)
-    ∷ at_port 14 (first_where is_second_of_router [] all)
-    ∷ at_port 11 (first_where is_second_of_address [] all)
-    ∷ at_port 12 (first_where is_mismatch [] all)
-    ∷ at_port 13 (first_where is_crowding [] all)
+    at_port TooMany (slice_get all 4000)
+    ∷ at_config NameTwice (second_of_name [] 0 routers)
+    ∷ at_port SameRouterTwice (first_where is_second_of_router [] all)
+    ∷ at_port AddressTwice (first_where is_second_of_address [] all)
+    ∷ at_port TypeMismatch (first_where is_mismatch [] all)
+    ∷ at_port CrowdedLink (first_where is_crowding [] all)
     ∷ []
 
-abbrev pub designated : List Port → List Port → Option TopologyFault
-designated all transit = at_port 15 (first_where (λ before p. lacks_designated all p) [] transit)
+abbrev pub designated : List Port → List Port → Option FaultyPlace
+designated all transit = at_port NoDesignated (first_where (λ before p. lacks_designated all p) [] transit)
 
-abbrev pub overlap : List Port → Option TopologyFault
-overlap all = at_port 16 (first_where is_overlap [] all)
+abbrev pub overlap : List Port → Option FaultyPlace
+overlap all = at_port OverlapPrefix (first_where is_overlap [] all)
 
 -- after checks without a fault the later ones decide
-first_some-append : (xs ys : List (Option TopologyFault)) → first_some xs ≡ None → first_some (xs ++ ys) ≡ first_some ys
+first_some-append : (xs ys : List (Option FaultyPlace)) → first_some xs ≡ None → first_some (xs ++ ys) ≡ first_some ys
 first_some-append [] ys h = refl
 first_some-append (None ∷ xs) ys h = first_some-append xs ys h
 first_some-append (Some fault ∷ xs) ys h = absurd (none-some fault (sym h))
 
-first_some-none : (f : Option TopologyFault) (more : List (Option TopologyFault)) → f ≡ None → first_some (f ∷ more) ≡ first_some more
+first_some-none : (f : Option FaultyPlace) (more : List (Option FaultyPlace)) → f ≡ None → first_some (f ∷ more) ≡ first_some more
 first_some-none None more h = refl
 first_some-none (Some fault) more h = absurd (none-some fault (sym h))
 
-first_some-some : (f : Option TopologyFault) (more : List (Option TopologyFault)) (fault : TopologyFault) → f ≡ Some fault → first_some (f ∷ more) ≡ Some fault
+first_some-some : (f : Option FaultyPlace) (more : List (Option FaultyPlace)) (fault : FaultyPlace) → f ≡ Some fault → first_some (f ∷ more) ≡ Some fault
 first_some-some None more fault h = absurd (none-some fault h)
 first_some-some (Some other) more fault h = h
 
-tells_first : (f : Option TopologyFault) (more : List (Option TopologyFault)) (stop : TopologyStop) → Tells f stop → Tells (first_some (f ∷ more)) stop
-tells_first f more (Refused number config line) h = first_some-some f more (record { number = number; config = config; line = line }) h
+tells_first : (f : Option FaultyPlace) (more : List (Option FaultyPlace)) (stop : TopologyStop) → Tells f stop → Tells (first_some (f ∷ more)) stop
+tells_first f more (Refused fault config line) h = first_some-some f more (record { fault = fault; config = config; line = line }) h
 tells_first f more OutOfMemory h = tt
 
 -- a topology whose early checks find no fault has the later ones'
-pub later_faults : (area : ℕ) (routers : List Router) → at_config 17 (past 1000 (length routers)) ≡ None → first_some (early routers (ports area routers)) ≡ None → topology_fault area routers ≡ first_some (designated (ports area routers) (transit_subnets (ports area routers)) ∷ overlap (ports area routers) ∷ [])
+pub later_faults : (area : ℕ) (routers : List Router) → at_config TooMany (past 1000 (length routers)) ≡ None → first_some (early routers (ports area routers)) ≡ None → topology_fault area routers ≡ first_some (designated (ports area routers) (transit_subnets (ports area routers)) ∷ overlap (ports area routers) ∷ [])
 later_faults area routers few none =
     let all = ports area routers in
     let later = designated all (transit_subnets all) ∷ overlap all ∷ [] in
-    first_some-none (at_config 17 (past 1000 (length routers))) (early routers all ++ later) few ∙ first_some-append (early routers all) later none
+    first_some-none (at_config TooMany (past 1000 (length routers))) (early routers all ++ later) few ∙ first_some-append (early routers all) later none
 
 -- the refusal at a transit subnet, at the ports and first members that the calls gave
-pub tells_designated : (area : ℕ) (routers : List Router) (early_ports all transit : List Port) (stop : TopologyStop) → at_config 17 (past 1000 (length routers)) ≡ None → early_ports ≡ ports area routers → first_some (early routers early_ports) ≡ None → all ≡ ports area routers → transit ≡ transit_subnets (ports area routers) → Tells (designated all transit) stop → Tells (topology_fault area routers) stop
+pub tells_designated : (area : ℕ) (routers : List Router) (early_ports all transit : List Port) (stop : TopologyStop) → at_config TooMany (past 1000 (length routers)) ≡ None → early_ports ≡ ports area routers → first_some (early routers early_ports) ≡ None → all ≡ ports area routers → transit ≡ transit_subnets (ports area routers) → Tells (designated all transit) stop → Tells (topology_fault area routers) stop
 tells_designated area routers early_ports all transit stop few early_is none all_is transit_is h =
     let found = ports area routers in
     subst (λ f. Tells f stop) (sym (later_faults area routers few (ap (λ ps. first_some (early routers ps)) (sym early_is) ∙ none)))
@@ -61,14 +62,14 @@ tells_designated area routers early_ports all transit stop few early_is none all
     (subst (λ f. Tells f stop) (ap (λ ps. designated ps transit) all_is ∙ ap (designated found) transit_is) h))
 
 -- the refusal of an overlap
-pub tells_overlap : (area : ℕ) (routers : List Router) (early_ports all transit others : List Port) (stop : TopologyStop) → at_config 17 (past 1000 (length routers)) ≡ None → early_ports ≡ ports area routers → first_some (early routers early_ports) ≡ None → all ≡ ports area routers → transit ≡ transit_subnets (ports area routers) → designated all transit ≡ None → others ≡ ports area routers → Tells (overlap others) stop → Tells (topology_fault area routers) stop
+pub tells_overlap : (area : ℕ) (routers : List Router) (early_ports all transit others : List Port) (stop : TopologyStop) → at_config TooMany (past 1000 (length routers)) ≡ None → early_ports ≡ ports area routers → first_some (early routers early_ports) ≡ None → all ≡ ports area routers → transit ≡ transit_subnets (ports area routers) → designated all transit ≡ None → others ≡ ports area routers → Tells (overlap others) stop → Tells (topology_fault area routers) stop
 tells_overlap area routers early_ports all transit others stop few early_is none all_is transit_is fine others_is h =
     let found = ports area routers in
     subst (λ f. Tells f stop) (sym (later_faults area routers few (ap (λ ps. first_some (early routers ps)) (sym early_is) ∙ none) ∙ first_some-none (designated found (transit_subnets found)) (overlap found ∷ []) (sym (ap (λ ps. designated ps transit) all_is ∙ ap (designated found) transit_is) ∙ fine)))
     (tells_first (overlap found) [] stop (subst (λ f. Tells f stop) (ap overlap others_is) h))
 
 -- no check finds a fault
-pub none_found : (area : ℕ) (routers : List Router) (early_ports all transit others : List Port) → at_config 17 (past 1000 (length routers)) ≡ None → early_ports ≡ ports area routers → first_some (early routers early_ports) ≡ None → all ≡ ports area routers → transit ≡ transit_subnets (ports area routers) → designated all transit ≡ None → others ≡ ports area routers → overlap others ≡ None → topology_fault area routers ≡ None
+pub none_found : (area : ℕ) (routers : List Router) (early_ports all transit others : List Port) → at_config TooMany (past 1000 (length routers)) ≡ None → early_ports ≡ ports area routers → first_some (early routers early_ports) ≡ None → all ≡ ports area routers → transit ≡ transit_subnets (ports area routers) → designated all transit ≡ None → others ≡ ports area routers → overlap others ≡ None → topology_fault area routers ≡ None
 none_found area routers early_ports all transit others few early_is none all_is transit_is fine others_is apart =
     let found = ports area routers in
     later_faults area routers few (ap (λ ps. first_some (early routers ps)) (sym early_is) ∙ none)

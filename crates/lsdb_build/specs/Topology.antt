@@ -9,14 +9,16 @@ use Rattle.interface_model.specs.Records.{Router}
 use Rattle.lsdb_build.specs.declared.Far.{Far}
 use Rattle.lsdb_build.specs.declared.Far.TheVariants.{Router as ToRouter, Subnet as ToSubnet}
 use Rattle.lsdb_build.specs.declared.Linked.{Linked}
-use Rattle.lsdb_build.specs.declared.TopologyStop.{TopologyStop}
-use Rattle.lsdb_build.specs.declared.TopologyStop.TheVariants.{Refused, OutOfMemory}
+use Rattle.lsdb_build.specs.declared.stop.TopologyStop.{TopologyStop}
+use Rattle.lsdb_build.specs.declared.stop.TopologyStop.TheVariants.{Refused, OutOfMemory}
 use Rattle.lsdb_build.specs.Neighbours.{Port, ports, shares_subnet, linked, transit_subnets, is_broadcast, place_from, is_other}
+use Rattle.lsdb_build.specs.declared.stop.TopologyFault.TheVariants.{TooMany, NameTwice, SameRouterTwice, AddressTwice, TypeMismatch, CrowdedLink, NoDesignated, OverlapPrefix}
+use Rattle.lsdb_build.specs.declared.stop.TopologyFault.{TopologyFault}
 use Rattle.lsdb_build.specs.Graphs.{Database}
 
--- a fault of a topology: its number, and the configuration and the line of its place
-pub record TopologyFault : Type 0 where
-  pub number : ℕ
+-- a fault of a topology, with the configuration and the line of its place
+pub record FaultyPlace : Type 0 where
+  pub fault : TopologyFault
   pub config : ℕ
   pub line : ℕ
 
@@ -62,13 +64,13 @@ abbrev pub first_where : (List Port → Port → Bool) → List Port → List Po
 first_where check before [] = None
 first_where check before (p ∷ more) = if check before p then Some p else first_where check (p ∷ before) more
 
-abbrev pub at_port : ℕ → Option Port → Option TopologyFault
-at_port number None = None
-at_port number (Some p) = Some (record { number = number; config = p.router; line = p.interface.line })
+abbrev pub at_port : TopologyFault → Option Port → Option FaultyPlace
+at_port fault None = None
+at_port fault (Some p) = Some (record { fault = fault; config = p.router; line = p.interface.line })
 
-abbrev pub at_config : ℕ → Option ℕ → Option TopologyFault
-at_config number None = None
-at_config number (Some config) = Some (record { number = number; config = config; line = 0 })
+abbrev pub at_config : TopologyFault → Option ℕ → Option FaultyPlace
+at_config fault None = None
+at_config fault (Some config) = Some (record { fault = fault; config = config; line = 0 })
 
 -- the first place past a limit of things
 abbrev pub past : ℕ → ℕ → Option ℕ
@@ -80,31 +82,31 @@ second_of_name before n [] = None
 second_of_name before n (r ∷ routers) =
     if list_any (same_bytes r.name) before then Some n else second_of_name (r.name ∷ before) (n + 1) routers
 
-abbrev pub first_some : List (Option TopologyFault) → Option TopologyFault
+abbrev pub first_some : List (Option FaultyPlace) → Option FaultyPlace
 first_some [] = None
 first_some (None ∷ more) = first_some more
 first_some (Some fault ∷ more) = Some fault
 
 -- the first fault of a topology, in the order of the checks
-abbrev pub topology_fault : ℕ → List Router → Option TopologyFault
+abbrev pub topology_fault : ℕ → List Router → Option FaultyPlace
 topology_fault area routers =
     let all = ports area routers in
     first_some (
-    at_config 17 (past 1000 (length routers))
-    ∷ at_port 17 (slice_get all 4000)
-    ∷ at_config 10 (second_of_name [] 0 routers)
-    ∷ at_port 14 (first_where is_second_of_router [] all)
-    ∷ at_port 11 (first_where is_second_of_address [] all)
-    ∷ at_port 12 (first_where is_mismatch [] all)
-    ∷ at_port 13 (first_where is_crowding [] all)
-    ∷ at_port 15 (first_where (λ before p. lacks_designated all p) [] (transit_subnets all))
-    ∷ at_port 16 (first_where is_overlap [] all)
+    at_config TooMany (past 1000 (length routers))
+    ∷ at_port TooMany (slice_get all 4000)
+    ∷ at_config NameTwice (second_of_name [] 0 routers)
+    ∷ at_port SameRouterTwice (first_where is_second_of_router [] all)
+    ∷ at_port AddressTwice (first_where is_second_of_address [] all)
+    ∷ at_port TypeMismatch (first_where is_mismatch [] all)
+    ∷ at_port CrowdedLink (first_where is_crowding [] all)
+    ∷ at_port NoDesignated (first_where (λ before p. lacks_designated all p) [] (transit_subnets all))
+    ∷ at_port OverlapPrefix (first_where is_overlap [] all)
     ∷ [])
 
 -- the refusal tells the fault; want of memory says nothing
-abbrev pub Tells : Option TopologyFault → TopologyStop → Type 0
-Tells fault (Refused number config line) = fault ≡ Some (record { number = number; config = config; line = line })
-Tells fault OutOfMemory = Unit {0}
+abbrev pub Tells : Option FaultyPlace → TopologyStop → Type 0
+Tells found (Refused fault config line) = found ≡ Some (record { fault = fault; config = config; line = line })
+Tells found OutOfMemory = Unit {0}
 
 abbrev pub router_at : List Port → Option ℕ → ℕ
 router_at links None = 0

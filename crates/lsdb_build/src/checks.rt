@@ -1,25 +1,26 @@
-ghost use Rattle.std.specs.Prelude.{◌≡◌, ◌<◌, ◌≤◌, ◌++◌, List, [], ◌∷◌, None, length, map, not, slice_get, IsTrue, MatchResult, IfOk};
+ghost use Rattle.std.specs.Prelude.{◌≡◌, ◌<◌, ◌≤◌, ◌++◌, List, [], ◌∷◌, None, length, map, count_by, not, slice_get, IsTrue, MatchResult, IfOk};
 ghost use Rattle.std.specs.List.{list_any};
 ghost use Rattle.cost_base.specs.Lists.{same_bytes};
-ghost use Rattle.lsdb_build.specs.Neighbours.{Port};
+ghost use Rattle.lsdb_build.specs.Neighbours.{Port, shares_subnet};
+ghost use Rattle.lsdb_build.specs.SubnetChecks.{fails, fault_of};
 ghost use Rattle.lsdb_build.specs.Tallies.{IsTally, same_subnet, same_trait, subnet_of, member_of, kind_on, rank_on};
 ghost use Rattle.lsdb_build.specs.Topology.{is_second_of_router, is_second_of_address, is_mismatch, is_crowding, lacks_designated, first_where, at_port, at_config, past, second_of_name, Tells};
+ghost use Rattle.lsdb_build.specs.declared.stop.TopologyFault.TheVariants.{TooMany, NameTwice, SameRouterTwice, AddressTwice, TypeMismatch, CrowdedLink, NoDesignated};
 
-use crate::TopologyStop;
-use crate::members::members_on;
 use crate::port::{Port, Subnet, is_broadcast, subnet_of};
 use crate::tally::Tally;
+use crate::{TopologyFault, TopologyStop};
 use cost_base::{Name, OutOfMemory};
 use indexmap::IndexSet;
 use interface_model::RouterConfig;
 use std::alloc::Global;
 
-/// The refusal with a number at a port.
-pub fn refusal_at(number: u8, port: &Port) -> TopologyStop
-    ensures { result ≡ TopologyStop.Refused number port.now.router port.now.interface.line }
+/// The refusal of a port.
+pub fn refusal_at(fault: TopologyFault, port: &Port) -> TopologyStop
+    ensures { result ≡ TopologyStop.Refused fault port.now.router port.now.interface.line }
 {
     TopologyStop::Refused {
-        number,
+        fault,
         config: port.router,
         line: port.interface.line,
     }
@@ -35,13 +36,13 @@ fn member_of(port: &Port) -> (u32, Subnet)
 /// Refuses the first port of which an earlier one is of the same router and on the same subnet.
 pub fn refuse_second_of_router(alloc: Global, ports: &[Port]) -> Result<(), TopologyStop>
     requires { length ports.now ≤ 4000 }
-    ensures { let fault = at_port 14 (first_where is_second_of_router [] ports.now) in
+    ensures { let fault = at_port SameRouterTwice (first_where is_second_of_router [] ports.now) in
         MatchResult result (λ _. fault ≡ None) (Tells fault) }
 {
     let mut seen = Tally::new(alloc);
     for port in ports {
         if seen.add(member_of(port))? > 0 {
-            return Err(refusal_at(14, port));
+            return Err(refusal_at(TopologyFault::SameRouterTwice, port));
         }
     }
     Ok(())
@@ -50,13 +51,13 @@ pub fn refuse_second_of_router(alloc: Global, ports: &[Port]) -> Result<(), Topo
 /// Refuses the first port of which an earlier one has the address.
 pub fn refuse_second_of_address(alloc: Global, ports: &[Port]) -> Result<(), TopologyStop>
     requires { length ports.now ≤ 4000 }
-    ensures { let fault = at_port 11 (first_where is_second_of_address [] ports.now) in
+    ensures { let fault = at_port AddressTwice (first_where is_second_of_address [] ports.now) in
         MatchResult result (λ _. fault ≡ None) (Tells fault) }
 {
     let mut seen = Tally::new(alloc);
     for port in ports {
         if seen.add(port.address)? > 0 {
-            return Err(refusal_at(11, port));
+            return Err(refusal_at(TopologyFault::AddressTwice, port));
         }
     }
     Ok(())
@@ -77,42 +78,67 @@ fn is_mismatch(seen: &Tally<(bool, Subnet)>, port: &Port) -> bool
     seen.count((!broadcast, subnet)) > 0
 }
 
-/// Refuses the first port of which an earlier one on the same subnet has another network kind.
-pub fn refuse_mismatch(alloc: Global, ports: &[Port]) -> Result<(), TopologyStop>
-    requires { length ports.now ≤ 4000 }
-    ensures { let fault = at_port 12 (first_where is_mismatch [] ports.now) in
-        MatchResult result (λ _. fault ≡ None) (Tells fault) }
+/// How many ports before stand on a port's subnet, of whichever kind.
+fn members_before(seen: &Tally<(bool, Subnet)>, port: &Port) -> u64
+    ensures { (before : List Port) → IsTally same_trait seen.now.counts (map kind_on before) → result ≡ count_by (λ q. shares_subnet q port.now) before }
 {
-    let mut seen = Tally::new(alloc);
-    for port in ports {
-        if is_mismatch(&seen, port) {
-            return Err(refusal_at(12, port));
-        }
-        seen.add(kind_on(port))?;
-    }
-    Ok(())
+    let subnet = subnet_of(port);
+    u64::from(seen.count((true, subnet))) + u64::from(seen.count((false, subnet)))
 }
 
 /// Whether two ports before are on the same point-to-point subnet.
-fn is_crowding(seen: &Tally<Subnet>, port: &Port) -> bool
-    ensures { (before : List Port) → IsTally same_subnet seen.now.counts (map subnet_of before) → result ≡ is_crowding before port.now }
+fn is_crowding(seen: &Tally<(bool, Subnet)>, port: &Port) -> bool
+    ensures { (before : List Port) → IsTally same_trait seen.now.counts (map kind_on before) → result ≡ is_crowding before port.now }
 {
-    let members = members_on(seen, port);
+    let members = members_before(seen, port);
     !is_broadcast(port) && members >= 2
 }
 
-/// Refuses the first port of which two earlier ones are on the same point-to-point subnet.
-pub fn refuse_crowding(alloc: Global, ports: &[Port]) -> Result<(), TopologyStop>
+/// A check of a port against those before it on its subnet.
+#[derive(Clone, Copy)]
+pub enum SubnetCheck {
+    /// None has another network kind.
+    Kinds,
+    /// A point-to-point subnet has at most two ends.
+    Ends,
+}
+
+/// Whether a port fails a check.
+fn fails(check: SubnetCheck, seen: &Tally<(bool, Subnet)>, port: &Port) -> bool
+    ensures { (before : List Port) → IsTally same_trait seen.now.counts (map kind_on before) → result ≡ fails check before port.now }
+{
+    match check {
+        SubnetCheck::Kinds => is_mismatch(seen, port),
+        SubnetCheck::Ends => is_crowding(seen, port),
+    }
+}
+
+/// The fault of a port that fails a check.
+fn fault_of(check: SubnetCheck) -> TopologyFault
+    ensures { result ≡ fault_of check }
+{
+    match check {
+        SubnetCheck::Kinds => TopologyFault::TypeMismatch,
+        SubnetCheck::Ends => TopologyFault::CrowdedLink,
+    }
+}
+
+/// Refuses the first port that fails a check against those before it on its subnet.
+pub fn refuse_on_subnet(
+    alloc: Global,
+    ports: &[Port],
+    check: SubnetCheck,
+) -> Result<(), TopologyStop>
     requires { length ports.now ≤ 4000 }
-    ensures { let fault = at_port 13 (first_where is_crowding [] ports.now) in
+    ensures { let fault = at_port (fault_of check) (first_where (fails check) [] ports.now) in
         MatchResult result (λ _. fault ≡ None) (Tells fault) }
 {
     let mut seen = Tally::new(alloc);
     for port in ports {
-        if is_crowding(&seen, port) {
-            return Err(refusal_at(13, port));
+        if fails(check, &seen, port) {
+            return Err(refusal_at(fault_of(check), port));
         }
-        seen.add(subnet_of(port))?;
+        seen.add(kind_on(port))?;
     }
     Ok(())
 }
@@ -150,13 +176,13 @@ pub fn refuse_undesignated(
     transit: &[Port],
 ) -> Result<(), TopologyStop>
     requires { length ports.now ≤ 4000 }
-    ensures { let fault = at_port 15 (first_where (λ before p. lacks_designated ports.now p) [] transit.now) in
+    ensures { let fault = at_port NoDesignated (first_where (λ before p. lacks_designated ports.now p) [] transit.now) in
         MatchResult result (λ _. fault ≡ None) (Tells fault) }
 {
     let ranks = count_ranks(alloc, ports)?;
     for port in transit {
         if lacks_designated(&ranks, port) {
-            return Err(refusal_at(15, port));
+            return Err(refusal_at(TopologyFault::NoDesignated, port));
         }
     }
     Ok(())
@@ -164,13 +190,13 @@ pub fn refuse_undesignated(
 
 /// Refuses more than 1,000 configurations.
 pub fn refuse_many_configs(configs: &[RouterConfig]) -> Result<(), TopologyStop>
-    ensures fault { let fault = at_config 17 (past 1000 (length configs.now)) in
+    ensures fault { let fault = at_config TooMany (past 1000 (length configs.now)) in
         MatchResult result (λ _. fault ≡ None) (Tells fault) }
     ensures few { MatchResult result (λ _. length configs.now ≤ 1000) (λ _. 1000 < length configs.now) }
 {
     if configs.len() > 1000 {
         return Err(TopologyStop::Refused {
-            number: 17,
+            fault: TopologyFault::TooMany,
             config: 1000,
             line: 0,
         });
@@ -180,12 +206,12 @@ pub fn refuse_many_configs(configs: &[RouterConfig]) -> Result<(), TopologyStop>
 
 /// Refuses more than 4,000 ports, at the first past them.
 pub fn refuse_many_ports(ports: &[Port]) -> Result<(), TopologyStop>
-    ensures fault { let fault = at_port 17 (slice_get ports.now 4000) in
+    ensures fault { let fault = at_port TooMany (slice_get ports.now 4000) in
         MatchResult result (λ _. fault ≡ None) (Tells fault) }
     ensures few { MatchResult result (λ _. length ports.now ≤ 4000) (λ _. 4000 < length ports.now) }
 {
     match ports.get(4000) {
-        Some(port) => Err(refusal_at(17, port)),
+        Some(port) => Err(refusal_at(TopologyFault::TooMany, port)),
         None => Ok(()),
     }
 }
@@ -201,14 +227,14 @@ fn see<'a>(seen: &mut IndexSet<&'a [u8]>, name: &'a Name) -> Result<bool, OutOfM
 /// Refuses the first configuration of which an earlier one has the name.
 pub fn refuse_second_name(alloc: Global, configs: &[RouterConfig]) -> Result<(), TopologyStop>
     requires { length configs.now ≤ 1000 }
-    ensures { let fault = at_config 10 (second_of_name [] 0 configs.now) in
+    ensures { let fault = at_config NameTwice (second_of_name [] 0 configs.now) in
         MatchResult result (λ _. fault ≡ None) (Tells fault) }
 {
     let mut seen = IndexSet::new(alloc);
     for (i, config) in configs.iter().enumerate() {
         if !see(&mut seen, &config.name)? {
             return Err(TopologyStop::Refused {
-                number: 10,
+                fault: TopologyFault::NameTwice,
                 config: i as u32,
                 line: 0,
             });

@@ -107,6 +107,10 @@ fn push_subnet_edges(
 /// and an edge out of each transit subnet to each member's router at price 0.
 ///
 /// There is one price for each link: a fixed one that isn't 0, or a variable's.
+///
+/// # Errors
+///
+/// `OutOfMemory` where memory runs out, and never else.
 pub fn graph_of(alloc: Global, lsdb: &Lsdb, prices: &[Price]) -> Result<Graph, OutOfMemory>
     requires one_each { length prices.now ≡ length lsdb.now.links }
     requires priced { All IsLinkPrice prices.now }

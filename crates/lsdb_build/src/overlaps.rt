@@ -5,11 +5,12 @@ ghost use Rattle.indexmap.specs.IndexMap.{get};
 ghost use Rattle.lsdb_build.specs.Tallies.{same_subnet, prefix_of};
 ghost use Rattle.lsdb_build.specs.Owners.{has_other, IsNoted, HasSubnet, HasPrefixes};
 ghost use Rattle.lsdb_build.specs.Topology.{holds, is_overlap, first_where, at_port, Tells};
+ghost use Rattle.lsdb_build.specs.declared.stop.TopologyFault.TheVariants.{OverlapPrefix};
 
-use crate::TopologyStop;
 use crate::checks::refusal_at;
 use crate::owners::Owners;
 use crate::port::{Port, Subnet, shares_subnet, subnet_of};
+use crate::{TopologyFault, TopologyStop};
 use cost_base::OutOfMemory;
 use interface_model::{contains, subnet};
 use std::alloc::Global;
@@ -86,14 +87,14 @@ fn may_overlap(seen: &Owners, enclosing: &Owners, port: &Port) -> bool
 /// router.
 pub fn refuse_overlap(alloc: Global, ports: &[Port]) -> Result<(), TopologyStop>
     requires { length ports.now ≤ 4000 }
-    ensures { let fault = at_port 16 (first_where is_overlap [] ports.now) in
+    ensures { let fault = at_port OverlapPrefix (first_where is_overlap [] ports.now) in
         MatchResult result (λ _. fault ≡ None) (Tells fault) }
 {
     let mut seen = Owners::new(alloc);
     let mut enclosing = Owners::new(alloc);
     for (i, port) in ports.iter().enumerate() {
         if may_overlap(&seen, &enclosing, port) && is_overlap(&ports[..i], port) {
-            return Err(refusal_at(16, port));
+            return Err(refusal_at(TopologyFault::OverlapPrefix, port));
         }
         seen.note(port.router, subnet_of(port))?;
         note_prefixes(&mut enclosing, port)?;

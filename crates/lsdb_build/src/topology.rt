@@ -3,9 +3,10 @@ ghost use Rattle.lsdb_build.specs.Neighbours.{shares_subnet};
 ghost use Rattle.lsdb_build.specs.Topology.{topology_fault, database_of, places_from, first_some, at_port, at_config, first_where, second_of_name, is_second_of_router, is_second_of_address, is_mismatch, is_crowding, Tells};
 ghost use Rattle.lsdb_build.specs.Graphs.{IsDatabase};
 ghost use Rattle.lsdb_build.specs.Checks.{link_among};
+ghost use Rattle.lsdb_build.specs.declared.stop.TopologyFault.TheVariants.{TooMany, NameTwice, SameRouterTwice, AddressTwice, TypeMismatch, CrowdedLink};
 
 use crate::checks::{
-    refuse_crowding, refuse_many_configs, refuse_many_ports, refuse_mismatch, refuse_second_name,
+    SubnetCheck, refuse_many_configs, refuse_many_ports, refuse_on_subnet, refuse_second_name,
     refuse_second_of_address, refuse_second_of_router, refuse_undesignated,
 };
 use crate::links::{linked_ports, links_of, names_of, subnets_of, transit_ports};
@@ -20,12 +21,12 @@ use std::alloc::Global;
 /// Refuses what the checks before the designated routers refuse.
 fn refuse_ports(alloc: Global, configs: &[RouterConfig], ports: &[Port]) -> Result<(), TopologyStop>
     requires { length configs.now ≤ 1000 }
-    ensures fault { let fault = first_some (at_port 17 (slice_get ports.now 4000)
-        ∷ at_config 10 (second_of_name [] 0 configs.now)
-        ∷ at_port 14 (first_where is_second_of_router [] ports.now)
-        ∷ at_port 11 (first_where is_second_of_address [] ports.now)
-        ∷ at_port 12 (first_where is_mismatch [] ports.now)
-        ∷ at_port 13 (first_where is_crowding [] ports.now)
+    ensures fault { let fault = first_some (at_port TooMany (slice_get ports.now 4000)
+        ∷ at_config NameTwice (second_of_name [] 0 configs.now)
+        ∷ at_port SameRouterTwice (first_where is_second_of_router [] ports.now)
+        ∷ at_port AddressTwice (first_where is_second_of_address [] ports.now)
+        ∷ at_port TypeMismatch (first_where is_mismatch [] ports.now)
+        ∷ at_port CrowdedLink (first_where is_crowding [] ports.now)
         ∷ []) in
         MatchResult result (λ _. fault ≡ None) (Tells fault) }
     ensures few { OnOk result (length ports.now ≤ 4000) }
@@ -34,8 +35,8 @@ fn refuse_ports(alloc: Global, configs: &[RouterConfig], ports: &[Port]) -> Resu
     refuse_second_name(alloc, configs)?;
     refuse_second_of_router(alloc, ports)?;
     refuse_second_of_address(alloc, ports)?;
-    refuse_mismatch(alloc, ports)?;
-    refuse_crowding(alloc, ports)?;
+    refuse_on_subnet(alloc, ports, SubnetCheck::Kinds)?;
+    refuse_on_subnet(alloc, ports, SubnetCheck::Ends)?;
     Ok(())
 }
 
@@ -72,10 +73,12 @@ fn assemble(
 
 /// The routers, links and transit subnets of an area, from the configurations of its routers in order.
 ///
-/// Refuses, in this order and at the first place: 17 too many configurations (more than 1,000) or active
-/// interfaces (more than 4,000); 10 a name twice; 14 a router twice on one subnet; 11 an address twice;
-/// 12 another network kind on one subnet; 13 a third interface on a point-to-point subnet; 15 a transit
-/// subnet whose members all have priority 0 (RFC 2328, 9.4); 16 overlapping subnets of two routers.
+/// # Errors
+///
+/// `Refused` with the first fault, in the order `TooMany`, `NameTwice`, `SameRouterTwice`, `AddressTwice`,
+/// `TypeMismatch`, `CrowdedLink`, `NoDesignated`, `OverlapPrefix`, and at its first place: the later configuration or
+/// interface; for `TooMany` the first past the limit; for `NoDesignated` the subnet's first member. `OutOfMemory` where
+/// memory runs out.
 pub fn build(alloc: Global, configs: &[RouterConfig], area: u32) -> Result<Lsdb, TopologyStop>
     ensures made { IfOk result (λ d. (topology_fault area configs.now ≡ None) × (d ≡ database_of area configs.now)) }
     ensures refused { IfErr result (Tells (topology_fault area configs.now)) }

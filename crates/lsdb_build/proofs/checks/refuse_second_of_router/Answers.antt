@@ -5,6 +5,7 @@ use Rattle.lsdb_build.specs.Topology.{first_where, is_second_of_router, at_port}
 use Rattle.lsdb_build.specs.Tallies.{same_member, member_of, count_of}
 use Rattle.lsdb_build.proofs.Firsts.{first_where-more}
 use Rattle.lsdb_build.proofs.Tallies.{tally_on, tally_few, router_counted}
+use Rattle.lsdb_build.specs.declared.stop.TopologyFault.TheVariants.{SameRouterTwice}
 use Rattle.lsdb_build.proofs.checks.refuse_second_of_router.Goals as goal
 
 pub add-requires : goal.add-requires
@@ -30,8 +31,8 @@ returns-then-branch-gt0 c =
     let before = reverse (take i ports) in
     let seen = c.loop-port.seen.counts in
     rw c.refusal_at.ensures
-    (ap (at_port 14) (c.loop-port.invariant.left ∙ first_where-more is_second_of_router ports i p c.loop-port-test.true c.port-item.is _ (sym (ap (nat_lt 0) (c.in_ok-add.ensures.before ∙ ap (count_of same_member seen) c.member_of.ensures) ∙ router_counted seen before p c.loop-port.invariant.seen) ∙ lt-ltb 0 c.in_ok-add.field-0 c.if-branch-gt0.true)))
+    (ap (at_port SameRouterTwice) (c.loop-port.invariant.left ∙ first_where-more is_second_of_router ports i p c.loop-port-test.true c.port-item.is _ (sym (ap (nat_lt 0) (c.in_ok-add.ensures.before ∙ ap (count_of same_member seen) c.member_of.ensures) ∙ router_counted seen before p c.loop-port.invariant.seen) ∙ lt-ltb 0 c.in_ok-add.field-0 c.if-branch-gt0.true)))
 
 pub returns : goal.returns
 returns c =
-    ap (at_port 14) (c.loop-port.invariant.left ∙ at_drop_all (first_where is_second_of_router (reverse (take c.loop-port.port-index c.args.ports.now))) c.args.ports.now c.loop-port.port-index c.loop-port-test.false)
+    ap (at_port SameRouterTwice) (c.loop-port.invariant.left ∙ at_drop_all (first_where is_second_of_router (reverse (take c.loop-port.port-index c.args.ports.now))) c.args.ports.now c.loop-port.port-index c.loop-port-test.false)

@@ -9,6 +9,7 @@ use Rattle.lsdb_build.specs.Owners.{IsNoted, HasSubnet, HasPrefixes}
 use Rattle.lsdb_build.specs.Topology.{first_where, is_overlap, at_port}
 use Rattle.lsdb_build.proofs.Firsts.{first_where-more, list_any-reverse, reverse_more}
 use Rattle.lsdb_build.proofs.overlaps.refuse_overlap.Goals as goal
+use Rattle.lsdb_build.specs.declared.stop.TopologyFault.TheVariants.{OverlapPrefix}
 use Rattle.lsdb_build.proofs.overlaps.refuse_overlap.Goals.{else-may_overlap-via-then-may_overlap+else-is_overlap, else-may_overlap-via-else-may_overlap}
 
 pub loop-i-preserved : goal.loop-i-preserved
@@ -40,8 +41,8 @@ returns-then-is_overlap c =
     let ports = c.args.ports.now in
     let i = c.loop-i.i in
     rw c.refusal_at.ensures
-    (ap (at_port 16) (c.loop-i.invariant.left ∙ first_where-more is_overlap ports i c.index-ports-i.result c.loop-i-test.true c.index-ports-i.is _ (list_any-reverse _ (take i ports) ∙ sym c.is_overlap.ensures ∙ c.if-is_overlap.true)))
+    (ap (at_port OverlapPrefix) (c.loop-i.invariant.left ∙ first_where-more is_overlap ports i c.index-ports-i.result c.loop-i-test.true c.index-ports-i.is _ (list_any-reverse _ (take i ports) ∙ sym c.is_overlap.ensures ∙ c.if-is_overlap.true)))
 
 pub returns : goal.returns
 returns c =
-    ap (at_port 16) (c.loop-i.invariant.left ∙ at_drop_all (first_where is_overlap (reverse (take c.loop-i.i c.args.ports.now))) c.args.ports.now c.loop-i.i c.loop-i-test.false)
+    ap (at_port OverlapPrefix) (c.loop-i.invariant.left ∙ at_drop_all (first_where is_overlap (reverse (take c.loop-i.i c.args.ports.now))) c.args.ports.now c.loop-i.i c.loop-i-test.false)
