@@ -14,8 +14,8 @@ use Rattle.text_lines.specs.declared.line_reader.LongLine.{LongLine as LongLineR
 use Rattle.text_lines.specs.Lines.{lines, words, kind_of, is_head, is_head_kind}
 use Rattle.text_lines.specs.declared.LineKind.{LineKind}
 use Rattle.text_lines.specs.declared.LineKind.TheVariants.{Blank, Comment, Head, Indented}
-use Rattle.config_reader.specs.declared.ConfigFault.{ConfigFault}
-use Rattle.config_reader.specs.declared.ConfigFault.TheVariants.{LongLine}
+use Rattle.config_reader.specs.declared.stop.ConfigFault.{ConfigFault}
+use Rattle.config_reader.specs.declared.stop.ConfigFault.TheVariants.{LongLine}
 use Rattle.config_reader.specs.Statements.{Statement, AddressIs, AreaIs, CostIs, KindIs, PriorityIs, PassiveIs, DownIs, RouterIdIs, NetworkIs, PassiveInterfaceIs, Refused, Unread, Block, OfOther, block_of, statement_in, head_statement, begin_with, word_at}
 use Rattle.config_reader.specs.Settings.{Said, said, said_at, said_by}
 use Rattle.config_reader.specs.Configs.{opened_at, with_line, name_opened}

@@ -22,8 +22,8 @@ use Rattle.config_reader.specs.Reading.{open_block}
 use Rattle.config_reader.proofs.Places.{same_bytes-refl}
 use Rattle.config_reader.proofs.SaidSteps.{said_after, said-push, opened_from}
 use Rattle.config_reader.proofs.SettingSteps.{about-push, said_where}
-use Rattle.config_reader.specs.declared.ConfigFault.{ConfigFault}
-use Rattle.config_reader.specs.declared.ConfigFault.TheVariants.{BadNumber}
+use Rattle.config_reader.specs.declared.stop.ConfigFault.{ConfigFault}
+use Rattle.config_reader.specs.declared.stop.ConfigFault.TheVariants.{BadNumber}
 use Rattle.interface_model.specs.declared.Kind.{Kind}
 use Rattle.config_reader.proofs.HeadSteps.{first_heads-push, heads_with, is_headed, unless_known}
 use Rattle.config_reader.proofs.PrintedLines.{lacks_end, all_lack_end}

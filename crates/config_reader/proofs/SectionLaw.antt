@@ -115,7 +115,7 @@ cost_words : (n : ℕ) → words (cost_line n) ≡ codes "ip" ∷ codes "ospf" �
 cost_words n = ap (λ ws. codes "ip" ∷ codes "ospf" ∷ codes "cost" ∷ ws) (words-word (decimal n) (decimal-word n))
 
 -- the head of a section's interface leaves what a file says
-after_name : (file_name : List ℕ) (file : List (List ℕ)) (name : List ℕ) → IsOneWord name → is_headed name (first_heads file) ≡ true →
+pub after_name : (file_name : List ℕ) (file : List (List ℕ)) (name : List ℕ) → IsOneWord name → is_headed name (first_heads file) ≡ true →
     (router_of file_name (file ++ name_line name ∷ []) ≡ router_of file_name file) × (first_heads (file ++ name_line name ∷ []) ≡ first_heads file)
 after_name file_name file name one known = (router_of-silent file_name file (name_line name) refl refl heads, heads)
   where
@@ -130,14 +130,14 @@ after_name file_name file name one known = (router_of-silent file_name file (nam
         opened = ap (λ ws. with_line (length file + 1) (name_opened (block_of (codes "interface" ∷ ws)))) (words-word name one)
 
 -- the block of a line behind a head of an interface
-block_behind : (file : List (List ℕ)) (name : List ℕ) → IsOneWord name → block_by_head (last_of (filter is_head (file ++ name_line name ∷ []))) ≡ OfInterface name
+pub block_behind : (file : List (List ℕ)) (name : List ℕ) → IsOneWord name → block_by_head (last_of (filter is_head (file ++ name_line name ∷ []))) ≡ OfInterface name
 block_behind file name one =
     ap (λ heads. block_by_head (last_of heads)) (filter-append is_head file (name_line name ∷ []))
     ∙ ap block_by_head (last_of-push (filter is_head file) (name_line name))
     ∙ ap (λ ws. block_of (codes "interface" ∷ ws)) (words-word name one)
 
 -- what a cost line says
-cost_said_there : (n : ℕ) → 1 ≤ n → n ≤ 65535 → interface_statement (words (cost_line n)) ≡ CostIs n
+pub cost_said_there : (n : ℕ) → 1 ≤ n → n ≤ 65535 → interface_statement (words (cost_line n)) ≡ CostIs n
 cost_said_there n from to =
     ap (λ ws. interface_statement (codes "ip" ∷ codes "ospf" ∷ codes "cost" ∷ ws)) (words-word (decimal n) (decimal-word n))
     ∙ ap (cost_statement true) (number-decimal n 65535 to (omega arith))
@@ -147,7 +147,7 @@ cost_said_there n from to =
     positive = let some : eqb n 0 ≡ false = ne_eqb n 0 (λ e. omega arith) in rw some
 
 -- a cost line behind the head of its interface sets the cost
-after_cost : (file_name : List ℕ) (file : List (List ℕ)) (name : List ℕ) (n : ℕ) → IsOneWord name → 1 ≤ n → n ≤ 65535 →
+pub after_cost : (file_name : List ℕ) (file : List (List ℕ)) (name : List ℕ) (n : ℕ) → IsOneWord name → 1 ≤ n → n ≤ 65535 →
     (router_of file_name ((file ++ name_line name ∷ []) ++ cost_line n ∷ []) ≡ with_costs ((name, n) ∷ []) (router_of file_name (file ++ name_line name ∷ [])))
     × (first_heads ((file ++ name_line name ∷ []) ++ cost_line n ∷ []) ≡ first_heads (file ++ name_line name ∷ []))
 after_cost file_name file name n one from to =
@@ -160,19 +160,19 @@ after_cost file_name file name n one from to =
     cost = ap (λ b. statement_in b (words (cost_line n))) (block_behind file name one) ∙ cost_said_there n from to
 
 -- `exit` leaves what a file says
-after_exit : (file_name : List ℕ) (file : List (List ℕ)) →
+pub after_exit : (file_name : List ℕ) (file : List (List ℕ)) →
     (router_of file_name (file ++ codes "exit" ∷ []) ≡ router_of file_name file) × (first_heads (file ++ codes "exit" ∷ []) ≡ first_heads file)
 after_exit file_name file = (router_of-silent file_name file (codes "exit") refl refl heads, heads)
   where
     heads : first_heads (file ++ codes "exit" ∷ []) ≡ first_heads file
     heads = first_heads-push file (codes "exit")
 
-three_more : {X : Type 0} (xs : List X) (a b c : X) → ((xs ++ a ∷ []) ++ b ∷ []) ++ c ∷ [] ≡ xs ++ (a ∷ b ∷ c ∷ [])
+pub three_more : {X : Type 0} (xs : List X) (a b c : X) → ((xs ++ a ∷ []) ++ b ∷ []) ++ c ∷ [] ≡ xs ++ (a ∷ b ∷ c ∷ [])
 three_more [] a b c = refl
 three_more (x ∷ xs) a b c = ap (λ ys. x ∷ ys) (three_more xs a b c)
 
 -- a file with the lines of one cost after it
-after_one : (file_name : List ℕ) (file : List (List ℕ)) (cost : List ℕ × ℕ) → IsSectionCost file cost →
+pub after_one : (file_name : List ℕ) (file : List (List ℕ)) (cost : List ℕ × ℕ) → IsSectionCost file cost →
     (router_of file_name (file ++ section_lines (cost ∷ [])) ≡ with_costs (cost ∷ []) (router_of file_name file)) × (first_heads (file ++ section_lines (cost ∷ [])) ≡ first_heads file)
 after_one file_name file cost fits =
     let known = is_headed-contains cost.0 (first_heads file) fits.headed in
@@ -186,7 +186,7 @@ after_one file_name file cost fits =
 with_costs-cons : (cost : List ℕ × ℕ) (costs : List (List ℕ × ℕ)) (r : Router) → with_costs costs (with_costs (cost ∷ []) r) ≡ with_costs (cost ∷ costs) r
 with_costs-cons cost costs r = ap (λ (interfaces : List Interface). record r { interfaces = interfaces }) (map-map (with_cost costs) (with_cost (cost ∷ [])) r.interfaces)
 
-section_lines-cons : (file : List (List ℕ)) (cost : List ℕ × ℕ) (costs : List (List ℕ × ℕ)) → file ++ section_lines (cost ∷ costs) ≡ (file ++ section_lines (cost ∷ [])) ++ section_lines costs
+pub section_lines-cons : (file : List (List ℕ)) (cost : List ℕ × ℕ) (costs : List (List ℕ × ℕ)) → file ++ section_lines (cost ∷ costs) ≡ (file ++ section_lines (cost ∷ [])) ++ section_lines costs
 section_lines-cons file cost costs = sym (append_assoc file (section_lines (cost ∷ [])) (section_lines costs))
 
 -- a file with the lines of a section after it
@@ -219,13 +219,16 @@ section_lacks_end file (cost ∷ costs) fits =
     let rest = section_lacks_end file costs (All-tail (IsSectionCost file) cost costs fits) in
     rw (name, number, rest)
 
+-- the lines of a text with a section after it
+pub lines-section : (bytes : List ℕ) (costs : List (List ℕ × ℕ)) → All (IsSectionCost (lines bytes)) costs → lines (ended bytes ++ with_ends (section_lines costs)) ≡ lines bytes ++ section_lines costs
+lines-section bytes costs fits =
+    lines-ended bytes (with_ends (section_lines costs)) ∙ ap (λ more. lines bytes ++ more) (lines-with_ends (section_lines costs) (section_lacks_end (lines bytes) costs fits))
+
 -- a configuration with a section after it says the same, but for the costs of the section
 pub config_of-section : (file_name bytes : List ℕ) (costs : List (List ℕ × ℕ)) → All (IsSectionCost (lines bytes)) costs →
     config_of file_name (ended bytes ++ with_ends (section_lines costs)) ≡ with_costs costs (config_of file_name bytes)
 config_of-section file_name bytes costs fits =
-    let read : lines (ended bytes ++ with_ends (section_lines costs)) ≡ lines bytes ++ section_lines costs =
-    lines-ended bytes (with_ends (section_lines costs)) ∙ ap (λ more. lines bytes ++ more) (lines-with_ends (section_lines costs) (section_lacks_end (lines bytes) costs fits)) in
     config_of-lines file_name (ended bytes ++ with_ends (section_lines costs))
-    ∙ ap (router_of file_name) read
+    ∙ ap (router_of file_name) (lines-section bytes costs fits)
     ∙ router_of-section file_name (lines bytes) costs fits
     ∙ ap (with_costs costs) (sym (config_of-lines file_name bytes))

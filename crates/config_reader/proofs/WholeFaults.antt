@@ -11,8 +11,8 @@ use Rattle.text_lines.specs.Lines.{kind_of, words, block_at}
 use Rattle.text_lines.specs.Numbers.{Prefix}
 use Rattle.text_lines.specs.declared.LineKind.{LineKind}
 use Rattle.text_lines.specs.declared.LineKind.TheVariants.{Blank, Comment, Head, Indented}
-use Rattle.config_reader.specs.declared.ConfigFault.{ConfigFault}
-use Rattle.config_reader.specs.declared.ConfigFault.TheVariants.{SecondAddress, AreaTwice, BadName}
+use Rattle.config_reader.specs.declared.stop.ConfigFault.{ConfigFault}
+use Rattle.config_reader.specs.declared.stop.ConfigFault.TheVariants.{SecondAddress, AreaTwice, BadName}
 use Rattle.config_reader.specs.declared.drafts.Draft.{Draft}
 use Rattle.config_reader.specs.declared.networks.NetworkLine.{NetworkLine}
 use Rattle.config_reader.specs.Statements.{Statement, AddressIs, Block, OfInterface, OfOther, Unread}

@@ -4,10 +4,10 @@ use Rattle.std.specs.List.{flat_map, filter_map, list_any}
 use Rattle.cost_base.specs.Lists.{first_of, numbers_from}
 use Rattle.text_lines.specs.Lines.{lines}
 use Rattle.text_lines.specs.Numbers.{Prefix}
-use Rattle.config_reader.specs.declared.ConfigFault.{ConfigFault}
-use Rattle.config_reader.specs.declared.ConfigFault.TheVariants.{LongLine, SecondAddress, AreaTwice, BadName}
-use Rattle.config_reader.specs.declared.ConfigStop.{ConfigStop}
-use Rattle.config_reader.specs.declared.ConfigStop.TheVariants.{Refused as RefusedStop, OutOfMemory}
+use Rattle.config_reader.specs.declared.stop.ConfigFault.{ConfigFault}
+use Rattle.config_reader.specs.declared.stop.ConfigFault.TheVariants.{LongLine, SecondAddress, AreaTwice, BadName}
+use Rattle.config_reader.specs.declared.stop.ConfigStop.{ConfigStop}
+use Rattle.config_reader.specs.declared.stop.ConfigStop.TheVariants.{Refused as RefusedStop, OutOfMemory}
 use Rattle.config_reader.specs.Statements.{Statement, AddressIs, NetworkIs, Refused, Network, Block, OfInterface, OfRouter}
 use Rattle.config_reader.specs.Settings.{Said, said, said_at, about, setting, area_said, address_said, address_of, networks, matches}
 use Rattle.config_reader.specs.Configs.{first_heads}

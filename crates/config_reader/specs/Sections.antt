@@ -1,5 +1,5 @@
 -- A configuration with a printed section after it.
-use Rattle.std.specs.Prelude.{◌≡◌, ℕ, ◌≤◌, List, [], ◌∷◌, ◌++◌, ◌==◌, if◌then◌else◌, All, Contains, Option, Some, codes, map}
+use Rattle.std.specs.Prelude.{◌≡◌, ℕ, ◌≤◌, List, [], ◌∷◌, ◌++◌, ◌==◌, if◌then◌else◌, All, Contains, Option, Some, None, codes, map}
 use Rattle.std.specs.List.{concat, join_with_byte}
 use Rattle.cost_base.specs.Decimal.{decimal}
 use Rattle.cost_base.specs.Lists.{same_bytes}
@@ -8,6 +8,7 @@ use Rattle.text_lines.specs.Lines.{lines}
 use Rattle.interface_model.specs.declared.Interface.{Interface}
 use Rattle.interface_model.specs.Records.{Router}
 use Rattle.config_reader.specs.Configs.{first_heads, config_of}
+use Rattle.config_reader.specs.FaultList.{config_fault}
 
 -- the bytes, and an LF where the last line lacks one
 abbrev pub ended : List ℕ → List ℕ
@@ -47,8 +48,9 @@ pub record IsSectionCost (file : List (List ℕ)) (cost : List ℕ × ℕ) : Typ
   pub from : 1 ≤ cost.1
   pub to : cost.1 ≤ 65535
 
--- a configuration with a section after it says the same, but for the costs of the section
+-- a configuration with a section after it says the same, but for the costs of the section; and it is accepted where it was
 abbrev pub SectionsSetCosts : Type 0
 SectionsSetCosts =
     (file_name bytes : List ℕ) (costs : List (List ℕ × ℕ)) → All (IsSectionCost (lines bytes)) costs →
-    config_of file_name (ended bytes ++ with_ends (section_lines costs)) ≡ with_costs costs (config_of file_name bytes)
+    (config_of file_name (ended bytes ++ with_ends (section_lines costs)) ≡ with_costs costs (config_of file_name bytes))
+    × (config_fault file_name bytes ≡ None → config_fault file_name (ended bytes ++ with_ends (section_lines costs)) ≡ None)

@@ -1,5 +1,5 @@
 //! Names in the order in which they came first.
-ghost use Rattle.std.specs.Prelude.{◌≡◌, ◌∷◌, ◌++◌, [], not, position, is_some, if◌then◌else◌, IfOk};
+ghost use Rattle.std.specs.Prelude.{◌≡◌, ◌∷◌, ◌++◌, [], not, position, is_some, if◌then◌else◌, IfOk, OnErr};
 ghost use Rattle.std.specs.List.{list_any};
 ghost use Rattle.cost_base.specs.Lists.{same_bytes};
 
@@ -32,9 +32,10 @@ impl<'a> Names<'a> {
         }
     }
 
-    /// Adds a name, unless it is there; tells whether it is new.
+    /// Adds a name, unless it is there; tells whether it is new. The names stay as they were where there is no memory.
     pub fn add(&mut self, name: &'a [u8]) -> Result<bool, OutOfMemory>
         ensures new { IfOk result (λ new. new ≡ not (list_any (same_bytes name.now) self.old)) }
+        ensures kept { OnErr result (self.new ≡ self.old) }
         ensures names { IfOk result (λ new. self.new ≡ (if list_any (same_bytes name.now) self.old then self.old else self.old ++ name.now ∷ [])) }
     {
         let (_, new) = self.names.insert_full(name)?;

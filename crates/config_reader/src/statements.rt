@@ -75,7 +75,7 @@ pub(crate) fn same(first: &[u8], second: &[u8]) -> bool
 }
 
 /// Whether a line begins with these words.
-pub(crate) fn begins(text: &[u8], wanted: &[u8]) -> bool
+pub fn begins(text: &[u8], wanted: &[u8]) -> bool
     ensures { result ≡ begin_with (words wanted.now) (words text.now) }
 {
     let mut left = text;
@@ -93,7 +93,7 @@ pub(crate) fn begins(text: &[u8], wanted: &[u8]) -> bool
 }
 
 /// The word of a line at a place, counted from 0, or an empty one.
-pub(crate) fn word(text: &[u8], place: usize) -> &[u8]
+pub fn word(text: &[u8], place: usize) -> &[u8]
     ensures { result.now ≡ word_at (words text.now) place }
 {
     match word_at(text, place) {

@@ -15,37 +15,10 @@ use Rattle.config_reader.proofs.Places.{filter-numbers_more, last_of-push}
 use Rattle.config_reader.proofs.SaidSteps.{said_after, said-push, names_router, router_name-push}
 use Rattle.config_reader.proofs.SettingSteps.{about-push, about_router-push, said_where}
 use Rattle.config_reader.proofs.BlockFacts.{open_block-push, block_with}
+use Rattle.config_reader.proofs.FineLines.{block_by, statement_by, after_block, after_statement}
 use Rattle.config_writer.specs.Rewriting.{headed}
 use Rattle.config_writer.specs.Writing.{heads_after_line}
 use Rattle.config_writer.proofs.Steps.{headed-push, length_more}
-
--- the block and the statement of a line, by its kind and the open block
-abbrev pub block_by : LineKind → Block → Block
-block_by Indented block = block
-block_by _ block = OfOther
-
-abbrev pub statement_by : LineKind → Block → List (List ℕ) → Statement
-statement_by Indented block ws = statement_in block ws
-statement_by Head block ws = head_statement ws
-statement_by _ block ws = Unread
-
-pub after_block : (file : List (List ℕ)) (line : List ℕ) → (said_after file line).block ≡ block_by (kind_of line) (open_block file)
-after_block file line = cases (kind_of line)
-  where
-    cases : (kind : LineKind) → (said_by kind (length file + 1) (open_block file) (words line)).block ≡ block_by kind (open_block file)
-    cases Blank = refl
-    cases Comment = refl
-    cases Head = refl
-    cases Indented = refl
-
-pub after_statement : (file : List (List ℕ)) (line : List ℕ) → (said_after file line).statement ≡ statement_by (kind_of line) (open_block file) (words line)
-after_statement file line = cases (kind_of line)
-  where
-    cases : (kind : LineKind) → (said_by kind (length file + 1) (open_block file) (words line)).statement ≡ statement_by kind (open_block file) (words line)
-    cases Blank = refl
-    cases Comment = refl
-    cases Head = refl
-    cases Indented = refl
 
 -- what is said of an interface, and by router blocks, with one more line
 pub about-line : (file : List (List ℕ)) (line name : List ℕ) →

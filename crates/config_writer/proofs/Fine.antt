@@ -4,7 +4,7 @@ use Rattle.std.specs.List.{filter_map}
 use Rattle.std.proofs.lemmas.Bool.{le-leb}
 use Rattle.text_lines.specs.Lines.{words, kind_of}
 use Rattle.text_lines.proofs.Digits.{length-decimal-le}
-use Rattle.config_reader.specs.declared.ConfigFault.{ConfigFault}
+use Rattle.config_reader.specs.declared.stop.ConfigFault.{ConfigFault}
 use Rattle.config_reader.specs.Statements.{Statement, CostIs, Network, Block, OfInterface, statement_in}
 use Rattle.config_reader.specs.Settings.{said, networks, network_said}
 use Rattle.config_reader.specs.FaultList.{is_short, refused}
@@ -13,28 +13,13 @@ use Rattle.config_reader.specs.Sections.{cost_after}
 use Rattle.config_writer.specs.Rewriting.{is_replaced, cost_behind, cost_line}
 use Rattle.config_writer.proofs.NewLines.{lines_for, relined}
 use Rattle.config_writer.proofs.CostStatements.{cost_line-says}
-use Rattle.config_writer.proofs.Alike.{block_by, statement_by, SameRest}
+use Rattle.config_reader.proofs.FineLines.{block_by, statement_by, LineFine, AllFine, all_push}
+use Rattle.config_writer.proofs.Alike.{SameRest}
 use Rattle.config_writer.proofs.Recosted.{Alike, recosted, kept, opened, dropped, opened_here}
 
 module _ (second : Block → Statement → Option ConfigFault) (twice : List Network → Block → Statement → Option ConfigFault) where
-  -- a line without faults behind others, by tests of second addresses and of second areas
-  pub record LineFine (front : List (List ℕ)) (line : List ℕ) : Type 0 where
-    pub short : is_short line ≡ true
-    pub own : refused (statement_by (kind_of line) (open_block front) (words line)) ≡ None
-    pub address : second (block_by (kind_of line) (open_block front)) (statement_by (kind_of line) (open_block front) (words line)) ≡ None
-    pub area : twice (networks (said front)) (block_by (kind_of line) (open_block front)) (statement_by (kind_of line) (open_block front) (words line)) ≡ None
-
-  abbrev pub AllFine : List (List ℕ) → List (List ℕ) → Type 0
-  AllFine front [] = Unit {0}
-  AllFine front (line ∷ rest) = LineFine front line × AllFine (front ++ line ∷ []) rest
-
-  -- one more line without faults
-  all_push : (front rest : List (List ℕ)) (line : List ℕ) → AllFine front rest → LineFine (front ++ rest) line → AllFine front (rest ++ line ∷ [])
-  all_push front [] line all fine = (subst (λ file. LineFine file line) (append-nil front) fine, tt)
-  all_push front (x ∷ rest) line all fine = (all.0, all_push (front ++ x ∷ []) rest line all.1 (subst (λ file. LineFine file line) (sym (append_assoc front (x ∷ []) rest)) fine))
-
   -- a line without faults stays so
-  fine_moved : (file_name : List ℕ) (old new : List (List ℕ)) (line : List ℕ) → SameRest file_name old new → LineFine old line → LineFine new line
+  fine_moved : (file_name : List ℕ) (old new : List (List ℕ)) (line : List ℕ) → SameRest file_name old new → LineFine second twice old line → LineFine second twice new line
   fine_moved file_name old new line same fine = record {
     short = fine.short;
     own = ap (λ block. refused (statement_by (kind_of line) block (words line))) same.block ∙ fine.own;
@@ -47,7 +32,7 @@ module _ (second : Block → Statement → Option ConfigFault) (twice : List Net
 
   module _ (quiet_second : (h : List ℕ) (n : ℕ) → second (OfInterface h) (CostIs n) ≡ None) (quiet_twice : (ns : List Network) (h : List ℕ) (n : ℕ) → twice ns (OfInterface h) (CostIs n) ≡ None) where
     -- a new cost line has no fault
-    cost_fine : (front : List (List ℕ)) (h : List ℕ) (n : ℕ) → open_block front ≡ OfInterface h → 1 ≤ n → n ≤ 65535 → LineFine front (cost_line n)
+    cost_fine : (front : List (List ℕ)) (h : List ℕ) (n : ℕ) → open_block front ≡ OfInterface h → 1 ≤ n → n ≤ 65535 → LineFine second twice front (cost_line n)
     cost_fine front h n here from to = record {
       short = le-leb (length (cost_line n)) 4096 (omega (arith, length-decimal-le 5 n (omega arith) (omega arith)));
       own = ap (λ block. refused (statement_in block (words (cost_line n)))) here ∙ ap refused (cost_line-says n from to);
@@ -62,13 +47,13 @@ module _ (second : Block → Statement → Option ConfigFault) (twice : List Net
       -- lines and those that stand for them say the same but for the costs, and none of these has a fault
       pub record Walked (old new : List (List ℕ)) : Type 0 where
         pub alike : Alike costs file_name old new
-        pub fine : AllFine [] new
+        pub fine : AllFine second twice [] new
 
-      step : (old new : List (List ℕ)) (line : List ℕ) → Walked old new → LineFine old line → Walked (old ++ line ∷ []) (new ++ lines_for (is_replaced costs old line) (cost_behind costs old line) line)
+      step : (old new : List (List ℕ)) (line : List ℕ) → Walked old new → LineFine second twice old line → Walked (old ++ line ∷ []) (new ++ lines_for (is_replaced costs old line) (cost_behind costs old line) line)
       step old new line walked fine = cases (is_replaced costs old line) (cost_behind costs old line) refl refl
         where
-          both : AllFine [] (new ++ line ∷ [])
-          both = all_push [] new line walked.fine (fine_moved file_name old new line walked.alike.rest fine)
+          both : AllFine second twice [] (new ++ line ∷ [])
+          both = all_push second twice [] new line walked.fine (fine_moved file_name old new line walked.alike.rest fine)
 
           cases : (r : Bool) (o : Option ℕ) → is_replaced costs old line ≡ r → cost_behind costs old line ≡ o → Walked (old ++ line ∷ []) (new ++ lines_for r o line)
           cases true o out behind = subst (λ ls. Walked (old ++ line ∷ []) ls) (sym (append-nil new)) (record { alike = dropped costs file_name old new line walked.alike out fine.own; fine = walked.fine })
@@ -79,10 +64,10 @@ module _ (second : Block → Statement → Option ConfigFault) (twice : List Net
               subst (λ ls. Walked (old ++ line ∷ []) ls) (append_assoc new (line ∷ []) (cost_line n ∷ []))
               (record {
                 alike = opened costs file_name old new line n walked.alike behind within.0 within.1;
-                fine = all_push [] (new ++ line ∷ []) (cost_line n) both (cost_fine (new ++ line ∷ []) here.0 n here.1 within.0 within.1);
+                fine = all_push second twice [] (new ++ line ∷ []) (cost_line n) both (cost_fine (new ++ line ∷ []) here.0 n here.1 within.0 within.1);
               })
 
-      walk : (rest old new : List (List ℕ)) → Walked old new → AllFine old rest → Walked (old ++ rest) (new ++ relined costs old rest)
+      walk : (rest old new : List (List ℕ)) → Walked old new → AllFine second twice old rest → Walked (old ++ rest) (new ++ relined costs old rest)
       walk [] old new walked all = subst (λ ls. Walked ls (new ++ [])) (sym (append-nil old)) (subst (λ ls. Walked old ls) (sym (append-nil new)) walked)
       walk (line ∷ rest) old new walked all =
           let next = walk rest (old ++ line ∷ []) (new ++ lines_for (is_replaced costs old line) (cost_behind costs old line) line) (step old new line walked all.0) all.1 in
@@ -97,5 +82,5 @@ module _ (second : Block → Statement → Option ConfigFault) (twice : List Net
           none (Some n) = refl
 
       -- a whole file
-      pub walked : (file : List (List ℕ)) → AllFine [] file → Walked file (relined costs [] file)
+      pub walked : (file : List (List ℕ)) → AllFine second twice [] file → Walked file (relined costs [] file)
       walked file all = walk file [] [] nothing all

@@ -6,5 +6,4 @@ pub mod CostStatements
 pub mod Alike
 pub mod Recosted
 pub mod Fine
-pub mod FaultPlaces
 pub mod ReadingBack

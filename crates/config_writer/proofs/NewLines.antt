@@ -12,6 +12,7 @@ use Rattle.text_lines.proofs.LineLaws.{lines-cons, lines-one, lines-some}
 use Rattle.config_reader.proofs.PrintedLines.{lacks_end, word_lacks_end, decimal-word}
 use Rattle.config_writer.specs.Rewriting.{is_replaced, cost_behind, cost_line, whole_lines, written_for, written_at, rewritten}
 use Rattle.config_writer.proofs.WholeLines.{IsCut, whole_first, ended-line}
+use Rattle.config_reader.proofs.FaultlessFiles.{one_more}
 use Rattle.config_writer.proofs.Steps.{written_here}
 
 -- the lines that stand for a line
@@ -119,10 +120,6 @@ lines-written_for false (Some n) bytes line end left more cut done =
     ∙ ap lines (two_lines line (cost_line n) more)
     ∙ lines-cons line (cost_line n ++ 10 ∷ more) cut.one
     ∙ ap (λ ls. line ∷ ls) (lines-cons (cost_line n) more (cost_line-one n))
-
--- one more line
-pub one_more : (xs : List (List ℕ)) (x : List ℕ) → length (xs ++ x ∷ []) ≡ length xs + 1
-one_more xs x = length-append xs (x ∷ [])
 
 lines-written_from : (costs : List (List ℕ × ℕ)) (bytes : List ℕ) (front fronts ls : List (List ℕ)) (left : List ℕ) →
     lines left ≡ ls → lines bytes ≡ front ++ ls → whole_lines bytes ≡ fronts ++ whole_lines left → length fronts ≡ length front →

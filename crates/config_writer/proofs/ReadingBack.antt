@@ -11,8 +11,8 @@ use Rattle.text_lines.specs.Lines.{lines, words, is_head}
 use Rattle.text_lines.specs.Numbers.{Prefix}
 use Rattle.interface_model.specs.declared.Interface.{Interface}
 use Rattle.interface_model.specs.Records.{Router}
-use Rattle.config_reader.specs.declared.ConfigFault.{ConfigFault}
-use Rattle.config_reader.specs.declared.ConfigFault.TheVariants.{SecondAddress, AreaTwice}
+use Rattle.config_reader.specs.declared.stop.ConfigFault.{ConfigFault}
+use Rattle.config_reader.specs.declared.stop.ConfigFault.TheVariants.{SecondAddress, AreaTwice}
 use Rattle.config_reader.specs.Statements.{Statement, AddressIs, CostIs, NetworkIs, Network, Block, OfInterface, OfRouter, OfOther, block_of}
 use Rattle.config_reader.specs.Settings.{Said, said, about, about_router, setting, networks, network_said, address_said, area_said, cost_said, kind_said, passive_said, down_said, priority_said, address_of, router_id_said, interface_of, matches}
 use Rattle.config_reader.specs.Configs.{first_heads}
@@ -25,8 +25,9 @@ use Rattle.config_reader.proofs.FirstFaults.{first_filtered}
 use Rattle.config_writer.specs.Rewriting.{new_cost, headed, is_first_block, cost_behind, rewritten, unnumbered, without_numbers, ReadsBack}
 use Rattle.config_writer.proofs.NewLines.{relined, lines-rewritten}
 use Rattle.config_writer.proofs.Recosted.{Alike, recosted, sets_no_cost, is_known}
-use Rattle.config_writer.proofs.Fine.{AllFine, Walked, walked}
-use Rattle.config_writer.proofs.FaultPlaces.{Faultless, faultless, no_faults}
+use Rattle.config_writer.proofs.Fine.{Walked, walked}
+use Rattle.config_reader.proofs.FaultlessFiles.{Faultless, faultless, no_faults}
+use Rattle.config_reader.proofs.SameTests.{SameTests, faultless_so}
 
 -- statements that set no cost are the same
 unsaid : {X : Type 0} (pick : Statement → Option X) → ((n : ℕ) → pick (CostIs n) ≡ None) → (s : Statement) → sets_no_cost s ≡ false → pick s ≡ None
@@ -144,47 +145,17 @@ module _ (costs : List (List ℕ × ℕ)) (file_name : List ℕ) (old new : List
       ∙ map_known (λ name. interface_of (said new) name 0) (λ name. with_cost costs (interface_of (said old) name 0)) (headed old) (headed old) interface_same (all_known [] (headed old))
       ∙ sym (unnumbered_costs costs (said old) (first_heads old)))
 
-  -- the tests of second addresses and of second areas are the same
+  -- what the tests of second addresses and of second areas ask is the same
   picked : {X : Type 0} (pick : Statement → Option X) → ((n : ℕ) → pick (CostIs n) ≡ None) → (name : List ℕ) → filter_map pick (about (said new) name) ≡ filter_map pick (about (said old) name)
   picked pick quiet name = ap (filter_map pick) (alike.own name) ∙ pick_recosted pick quiet (cost_after costs name None) (is_known old name) (about (said old) name)
 
-  nets_same : networks (said new) ≡ networks (said old)
-  nets_same = ap (filter_map network_said) alike.rest.router
-
-  address_same : (name : List ℕ) → address_of (said new) name ≡ address_of (said old) name
-  address_same name = ap first_of (picked address_said (λ n. refl) name)
-
-  takes_same : (name : List ℕ) → takes_part (said new) name ≡ takes_part (said old) name
-  takes_same name =
-      ap (λ areas. takes areas (filter_map address_said (about (said new) name)) (networks (said new))) (picked area_said (λ n. refl) name)
-      ∙ ap (λ addresses. takes (filter_map area_said (about (said old) name)) addresses (networks (said new))) (picked address_said (λ n. refl) name)
-      ∙ ap (takes (filter_map area_said (about (said old) name)) (filter_map address_said (about (said old) name))) nets_same
-    where
-      takes : List ℕ → List Prefix → List Network → Bool
-      takes areas addresses nets = is_some (last_of areas) || list_any (λ p. list_any (matches p) nets) addresses
-
-  second_same : (block : Block) (s : Statement) → second_address (said old) block s ≡ second_address (said new) block s
-  second_same (OfInterface name) (AddressIs p) =
-      ap (λ a. cond (takes_part (said old) name && differs p a) (Some SecondAddress) None) (sym (address_same name))
-      ∙ ap (λ t. cond (t && differs p (address_of (said new) name)) (Some SecondAddress) None) (sym (takes_same name))
-  second_same _ _ = refl
-
-  twice_same : (earlier : List Network) (block : Block) (s : Statement) → area_twice (said old) (first_heads old) earlier block s ≡ area_twice (said new) (first_heads new) earlier block s
-  twice_same earlier OfRouter (NetworkIs n) =
-      ap (λ b. cond b (Some AreaTwice) None)
-      (any-map (other (said old)) (λ (head : List ℕ × ℕ). head.0) (first_heads old)
-      ∙ ap (list_any (other (said old))) (sym alike.rest.heads)
-      ∙ ap (λ (f : List ℕ → Bool). list_any f (headed new)) (λ i name. sym (other_same name) i)
-      ∙ sym (any-map (other (said new)) (λ (head : List ℕ × ℕ). head.0) (first_heads new)))
-    where
-      other : List Said → List ℕ → Bool
-      other all name = is_other_area earlier n (address_by_networks (setting area_said (about all name)) (address_of all name))
-
-      other_same : (name : List ℕ) → other (said new) name ≡ other (said old) name
-      other_same name =
-          ap (λ areas. is_other_area earlier n (address_by_networks (last_of areas) (address_of (said new) name))) (picked area_said (λ k. refl) name)
-          ∙ ap (λ a. is_other_area earlier n (address_by_networks (setting area_said (about (said old) name)) a)) (address_same name)
-  twice_same earlier _ _ = refl
+  same_tests : SameTests old new
+  same_tests = record {
+    addresses = picked address_said (λ n. refl);
+    areas = picked area_said (λ n. refl);
+    router = alike.rest.router;
+    heads = alike.rest.heads;
+  }
 
 -- a cost that is given is one of the costs
 cost_within : (costs : List (List ℕ × ℕ)) → All (λ cost. (1 ≤ cost.1) × (cost.1 ≤ 65535)) costs → (name : List ℕ) (before : Option ℕ) (n : ℕ) →
@@ -209,7 +180,7 @@ behind_within costs within old line n behind = by_test (is_head line && is_first
 -- a rewritten configuration has no fault, and the records of the old one with the new costs
 pub reads_back : (file_name bytes : List ℕ) (costs : List (List ℕ × ℕ)) → config_fault file_name bytes ≡ None → All (λ cost. (1 ≤ cost.1) × (cost.1 ≤ 65535)) costs → ReadsBack file_name costs bytes (rewritten costs bytes)
 reads_back file_name bytes costs accepted within = record {
-  accepted = ap (λ file. first_of (faults file_name file)) (lines-rewritten costs bytes) ∙ no_faults file_name (relined costs [] (lines bytes)) (record { fine = fine; name = ap is_router_name walk.alike.rest.name ∙ before.name });
+  accepted = ap (λ file. first_of (faults file_name file)) (lines-rewritten costs bytes) ∙ no_faults file_name (relined costs [] (lines bytes)) (faultless_so file_name (lines bytes) (relined costs [] (lines bytes)) (same_tests costs file_name (lines bytes) (relined costs [] (lines bytes)) walk.alike) walk.fine (ap is_router_name walk.alike.rest.name ∙ before.name));
   records = ap (λ file. without_numbers (router_on file_name file)) (lines-rewritten costs bytes) ∙ records_same costs file_name (lines bytes) (relined costs [] (lines bytes)) walk.alike;
 }
   where
@@ -224,14 +195,6 @@ reads_back file_name bytes costs accepted within = record {
 
     walk : Walked second twice (λ h n. refl) (λ ns h n. refl) costs file_name (behind_within costs within) (lines bytes) (relined costs [] (lines bytes))
     walk = walked second twice (λ h n. refl) (λ ns h n. refl) costs file_name (behind_within costs within) (lines bytes) before.fine
-
-    new : List (List ℕ)
-    new = relined costs [] (lines bytes)
-
-    fine : AllFine (second_address (said new)) (area_twice (said new) (first_heads new)) [] new
-    fine =
-        subst (λ f. AllFine f (area_twice (said new) (first_heads new)) [] new) (λ i block s. second_same costs file_name (lines bytes) new walk.alike block s i)
-        (subst (λ f. AllFine second f [] new) (λ i earlier block s. twice_same costs file_name (lines bytes) new walk.alike earlier block s i) walk.fine)
 
 -- two facts on a value that came out well give a third
 pub ok_both : {T E : Type 0} (r : Result T E) {P Q R : T → Type 0} → IfOk r P → IfOk r Q → ((x : T) → P x → Q x → R x) → IfOk r R

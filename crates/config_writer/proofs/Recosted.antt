@@ -22,7 +22,8 @@ use Rattle.config_writer.specs.Rewriting.{new_cost, headed, is_replaced, is_inde
 use Rattle.config_writer.specs.Writing.{heads_with, heads_after_line}
 use Rattle.config_writer.proofs.Steps.{headed-push}
 use Rattle.config_writer.proofs.CostStatements.{sets_cost, sets_none, cost_line-says}
-use Rattle.config_writer.proofs.Alike.{block_by, statement_by, about-line, SameRest, rest_kept, rest_indented, rest_trans, rest_sym}
+use Rattle.config_reader.proofs.FineLines.{block_by, statement_by}
+use Rattle.config_writer.proofs.Alike.{about-line, SameRest, rest_kept, rest_indented, rest_trans, rest_sym}
 
 abbrev pub sets_no_cost : Statement → Bool
 sets_no_cost s = not (is_some (cost_said s))

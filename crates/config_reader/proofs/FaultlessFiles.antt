@@ -7,8 +7,8 @@ use Rattle.std.proofs.lemmas.List.{get_or_at, take_at, length-map}
 use Rattle.std.proofs.lemmas.List.Elements.{All-nil, All-cons, All-head, All-tail}
 use Rattle.cost_base.specs.Lists.{numbers_from, first_of}
 use Rattle.text_lines.specs.Lines.{words, kind_of}
-use Rattle.config_reader.specs.declared.ConfigFault.{ConfigFault}
-use Rattle.config_reader.specs.declared.ConfigFault.TheVariants.{LongLine, BadName}
+use Rattle.config_reader.specs.declared.stop.ConfigFault.{ConfigFault}
+use Rattle.config_reader.specs.declared.stop.ConfigFault.TheVariants.{LongLine, BadName}
 use Rattle.config_reader.specs.Statements.{Statement, Block, Network}
 use Rattle.config_reader.specs.Settings.{Said, said, said_at, networks}
 use Rattle.config_reader.specs.Configs.{first_heads}
@@ -19,9 +19,10 @@ use Rattle.config_reader.specs.Drafting.{earliest, name_fault, name_from}
 use Rattle.config_reader.specs.Hearing.{heard}
 use Rattle.config_reader.proofs.SaidSteps.{said_after, said-push, said_at-append, last_said}
 use Rattle.config_reader.proofs.WholeFaults.{faults_law, named_law}
-use Rattle.config_writer.proofs.NewLines.{one_more}
-use Rattle.config_writer.proofs.Alike.{block_by, statement_by, after_block, after_statement}
-use Rattle.config_writer.proofs.Fine.{AllFine}
+use Rattle.config_reader.proofs.FineLines.{block_by, statement_by, after_block, after_statement, AllFine}
+
+pub one_more : (xs : List (List ℕ)) (x : List ℕ) → length (xs ++ x ∷ []) ≡ length xs + 1
+one_more xs x = length-append xs (x ∷ [])
 
 -- five faults of a line, none of which comes
 five_none : (n : ℕ) (o p q r s : Option ConfigFault) → filter_map (at_line n) (o ∷ p ∷ q ∷ r ∷ s ∷ []) ≡ [] → (o ≡ None) × (p ≡ None) × (q ≡ None) × (r ≡ None) × (s ≡ None)
@@ -218,7 +219,7 @@ faultless file_name file none = record { fine = fine_from file_name file same fi
         ∙ ap (λ (p : List ℕ × ℕ). is_router_name p.0) (sym (named_law file_name file))
         ∙ name_by (is_router_name (name_from file_name (heard file).hostname).0) _ (later_none _ (name_fault (name_from file_name (heard file).hostname)) (faults_law file_name file ∙ none))
 
-short_all : (second : Block → Statement → Option ConfigFault) (twice : List Network → Block → Statement → Option ConfigFault) (rest front : List (List ℕ)) → AllFine second twice front rest → All (λ line. is_short line ≡ true) rest
+pub short_all : (second : Block → Statement → Option ConfigFault) (twice : List Network → Block → Statement → Option ConfigFault) (rest front : List (List ℕ)) → AllFine second twice front rest → All (λ line. is_short line ≡ true) rest
 short_all second twice [] front all = All-nil (λ l. is_short l ≡ true)
 short_all second twice (line ∷ rest) front all = All-cons (λ l. is_short l ≡ true) line rest all.0.short (short_all second twice rest (front ++ line ∷ []) all.1)
 
