@@ -1,5 +1,5 @@
 -- What the ports of routers keep, and what a topology without a fault tells.
-use Rattle.std.proofs.Common.{◌≡◌, ◌≢◌, ℕ, zero, suc, ◌+◌, ◌<◌, ◌≤◌, inl, inr, Bool, true, false, cond, ◌&&◌, not, eqb, eq-eqb, ltb, nat_le, List, [], ◌∷◌, Option, Some, None, length, map, refl, sym, ap, ◌∙◌, arith, slice_get, All, AllPairs}
+use Rattle.std.proofs.Common.{◌≡◌, ◌≢◌, ℕ, zero, suc, ◌+◌, ◌<◌, ◌≤◌, inl, inr, Bool, true, false, cond, ◌&&◌, eqb, eq-eqb, ltb, nat_le, List, [], ◌∷◌, Option, Some, None, length, map, refl, sym, ap, ◌∙◌, arith, slice_get, All, AllPairs}
 use Rattle.std.specs.List.{list_any}
 use Rattle.std.proofs.lemmas.Bool.{false≢true, or_parts, cases_Bool, ltb-false, and_from}
 use Rattle.std.proofs.lemmas.Option.{none-some}
@@ -8,7 +8,7 @@ use Rattle.std.proofs.lemmas.List.Kept.{AllPairs-cons}
 use Rattle.cost_base.specs.Lists.{same_bytes}
 use Rattle.interface_model.specs.declared.Interface.{Interface}
 use Rattle.interface_model.specs.Records.{Router, IsInterface, IsRouter}
-use Rattle.interface_model.specs.Addresses.{is_active}
+use Rattle.interface_model.specs.Addresses.{takes_part}
 use Rattle.lsdb_build.specs.declared.stop.TopologyFault.{TopologyFault}
 use Rattle.lsdb_build.specs.Neighbours.{Port, port_of, ports_of, ports_from}
 use Rattle.lsdb_build.specs.Topology.{FaultyPlace, first_some, at_port, at_config, past, second_of_name}
@@ -28,7 +28,7 @@ pub record InOrder (a b : Port) : Type 0 where
 -- what holds of the port of an interface
 port_all : (P : Port → Type 0) (area n : ℕ) (i : Interface) (address : Option ℕ) → ((a : ℕ) → P (record { router = n; interface = i; address = a })) → All P (port_of area n i address)
 port_all P area n i None each = All-nil P
-port_all P area n i (Some a) each = by_test (is_active i area && nat_le i.length 31)
+port_all P area n i (Some a) each = by_test (takes_part i area && nat_le i.length 31)
   where
     by_test : (b : Bool) → All P (cond b (record { router = n; interface = i; address = a } ∷ []) [])
     by_test true = All-cons P (record { router = n; interface = i; address = a }) [] (each a) (All-nil P)
@@ -37,7 +37,7 @@ port_all P area n i (Some a) each = by_test (is_active i area && nat_le i.length
 -- an interface has at most one port
 port_pairs : (R : Port → Port → Type 0) (area n : ℕ) (i : Interface) (address : Option ℕ) → AllPairs R (port_of area n i address)
 port_pairs R area n i None = pairs_nil R
-port_pairs R area n i (Some a) = by_test (is_active i area && nat_le i.length 31)
+port_pairs R area n i (Some a) = by_test (takes_part i area && nat_le i.length 31)
   where
     by_test : (b : Bool) → AllPairs R (cond b (record { router = n; interface = i; address = a } ∷ []) [])
     by_test true = AllPairs-cons R (record { router = n; interface = i; address = a }) [] (All-nil (R (record { router = n; interface = i; address = a }))) (pairs_nil R)

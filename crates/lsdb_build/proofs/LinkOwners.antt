@@ -1,11 +1,11 @@
 -- Each link of an area's database is an interface of its router's configuration.
 use Rattle.std.proofs.Common.{◌≡◌, ℕ, suc, ◌+◌, refl, sym, ◌∙◌, ap, List, [], ◌∷◌, map, arith, Bool, true, false, cond, Option, Some, None}
-use Rattle.std.specs.Prelude.{All, Contains, slice_get, not, ◌&&◌, nat_le}
+use Rattle.std.specs.Prelude.{All, Contains, slice_get, ◌&&◌, nat_le}
 use Rattle.std.proofs.lemmas.List.Elements.{All-nil, All-cons, All-append, All-weaker, All-filter, All-map}
 use Rattle.interface_model.specs.declared.Interface.{Interface}
 use Rattle.interface_model.specs.Records.{Router}
 use Rattle.lsdb_build.specs.declared.Linked.{Linked}
-use Rattle.interface_model.specs.Addresses.{is_active}
+use Rattle.interface_model.specs.Addresses.{takes_part}
 use Rattle.lsdb_build.specs.Neighbours.{Port, port_of, ports_of, ports_from, ports, is_linked, linked}
 use Rattle.lsdb_build.specs.Topology.{link_of, database_of}
 
@@ -19,7 +19,7 @@ record IsPortAmong (n : ℕ) (interfaces : List Interface) (p : Port) : Type 0 w
 
 port_among : (area n : ℕ) (i : Interface) (address : Option ℕ) (more : List Interface) → All (IsPortAmong n (i ∷ more)) (port_of area n i address)
 port_among area n i None more = All-nil (IsPortAmong n (i ∷ more))
-port_among area n i (Some address) more = by_test (is_active i area && nat_le i.length 31)
+port_among area n i (Some address) more = by_test (takes_part i area && nat_le i.length 31)
   where
     by_test : (b : Bool) → All (IsPortAmong n (i ∷ more)) (cond b (record { router = n; interface = i; address = address } ∷ []) [])
     by_test true =

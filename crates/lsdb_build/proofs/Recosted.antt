@@ -16,7 +16,7 @@ use Rattle.interface_model.specs.Records.{Router}
 use Rattle.lsdb_build.specs.declared.Far.{Far}
 use Rattle.lsdb_build.specs.declared.Far.TheVariants.{Router as ToRouter, Subnet as ToSubnet}
 use Rattle.lsdb_build.specs.declared.Linked.{Linked}
-use Rattle.interface_model.specs.Addresses.{is_active}
+use Rattle.interface_model.specs.Addresses.{takes_part}
 use Rattle.lsdb_build.specs.Neighbours.{Port, port_of, ports_of, ports_from, ports, shares_subnet, is_linked_kind, is_linked, linked, is_broadcast, first_members, transit_subnets, place_from, is_other}
 use Rattle.lsdb_build.specs.Graphs.{Database, graph_at, far_vertex, link_edges, subnet_edges, router_of}
 use Rattle.lsdb_build.specs.Topology.{router_at, far_of, mate_of, link_of, places_from, database_of}
@@ -63,7 +63,7 @@ any_map_is test f (x ∷ xs) = ap (λ later. test (f x) || later) (any_map_is te
 
 port_is : (c : ℕ → List ℕ → Option ℕ → Option ℕ) (area n : ℕ) (i : Interface) (address : Option ℕ) → port_of area n (recosted_interface (c n) i) address ≡ map (recosted_port c) (port_of area n i address)
 port_is c area n i None = refl
-port_is c area n i (Some address) = by_test (is_active i area && nat_le i.length 31)
+port_is c area n i (Some address) = by_test (takes_part i area && nat_le i.length 31)
   where
     by_test : (b : Bool) → cond b (record { router = n; interface = recosted_interface (c n) i; address = address } ∷ []) [] ≡ map (recosted_port c) (cond b (record { router = n; interface = i; address = address } ∷ []) [])
     by_test true = refl

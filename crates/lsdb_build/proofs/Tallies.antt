@@ -136,3 +136,29 @@ designated_counted counts all p tally =
     by_priority zero false = refl
     by_priority (suc n) true = ap (λ b. not (beq b true && true)) (lt-ltb 0 (suc n) (omega arith)) ∙ sym (ne_eqb (suc n) 0 (λ h. omega arith))
     by_priority (suc n) false = ap (λ b. not (beq b true && false)) (lt-ltb 0 (suc n) (omega arith))
+
+-- those of either trait, counted together
+both_traits : {X : Type 0} (trait f : X → Bool) (xs : List X) → count_by (λ x. beq (trait x) true && f x) xs + count_by (λ x. beq (trait x) false && f x) xs ≡ count_by f xs
+both_traits trait f [] = refl
+both_traits trait f (x ∷ xs) =
+    let yes_more = count_by-cons (λ y. beq (trait y) true && f y) x xs in
+    let no_more = count_by-cons (λ y. beq (trait y) false && f y) x xs in
+    by_test (trait x) (f x) yes_more no_more (count_by-cons f x xs) (both_traits trait f xs)
+  where
+    by_test : (b c : Bool) → count_by (λ y. beq (trait y) true && f y) (x ∷ xs) ≡ cond (beq b true && c) 1 0 + count_by (λ y. beq (trait y) true && f y) xs →
+        count_by (λ y. beq (trait y) false && f y) (x ∷ xs) ≡ cond (beq b false && c) 1 0 + count_by (λ y. beq (trait y) false && f y) xs →
+        count_by f (x ∷ xs) ≡ cond c 1 0 + count_by f xs →
+        count_by (λ y. beq (trait y) true && f y) xs + count_by (λ y. beq (trait y) false && f y) xs ≡ count_by f xs →
+        count_by (λ y. beq (trait y) true && f y) (x ∷ xs) + count_by (λ y. beq (trait y) false && f y) (x ∷ xs) ≡ count_by f (x ∷ xs)
+    by_test true true one two all rest = omega (arith, one, two, all, rest)
+    by_test true false one two all rest = omega (arith, one, two, all, rest)
+    by_test false true one two all rest = omega (arith, one, two, all, rest)
+    by_test false false one two all rest = omega (arith, one, two, all, rest)
+
+-- how many ports before stand on the same subnet, by the counts of both kinds
+pub both_counted : {S : Type 0} (counts : IndexMap (Bool × Subnet) ℕ S) (before : List Port) (p : Port) → IsTally same_trait counts (map kind_on before) →
+    count_of same_trait counts (true, subnet_of p) + count_of same_trait counts (false, subnet_of p) ≡ count_by (λ q. shares_subnet q p) before
+both_counted counts before p tally =
+    ap (λ n. n + count_of same_trait counts (false, subnet_of p)) (tally (true, subnet_of p) ∙ count_by-map (λ k. same_trait k (true, subnet_of p)) kind_on before)
+    ∙ ap (λ n. count_by (λ q. same_trait (kind_on q) (true, subnet_of p)) before + n) (tally (false, subnet_of p) ∙ count_by-map (λ k. same_trait k (false, subnet_of p)) kind_on before)
+    ∙ both_traits is_broadcast (λ q. shares_subnet q p) before

@@ -1,15 +1,15 @@
-ghost use Rattle.std.specs.Prelude.{◌≡◌, ◌<◌, ◌≤◌, ◌++◌, List, [], ◌∷◌, None, length, map, not, slice_get, IsTrue, MatchResult, IfOk};
+ghost use Rattle.std.specs.Prelude.{◌≡◌, ◌<◌, ◌≤◌, ◌++◌, List, [], ◌∷◌, None, length, map, count_by, not, slice_get, IsTrue, MatchResult, IfOk};
 ghost use Rattle.std.specs.List.{list_any};
 ghost use Rattle.cost_base.specs.Lists.{same_bytes};
-ghost use Rattle.lsdb_build.specs.Neighbours.{Port};
+ghost use Rattle.lsdb_build.specs.Neighbours.{Port, shares_subnet};
+ghost use Rattle.lsdb_build.specs.SubnetChecks.{fails, fault_of};
 ghost use Rattle.lsdb_build.specs.Tallies.{IsTally, same_subnet, same_trait, subnet_of, member_of, kind_on, rank_on};
 ghost use Rattle.lsdb_build.specs.Topology.{is_second_of_router, is_second_of_address, is_mismatch, is_crowding, lacks_designated, first_where, at_port, at_config, past, second_of_name, Tells};
 ghost use Rattle.lsdb_build.specs.declared.stop.TopologyFault.TheVariants.{TooMany, NameTwice, SameRouterTwice, AddressTwice, TypeMismatch, CrowdedLink, NoDesignated};
 
-use crate::{TopologyFault, TopologyStop};
-use crate::members::members_on;
 use crate::port::{Port, Subnet, is_broadcast, subnet_of};
 use crate::tally::Tally;
+use crate::{TopologyFault, TopologyStop};
 use cost_base::{Name, OutOfMemory};
 use indexmap::IndexSet;
 use interface_model::RouterConfig;
@@ -78,42 +78,67 @@ fn is_mismatch(seen: &Tally<(bool, Subnet)>, port: &Port) -> bool
     seen.count((!broadcast, subnet)) > 0
 }
 
-/// Refuses the first port of which an earlier one on the same subnet has another network kind.
-pub fn refuse_mismatch(alloc: Global, ports: &[Port]) -> Result<(), TopologyStop>
-    requires { length ports.now ≤ 4000 }
-    ensures { let fault = at_port TypeMismatch (first_where is_mismatch [] ports.now) in
-        MatchResult result (λ _. fault ≡ None) (Tells fault) }
+/// How many ports before stand on a port's subnet, of whichever kind.
+fn members_before(seen: &Tally<(bool, Subnet)>, port: &Port) -> u64
+    ensures { (before : List Port) → IsTally same_trait seen.now.counts (map kind_on before) → result ≡ count_by (λ q. shares_subnet q port.now) before }
 {
-    let mut seen = Tally::new(alloc);
-    for port in ports {
-        if is_mismatch(&seen, port) {
-            return Err(refusal_at(TopologyFault::TypeMismatch, port));
-        }
-        seen.add(kind_on(port))?;
-    }
-    Ok(())
+    let subnet = subnet_of(port);
+    u64::from(seen.count((true, subnet))) + u64::from(seen.count((false, subnet)))
 }
 
 /// Whether two ports before are on the same point-to-point subnet.
-fn is_crowding(seen: &Tally<Subnet>, port: &Port) -> bool
-    ensures { (before : List Port) → IsTally same_subnet seen.now.counts (map subnet_of before) → result ≡ is_crowding before port.now }
+fn is_crowding(seen: &Tally<(bool, Subnet)>, port: &Port) -> bool
+    ensures { (before : List Port) → IsTally same_trait seen.now.counts (map kind_on before) → result ≡ is_crowding before port.now }
 {
-    let members = members_on(seen, port);
+    let members = members_before(seen, port);
     !is_broadcast(port) && members >= 2
 }
 
-/// Refuses the first port of which two earlier ones are on the same point-to-point subnet.
-pub fn refuse_crowding(alloc: Global, ports: &[Port]) -> Result<(), TopologyStop>
+/// A check of a port against those before it on its subnet.
+#[derive(Clone, Copy)]
+pub enum SubnetCheck {
+    /// None has another network kind.
+    Kinds,
+    /// A point-to-point subnet has at most two ends.
+    Ends,
+}
+
+/// Whether a port fails a check.
+fn fails(check: SubnetCheck, seen: &Tally<(bool, Subnet)>, port: &Port) -> bool
+    ensures { (before : List Port) → IsTally same_trait seen.now.counts (map kind_on before) → result ≡ fails check before port.now }
+{
+    match check {
+        SubnetCheck::Kinds => is_mismatch(seen, port),
+        SubnetCheck::Ends => is_crowding(seen, port),
+    }
+}
+
+/// The fault of a port that fails a check.
+fn fault_of(check: SubnetCheck) -> TopologyFault
+    ensures { result ≡ fault_of check }
+{
+    match check {
+        SubnetCheck::Kinds => TopologyFault::TypeMismatch,
+        SubnetCheck::Ends => TopologyFault::CrowdedLink,
+    }
+}
+
+/// Refuses the first port that fails a check against those before it on its subnet.
+pub fn refuse_on_subnet(
+    alloc: Global,
+    ports: &[Port],
+    check: SubnetCheck,
+) -> Result<(), TopologyStop>
     requires { length ports.now ≤ 4000 }
-    ensures { let fault = at_port CrowdedLink (first_where is_crowding [] ports.now) in
+    ensures { let fault = at_port (fault_of check) (first_where (fails check) [] ports.now) in
         MatchResult result (λ _. fault ≡ None) (Tells fault) }
 {
     let mut seen = Tally::new(alloc);
     for port in ports {
-        if is_crowding(&seen, port) {
-            return Err(refusal_at(TopologyFault::CrowdedLink, port));
+        if fails(check, &seen, port) {
+            return Err(refusal_at(fault_of(check), port));
         }
-        seen.add(subnet_of(port))?;
+        seen.add(kind_on(port))?;
     }
     Ok(())
 }

@@ -7,10 +7,10 @@ ghost use Rattle.lsdb_build.specs.Owners.{has_other, IsNoted, HasSubnet, HasPref
 ghost use Rattle.lsdb_build.specs.Topology.{holds, is_overlap, first_where, at_port, Tells};
 ghost use Rattle.lsdb_build.specs.declared.stop.TopologyFault.TheVariants.{OverlapPrefix};
 
-use crate::{TopologyFault, TopologyStop};
 use crate::checks::refusal_at;
 use crate::owners::Owners;
 use crate::port::{Port, Subnet, shares_subnet, subnet_of};
+use crate::{TopologyFault, TopologyStop};
 use cost_base::OutOfMemory;
 use interface_model::{contains, subnet};
 use std::alloc::Global;

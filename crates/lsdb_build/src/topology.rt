@@ -6,7 +6,7 @@ ghost use Rattle.lsdb_build.specs.Checks.{link_among};
 ghost use Rattle.lsdb_build.specs.declared.stop.TopologyFault.TheVariants.{TooMany, NameTwice, SameRouterTwice, AddressTwice, TypeMismatch, CrowdedLink};
 
 use crate::checks::{
-    refuse_crowding, refuse_many_configs, refuse_many_ports, refuse_mismatch, refuse_second_name,
+    SubnetCheck, refuse_many_configs, refuse_many_ports, refuse_on_subnet, refuse_second_name,
     refuse_second_of_address, refuse_second_of_router, refuse_undesignated,
 };
 use crate::links::{linked_ports, links_of, names_of, subnets_of, transit_ports};
@@ -35,8 +35,8 @@ fn refuse_ports(alloc: Global, configs: &[RouterConfig], ports: &[Port]) -> Resu
     refuse_second_name(alloc, configs)?;
     refuse_second_of_router(alloc, ports)?;
     refuse_second_of_address(alloc, ports)?;
-    refuse_mismatch(alloc, ports)?;
-    refuse_crowding(alloc, ports)?;
+    refuse_on_subnet(alloc, ports, SubnetCheck::Kinds)?;
+    refuse_on_subnet(alloc, ports, SubnetCheck::Ends)?;
     Ok(())
 }
 

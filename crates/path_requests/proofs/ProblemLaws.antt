@@ -1,11 +1,10 @@
 -- Small facts of databases and problems.
-use Rattle.std.proofs.Common.{◌≡◌, ℕ, ◌+◌, List, [], ◌∷◌, map, None}
+use Rattle.std.proofs.Common.{◌≡◌, ℕ, ◌+◌, List, [], ◌∷◌, map}
 use Rattle.std.specs.Prelude.{All}
 use Rattle.std.proofs.lemmas.List.Elements.{All-nil, All-append, All-map}
 use Rattle.area_graph.specs.declared.Price.TheVariants.{Zero}
 use Rattle.area_graph.specs.declared.Edge.{Edge}
 use Rattle.area_graph.specs.Costs.{IsPriced}
-use Rattle.lsdb_build.specs.declared.Far.TheVariants.{Router}
 use Rattle.lsdb_build.specs.declared.Linked.{Linked}
 use Rattle.lsdb_build.specs.Graphs.{subnet_edges, router_of}
 use Rattle.path_rows.specs.Problems.{DesignProblem}

@@ -5,14 +5,14 @@ ghost use Rattle.lsdb_build.specs.Graphs.{IsDatabase};
 ghost use Rattle.request_reader.specs.Asked.{IsAsked};
 ghost use Rattle.path_requests.specs.Meaning.{any_symmetric, is_symmetric, option_at, range_at, range_of};
 
-use wanted_paths::Names;
 use crate::ranges::{Range, ranges_by};
 use crate::symmetric::symmetric_by;
-use request_reader::{Item, Requests};
 use cost_base::OutOfMemory;
 use lsdb_build::Linked;
+use request_reader::{Item, Requests};
 use std::alloc::Global;
 use std::marker::Model;
+use wanted_paths::Names;
 
 /// The range of each link, and whether lines make it symmetric. Contracts see the requests and the database.
 #[derive(Drop)]

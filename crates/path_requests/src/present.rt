@@ -10,17 +10,16 @@ ghost use Rattle.wanted_paths.specs.LineFaults.{line_faults, TellsResolution};
 ghost use Rattle.wanted_paths.specs.Paths.{outline};
 
 use crate::choices::items;
-use wanted_paths::Names;
 use crate::problems::present_cost;
 use crate::ranges::Range;
 use crate::variables::lacks_cost;
-use request_reader::Requests;
-use wanted_paths::{ResolutionFault, ResolutionStop};
 use area_graph::Price;
 use cost_base::{Listed, OutOfMemory};
 use lsdb_build::Linked;
 use path_rows::{Problem, Request};
+use request_reader::Requests;
 use std::alloc::Global;
+use wanted_paths::{Names, ResolutionFault, ResolutionStop};
 
 /// Whether a link has no present cost, and there is no default.
 fn lacks_present(names: &Names, requests: &Requests, link: &Linked) -> bool

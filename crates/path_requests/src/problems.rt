@@ -8,15 +8,15 @@ ghost use Rattle.path_requests.specs.Resolving.{ends_faults, cost_faults};
 ghost use Rattle.wanted_paths.specs.Paths.{outline};
 
 use crate::choices::Choices;
-use wanted_paths::Names;
 use crate::ranges::Range;
 use crate::variables::{high_bounds, is_free, low_bounds, owner};
-use request_reader::Requests;
 use area_graph::Price;
 use cost_base::{Listed, Name, OutOfMemory};
 use lsdb_build::Linked;
 use path_rows::{Problem, Request, VarName};
+use request_reader::Requests;
 use std::alloc::Global;
+use wanted_paths::Names;
 
 /// How many links with a variable of their own stand before a link's owner: the number of its variable.
 fn variable(choices: &Choices, own: &[u32], number: u32, link: &Linked) -> u32

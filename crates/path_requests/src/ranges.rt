@@ -7,11 +7,11 @@ ghost use Rattle.path_requests.specs.Meaning.{range_by};
 ghost use Rattle.path_requests.specs.Chosen.{said_of_all, said_of_one};
 ghost use Rattle.path_requests.specs.Resolving.{same_range};
 
-use wanted_paths::Names;
-use request_reader::{Item, Wish};
 use cost_base::OutOfMemory;
 use lsdb_build::Linked;
+use request_reader::{Item, Wish};
 use std::alloc::Global;
+use wanted_paths::Names;
 
 /// The range of a link: free within bounds, or fixed.
 #[derive(Clone, Copy, Debug, PartialEq, Eq)]

@@ -6,11 +6,11 @@ ghost use Rattle.wanted_paths.specs.Paths.{is_named};
 ghost use Rattle.path_requests.specs.Meaning.{says_symmetric};
 ghost use Rattle.path_requests.specs.Chosen.{ties_all, ties_one};
 
-use wanted_paths::Names;
-use request_reader::{Item, Wish};
 use cost_base::OutOfMemory;
 use lsdb_build::Linked;
+use request_reader::{Item, Wish};
 use std::alloc::Global;
+use wanted_paths::Names;
 
 /// Whether a line makes each link symmetric that has a mate.
 fn ties_all(wish: &Wish) -> bool

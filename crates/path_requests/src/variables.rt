@@ -8,11 +8,11 @@ ghost use Rattle.wanted_paths.specs.LineFaults.{TellsResolution};
 
 use crate::choices::Choices;
 use crate::ranges::{Range, same_range};
-use request_reader::{Item, Requests, Wish};
-use wanted_paths::{ResolutionFault, ResolutionStop};
 use cost_base::OutOfMemory;
 use lsdb_build::Linked;
+use request_reader::{Item, Requests, Wish};
 use std::alloc::Global;
+use wanted_paths::{ResolutionFault, ResolutionStop};
 
 /// The link whose variable a free link has.
 pub fn owner(choices: &Choices, number: u32, link: &Linked) -> u32

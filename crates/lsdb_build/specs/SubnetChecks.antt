@@ -1,0 +1,16 @@
+-- The checks of a port against those before it on its subnet.
+use Rattle.std.specs.Prelude.{List, Bool}
+use Rattle.lsdb_build.specs.declared.checks.SubnetCheck.{SubnetCheck}
+use Rattle.lsdb_build.specs.declared.checks.SubnetCheck.TheVariants.{Kinds, Ends}
+use Rattle.lsdb_build.specs.declared.stop.TopologyFault.{TopologyFault}
+use Rattle.lsdb_build.specs.declared.stop.TopologyFault.TheVariants.{TypeMismatch, CrowdedLink}
+use Rattle.lsdb_build.specs.Neighbours.{Port}
+use Rattle.lsdb_build.specs.Topology.{is_mismatch, is_crowding}
+
+abbrev pub fails : SubnetCheck → List Port → Port → Bool
+fails Kinds = is_mismatch
+fails Ends = is_crowding
+
+abbrev pub fault_of : SubnetCheck → TopologyFault
+fault_of Kinds = TypeMismatch
+fault_of Ends = CrowdedLink
