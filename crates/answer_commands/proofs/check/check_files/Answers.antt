@@ -41,3 +41,13 @@ returns g c =
     (λ x read is same.
     subst (λ (p : DesignProblem). IsJudged (record { problem = p; bytes = read }) c.in_ok-judge.field-0) (sym is.0)
     (subst (λ (bytes : List ℕ). IsJudged (record { problem = c.in_ok-problem.problem; bytes = bytes }) c.in_ok-judge.field-0) (c.deref.ensures.value ∙ same) c.in_ok-judge.ensures))
+
+pub returns-in_err-judge : goal.returns-in_err-judge
+returns-in_err-judge g c =
+    let a = c.args.shelf.now in
+    let b = c.read_problem.new.shelf in
+    let d = c.read_answer_file.new.shelf in
+    let first = c.in_ok-problem.ensures.read in
+    let later = c.in_ok-bytes.ensures.read in
+    let p = err_from_is_err_and c.from_residual-in_err-judge.result c.from_residual-in_err-judge.ensures.1 in
+    rw (p.1, p.2) (record { came = first.came ++ later.came; given = g.met.S.Shelf.gave_more a b d first.came later.came first.given later.given; so = tt })

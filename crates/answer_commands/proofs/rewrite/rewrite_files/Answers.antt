@@ -37,3 +37,13 @@ returns g c =
     (λ x read is same.
     subst (λ (file : ConfigFile). IsRevised (record { config = file; bytes = read }) c.in_ok-revised_by_text.field-0) is
     (subst (λ (bytes : List ℕ). IsRevised (record { config = c.in_ok-text.text; bytes = bytes }) c.in_ok-revised_by_text.field-0) (c.deref.ensures.value ∙ same) c.in_ok-revised_by_text.ensures))
+
+pub returns-in_err-revised_by_text : goal.returns-in_err-revised_by_text
+returns-in_err-revised_by_text g c =
+    let a = c.args.shelf.now in
+    let b = c.read_config_text.new.shelf in
+    let d = c.read_answer_file.new.shelf in
+    let first = c.in_ok-text.ensures in
+    let later = c.in_ok-bytes.ensures.read in
+    let p = err_from_is_err_and c.from_residual-in_err-revised_by_text.result c.from_residual-in_err-revised_by_text.ensures.1 in
+    rw (p.1, p.2) (record { came = first.came ++ later.came; given = g.met.S.Shelf.gave_more a b d first.came later.came first.given later.given; so = tt })
