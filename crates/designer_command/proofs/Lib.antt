@@ -14,4 +14,4 @@ pub mod Writing
 pub mod ShortAnswers
 pub mod ShortLines
 mod Examples
-pub mod Completeness
+pub mod CompletenessLaws

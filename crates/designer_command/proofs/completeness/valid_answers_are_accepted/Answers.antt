@@ -1,4 +1,4 @@
-use Rattle.designer_command.proofs.Completeness.{accepted}
+use Rattle.designer_command.proofs.CompletenessLaws.{accepted}
 use Rattle.designer_command.proofs.completeness.valid_answers_are_accepted.Goals as goal
 
 pub returns : goal.returns
