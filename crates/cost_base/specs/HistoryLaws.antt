@@ -32,7 +32,7 @@ given_more held_a held_b held_c noted_a noted_b noted_c xs ys first second = rec
 pub given_counts : (held_a held_b : List ℕ → Option (List ℕ)) (noted_a noted_b : List (List ℕ)) (came : List Taken) → HasGiven held_a held_b noted_a noted_b came → CountsFailures (times noted_a) (times noted_b) came
 given_counts held_a held_b noted_a noted_b came given =
     let count : (name : List ℕ) → times noted_b name ≡ times noted_a name + times (failures came) name =
-          λ name. ap (λ (names : List (List ℕ)). times names name) given.noted ∙ sum_by-append (λ (x : List ℕ). cond (bytes_eq x name) 1 0) noted_a (failures came) in
+    λ name. ap (λ (names : List (List ℕ)). times names name) given.noted ∙ sum_by-append (λ (x : List ℕ). cond (bytes_eq x name) 1 0) noted_a (failures came) in
     record {
       failed = λ name some. omega (arith, count name, some);
       kept = λ name none. omega (arith, count name, none);

@@ -52,7 +52,7 @@ stop_at {T} {E} {F} Before Now Both f0 f1 f2 left total x (Err y) err piece rest
     let p = prefix_of piece rest put.0 in
     let whole : u.so_far ++ (piece ++ rest) ≡ total = ap (λ bytes. u.so_far ++ bytes) (sym e) ∙ u.same in
     let same : u.so_far ++ take put.0 piece ≡ take (length u.so_far + p.0) total =
-          ap (λ bytes. u.so_far ++ bytes) p.1 ∙ sym (take-append-add u.so_far (piece ++ rest) p.0) ∙ ap (λ bytes. take (length u.so_far + p.0) bytes) whole in
+    ap (λ bytes. u.so_far ++ bytes) p.1 ∙ sym (take-append-add u.so_far (piece ++ rest) p.0) ∙ ap (λ bytes. take (length u.so_far + p.0) bytes) whole in
     record {
       bytes = (length u.so_far + p.0, subst Both same (more u.so_far (take put.0 piece) u.got put.1));
       cause = record { later = omega (arith, u.later, cause.later); failed = omega (arith, u.later, cause.failed) };

@@ -40,7 +40,7 @@ rest_is : (name : List ℕ) (names : List (List ℕ)) (files : List ConfigFile) 
 rest_is name names files =
     bind_assoc (config_read name) (λ file. configs_read names >>= λ others. Ready (file ∷ others)) (λ others. Ready (files ++ others))
     ∙ ap (λ (f : ConfigFile → Reading (List ConfigFile)). config_read name >>= f)
-      (λ i file. bind_assoc (configs_read names) (λ others. Ready (file ∷ others)) (λ others. Ready (files ++ others)) i)
+    (λ i file. bind_assoc (configs_read names) (λ others. Ready (file ∷ others)) (λ others. Ready (files ++ others)) i)
 
 -- the next configuration was read
 pub progress_goes : (all names : List (List ℕ)) (name : List ℕ) (routers : List Router) (router : Router) (came xs : List Taken) →
@@ -50,7 +50,7 @@ progress_goes all names name routers router came xs p ready = record {
   said = ap (λ rs. rs ++ router ∷ []) p.said ∙ ap (λ x. routers_of p.files ++ x ∷ []) ready.fits ∙ sym (map_append p.files (ready.said ∷ []));
   goes = λ more end h.
       let last : EndsAs (rest_read names p.files ready.said) more end =
-            subst (λ (f : List ConfigFile → List ConfigFile). EndsAs (configs_read names >>= λ others. Ready (f others)) more end) (λ i others. append_assoc p.files (ready.said ∷ []) others i) h in
+      subst (λ (f : List ConfigFile → List ConfigFile). EndsAs (configs_read names >>= λ others. Ready (f others)) more end) (λ i others. append_assoc p.files (ready.said ∷ []) others i) h in
       let here = ends_then (config_read name) (rest_read names p.files) xs more ready.said end ready.ends last in
       subst (λ (l : List Taken). EndsAs (configs_read all) l end) (sym (append_assoc came xs more))
       (p.goes (xs ++ more) end (subst (λ (m : Reading (List ConfigFile)). EndsAs m (xs ++ more) end) (sym (rest_is name names p.files)) here));

@@ -70,15 +70,17 @@ ends_then (Ready y) f (taken ∷ xs) ys x end first second = absurd first
 ends_then (Refused r) f [] ys x end first second = absurd (said_faulty x r first)
 ends_then (Refused r) f (taken ∷ xs) ys x end first second = absurd first
 ends_then (Take name most next) f [] ys x end first second = absurd first
-ends_then {A} {B} (Take name most next) f (taken ∷ xs) ys x end first second =
-    (first.0, first.1,
-     on_came taken.came (λ bytes. EndsAs (next bytes) xs (Says x)) (λ bytes. EndsAs (next bytes >>= f) (xs ++ ys) end)
-         ((xs ≡ []) × (Says x ≡ Faulty (too_long name))) ((xs ++ ys ≡ []) × (end ≡ Faulty (too_long name)))
-         ((xs ≡ []) × (Says x ≡ Failed name)) ((xs ++ ys ≡ []) × (end ≡ Failed name))
-         (λ bytes h. ends_then (next bytes) f xs ys x end h second)
-         (λ h. absurd (said_faulty x (too_long name) h.1))
-         (λ h. absurd (said_failed x name h.1))
-         first.2)
+ends_then {A} {B} (Take name most next) f (taken ∷ xs) ys x end first second = (
+  first.0,
+  first.1,
+  on_came taken.came (λ bytes. EndsAs (next bytes) xs (Says x)) (λ bytes. EndsAs (next bytes >>= f) (xs ++ ys) end)
+      ((xs ≡ []) × (Says x ≡ Faulty (too_long name))) ((xs ++ ys ≡ []) × (end ≡ Faulty (too_long name)))
+      ((xs ≡ []) × (Says x ≡ Failed name)) ((xs ++ ys ≡ []) × (end ≡ Failed name))
+      (λ bytes h. ends_then (next bytes) f xs ys x end h second)
+      (λ h. absurd (said_faulty x (too_long name) h.1))
+      (λ h. absurd (said_failed x name h.1))
+      first.2,
+)
 
 -- a fault of the one reading is one of both
 pub ends_faulty : {A B : Type 0} (m : Reading A) (f : A → Reading B) (xs : List Taken) (r : Refusal) → EndsAs m xs (Faulty r) → EndsAs (m >>= f) xs (Faulty r)
@@ -87,15 +89,17 @@ ends_faulty (Ready y) f (taken ∷ xs) r first = absurd first
 ends_faulty {A} {B} (Refused s) f [] r first = faulty_of {A = A} {B = B} r s first
 ends_faulty (Refused s) f (taken ∷ xs) r first = absurd first
 ends_faulty (Take name most next) f [] r first = absurd first
-ends_faulty {A} {B} (Take name most next) f (taken ∷ xs) r first =
-    (first.0, first.1,
-     on_came taken.came (λ bytes. EndsAs (next bytes) xs (Faulty r)) (λ bytes. EndsAs (next bytes >>= f) xs (Faulty r))
-         ((xs ≡ []) × (faulty A r ≡ Faulty (too_long name))) ((xs ≡ []) × (faulty B r ≡ Faulty (too_long name)))
-         ((xs ≡ []) × (faulty A r ≡ Failed name)) ((xs ≡ []) × (faulty B r ≡ Failed name))
-         (λ bytes h. ends_faulty (next bytes) f xs r h)
-         (λ h. (h.0, faulty_of {A = A} {B = B} r (too_long name) h.1))
-         (λ h. absurd (faulty_failed {A = A} r name h.1))
-         first.2)
+ends_faulty {A} {B} (Take name most next) f (taken ∷ xs) r first = (
+  first.0,
+  first.1,
+  on_came taken.came (λ bytes. EndsAs (next bytes) xs (Faulty r)) (λ bytes. EndsAs (next bytes >>= f) xs (Faulty r))
+      ((xs ≡ []) × (faulty A r ≡ Faulty (too_long name))) ((xs ≡ []) × (faulty B r ≡ Faulty (too_long name)))
+      ((xs ≡ []) × (faulty A r ≡ Failed name)) ((xs ≡ []) × (faulty B r ≡ Failed name))
+      (λ bytes h. ends_faulty (next bytes) f xs r h)
+      (λ h. (h.0, faulty_of {A = A} {B = B} r (too_long name) h.1))
+      (λ h. absurd (faulty_failed {A = A} r name h.1))
+      first.2,
+)
 
 -- a file that fails the one reading fails both
 pub ends_failed : {A B : Type 0} (m : Reading A) (f : A → Reading B) (xs : List Taken) (file : List ℕ) → EndsAs m xs (Failed file) → EndsAs (m >>= f) xs (Failed file)
@@ -104,15 +108,17 @@ ends_failed (Ready y) f (taken ∷ xs) file first = absurd first
 ends_failed {A} {B} (Refused s) f [] file first = absurd (faulty_failed {A = A} s file (sym first))
 ends_failed (Refused s) f (taken ∷ xs) file first = absurd first
 ends_failed (Take name most next) f [] file first = absurd first
-ends_failed {A} {B} (Take name most next) f (taken ∷ xs) file first =
-    (first.0, first.1,
-     on_came taken.came (λ bytes. EndsAs (next bytes) xs (Failed file)) (λ bytes. EndsAs (next bytes >>= f) xs (Failed file))
-         ((xs ≡ []) × (failed A file ≡ Faulty (too_long name))) ((xs ≡ []) × (failed B file ≡ Faulty (too_long name)))
-         ((xs ≡ []) × (failed A file ≡ Failed name)) ((xs ≡ []) × (failed B file ≡ Failed name))
-         (λ bytes h. ends_failed (next bytes) f xs file h)
-         (λ h. absurd (faulty_failed {A = A} (too_long name) file (sym h.1)))
-         (λ h. (h.0, failed_of {A = A} {B = B} file name h.1))
-         first.2)
+ends_failed {A} {B} (Take name most next) f (taken ∷ xs) file first = (
+  first.0,
+  first.1,
+  on_came taken.came (λ bytes. EndsAs (next bytes) xs (Failed file)) (λ bytes. EndsAs (next bytes >>= f) xs (Failed file))
+      ((xs ≡ []) × (failed A file ≡ Faulty (too_long name))) ((xs ≡ []) × (failed B file ≡ Faulty (too_long name)))
+      ((xs ≡ []) × (failed A file ≡ Failed name)) ((xs ≡ []) × (failed B file ≡ Failed name))
+      (λ bytes h. ends_failed (next bytes) f xs file h)
+      (λ h. absurd (faulty_failed {A = A} (too_long name) file (sym h.1)))
+      (λ h. (h.0, failed_of {A = A} {B = B} file name h.1))
+      first.2,
+)
 
 -- readings bound in another order are one
 pub bind_assoc : {A B C : Type 0} (m : Reading A) (f : A → Reading B) (h : B → Reading C) → ((m >>= f) >>= h) ≡ (m >>= λ x. f x >>= h)
@@ -146,9 +152,11 @@ was_came name most next f taken more y rest named within (Ok bytes) is h =
       first = taken ∷ w.first;
       later = w.later;
       parts = ap (λ (l : List Taken). taken ∷ l) w.parts;
-      said =
-          (named, within,
-           subst (λ (c : Result (List ℕ) ShelfStop). OnCame c (λ b. EndsAs (next b) w.first (Says w.value)) ((w.first ≡ []) × (Says w.value ≡ Faulty (too_long name))) ((w.first ≡ []) × (Says w.value ≡ Failed name))) (sym is) w.said);
+      said = (
+        named,
+        within,
+        subst (λ (c : Result (List ℕ) ShelfStop). OnCame c (λ b. EndsAs (next b) w.first (Says w.value)) ((w.first ≡ []) × (Says w.value ≡ Faulty (too_long name))) ((w.first ≡ []) × (Says w.value ≡ Failed name))) (sym is) w.said,
+      );
       then_said = w.then_said;
     }
 was_came name most next f taken more y rest named within (Err stop.TooLong) is h = absurd (said_faulty y (too_long name) h.1)
@@ -178,6 +186,6 @@ one_end (Refused r) (taken ∷ more) a b h k = absurd h
 one_end (Take name most next) [] a b h k = absurd h
 one_end (Take name most next) (taken ∷ more) a b h k =
     both_came taken.came (λ bytes. EndsAs (next bytes) more a) (λ bytes. EndsAs (next bytes) more b)
-        ((more ≡ []) × (a ≡ Faulty (too_long name))) ((more ≡ []) × (b ≡ Faulty (too_long name)))
-        ((more ≡ []) × (a ≡ Failed name)) ((more ≡ []) × (b ≡ Failed name))
-        (λ bytes p q. one_end (next bytes) more a b p q) (λ p q. p.1 ∙ sym q.1) (λ p q. p.1 ∙ sym q.1) h.2 k.2
+    ((more ≡ []) × (a ≡ Faulty (too_long name))) ((more ≡ []) × (b ≡ Faulty (too_long name)))
+    ((more ≡ []) × (a ≡ Failed name)) ((more ≡ []) × (b ≡ Failed name))
+    (λ bytes p q. one_end (next bytes) more a b p q) (λ p q. p.1 ∙ sym q.1) (λ p q. p.1 ∙ sym q.1) h.2 k.2

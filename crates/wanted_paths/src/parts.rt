@@ -8,9 +8,9 @@ ghost use Rattle.wanted_paths.specs.LineFaults.{part_faults, parts_faults, is_ro
 ghost use Rattle.wanted_paths.specs.Paths.{outline};
 ghost use Rattle.wanted_paths.specs.Taken.{taken_from, taken_by_link, taken_at, taken_by, taken_by_all};
 
+use crate::ResolutionStop;
 use crate::names::Names;
 use crate::routes::{far_end, subnet_vertex};
-use crate::ResolutionStop;
 use area_graph::Graph;
 use cost_base::OutOfMemory;
 use lsdb_build::{Far, Linked};

@@ -14,10 +14,10 @@ ghost use Rattle.wanted_paths.specs.Walks.{IsWalk};
 
 use crate::names::Names;
 use crate::{ResolutionFault, ResolutionStop};
-use request_reader::Hops;
 use area_graph::{Graph, Path, is_simple};
 use cost_base::{Listed, Name, OutOfMemory};
 use lsdb_build::{Far, Linked};
+use request_reader::Hops;
 use std::alloc::Global;
 
 /// Whether a transit subnet has a member of that router.
