@@ -7,7 +7,7 @@ use Rattle.path_rows.specs.declared.form.CostBox.{CostBox}
 use Rattle.path_rows.specs.declared.tree.Entry.{Entry}
 use Rattle.path_rows.specs.Trees.{subboxes}
 use Rattle.path_rows.specs.Boxes.{with_low, with_high}
-use Rattle.path_rows.proofs.OpenBoxes.{low_back, high_back}
+use Rattle.path_rows.proofs.ChangedEnds.{low_back, high_back}
 use Rattle.evidence_checker.specs.declared.open_boxes.OpenBoxes.{OpenBoxes}
 use Rattle.evidence_checker.specs.declared.open_boxes.Change.{Change}
 use Rattle.evidence_checker.specs.declared.open_boxes.Change.TheVariants.{Low, High, Second}
