@@ -1,5 +1,5 @@
 -- The boxes of a sound entry stay boxes, within the one that they began with.
-use Rattle.std.proofs.Common.{◌≡◌, ℕ, ◌+◌, ◌<◌, ◌≤◌, refl, sym, ◌∙◌, subst, inl, inr, List, [], ◌∷◌, length, length-set, arith}
+use Rattle.std.proofs.Common.{ℕ, ◌+◌, ◌<◌, ◌≤◌, refl, sym, ◌∙◌, subst, inl, inr, List, [], ◌∷◌, length, length-set, arith}
 use Rattle.std.specs.Prelude.{slice_index}
 use Rattle.area_graph.specs.declared.Point.{Point}
 use Rattle.path_rows.specs.declared.form.Form.{Form}
@@ -7,7 +7,7 @@ use Rattle.path_rows.specs.declared.form.CostBox.{CostBox}
 use Rattle.path_rows.specs.declared.tree.Side.TheVariants.{Low, High}
 use Rattle.path_rows.specs.declared.tree.Entry.{Entry}
 use Rattle.path_rows.specs.declared.tree.Entry.TheVariants.{Tighten, Split, Halve, Refute, Undone}
-use Rattle.path_rows.specs.Boxes.{IsBox, IsInBox, IsPointOf, with_low, with_high}
+use Rattle.path_rows.specs.Boxes.{IsBox, IsInBox, with_low, with_high}
 use Rattle.path_rows.specs.Trees.{SoundAt, subboxes}
 use Rattle.path_rows.specs.Earnest.{Place}
 use Rattle.path_rows.specs.OpenPlaces.{IsPart, Opens, fresh}

@@ -1,11 +1,11 @@
 -- Trees whose rows have got other numbers are sound and earnest again.
-use Rattle.std.proofs.Common.{◌≡◌, ℕ, zero, suc, ◌+◌, ◌<◌, ◌≤◌, refl, sym, ◌∙◌, ap, subst, List, [], ◌∷◌, ◌++◌, map, length, arith, take, drop, fold}
-use Rattle.std.specs.Prelude.{ℤ, pos, ◌+ℤ◌, ◌*ℤ◌, ◌<ℤ◌, ◌≤ℤ◌, All, AllPairs, Some, slice_get, slice_index_or, sum_by}
+use Rattle.std.proofs.Common.{◌≡◌, ℕ, zero, suc, ◌<◌, ◌≤◌, refl, sym, ◌∙◌, ap, subst, List, [], ◌∷◌, ◌++◌, map, length, arith, take, drop, fold}
+use Rattle.std.specs.Prelude.{pos, ◌+ℤ◌, ◌*ℤ◌, ◌<ℤ◌, ◌≤ℤ◌, All, AllPairs, Some, slice_get, slice_index_or, sum_by}
 use Rattle.std.proofs.lemmas.List.{length-map, length-append, get_or_append_left}
 use Rattle.std.proofs.lemmas.List.Sums.{sum_by-cons}
 use Rattle.area_graph.specs.declared.Point.{Point}
 use Rattle.cost_base.specs.declared.StepName.{StepName}
-use Rattle.whole_numbers.specs.Fractions.{Fraction, plus, whole, times, divided, sum_of}
+use Rattle.whole_numbers.specs.Fractions.{Fraction, plus, whole, sum_of}
 use Rattle.path_rows.specs.declared.form.Form.{Form}
 use Rattle.path_rows.specs.declared.form.CostBox.{CostBox}
 use Rattle.path_rows.specs.declared.tree.Side.{Side}
@@ -17,9 +17,9 @@ use Rattle.path_rows.specs.declared.tree.Entry.TheVariants.{Tighten, Split, Halv
 use Rattle.path_rows.specs.Forms.{added, form_at, no_form, weighted}
 use Rattle.path_rows.specs.Boxes.{Refutes, greatest}
 use Rattle.path_rows.specs.Basis.{entry, AreEntries, HasEntries, IsFormOf, IsTable, forms_of, low_member, member_form}
-use Rattle.cost_base.specs.declared.StepName.TheVariants.{Add, Sub, Mul, Div, Lcm, Scale}
-use Rattle.path_rows.specs.Steps.{IsPivot, IsStep, row_product, row_sum, pivot_quotient, pivot_inverse, pivot_product, pivot_inverse_product, pivot_difference, corner_multiple, corner_scale, multiple, multiplier_product, multiplier_sum, multiplier_scale, IsStuck, IsTooWide, column_parts, corner_denominators, denominators, lcm_of, made_whole, multipliers, own_part, start_of_sum, terms, two_to_27}
-use Rattle.path_rows.specs.Trees.{SoundAt, TightensAt, removed, subboxes}
+use Rattle.cost_base.specs.declared.StepName.TheVariants.{Add, Mul, Lcm, Scale}
+use Rattle.path_rows.specs.Steps.{IsPivot, IsStep, row_product, row_sum, pivot_quotient, pivot_inverse, pivot_product, pivot_inverse_product, pivot_difference, corner_multiple, corner_scale, multiple, multiplier_product, multiplier_sum, multiplier_scale, IsStuck, IsTooWide, column_parts, denominators, lcm_of, made_whole, multipliers, own_part, start_of_sum, terms, two_to_27}
+use Rattle.path_rows.specs.Trees.{SoundAt, TightensAt, removed}
 use Rattle.path_rows.specs.Earnest.{Place, Earnest, EarnestAt, at_bound, subplaces}
 use Rattle.path_rows.specs.OpenPlaces.{Opens}
 use Rattle.path_rows.specs.Renumbering.{KeepsForms, renumbered, renumbered_member, renumbered_part, renumbered_wide}

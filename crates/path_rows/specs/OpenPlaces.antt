@@ -36,6 +36,11 @@ grown tree entry = record { entries = tree.entries ++ entry ∷ []; places = pla
 abbrev pub fresh : CostBox → Place
 fresh box = record { box = box; since = [] }
 
+-- the first place, and an empty box where there is none
+abbrev pub first_place : List Place → Place
+first_place [] = fresh (record { low = []; high = [] })
+first_place (place ∷ places) = place
+
 -- so many Undones
 abbrev pub undones : ℕ → List Entry
 undones n = replicate n Undone
