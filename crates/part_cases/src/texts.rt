@@ -1,5 +1,6 @@
 //! Worked cases of lines, words and numbers.
 ghost use Rattle.std.specs.Prelude.{None};
+ghost use Rattle.cost_base.specs.Outside.{GotWhole};
 
 use cost_base::{PutFailed, Sink};
 use std::process::Abort;
@@ -22,6 +23,8 @@ impl Sink for LastPiece {
 
     ghost faults = { λ _. 0 };
 
+    ghost handed = { λ before now bytes. GotWhole None None bytes };
+
     fn put(&mut self, piece: &[u8]) -> Result<(), PutFailed> {
         self.length = 0;
         for (place, byte) in self.room.iter_mut().zip(piece) {
@@ -31,6 +34,12 @@ impl Sink for LastPiece {
         self.pieces = self.pieces.saturating_add(1);
         Ok(())
     }
+
+    ghost handed_none = { λ a. tt };
+
+    ghost handed_more = { λ a b c first later had had_more. tt };
+
+    ghost handed_got = { λ a b bytes handed. tt };
 }
 
 /// Asserts that the next line is this one.
