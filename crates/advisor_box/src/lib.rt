@@ -7,8 +7,6 @@
 mod advisor;
 mod candidate;
 mod choosing;
-#[cfg(test)]
-mod tests;
 mod usual;
 
 pub use advisor::Advisor;

@@ -1,4 +1,5 @@
-use crate::{Advisor, Candidate, SmallestNumber, WidestFirst, choose, tell};
+//! Advisors that are asked and told.
+use advisor_box::{Advisor, Candidate, SmallestNumber, WidestFirst, choose, tell};
 use path_rows::Entry;
 use std::test::Fail;
 
