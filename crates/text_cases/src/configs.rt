@@ -30,7 +30,7 @@ const UNSET: Settings = Settings {
 };
 
 /// The settings of an interface.
-fn settings(interface: &Interface) -> Settings {
+fn settings_of(interface: &Interface) -> Settings {
     Settings {
         address: interface.address,
         length: interface.length,
@@ -47,7 +47,7 @@ fn settings(interface: &Interface) -> Settings {
 fn is_read(alloc: Global, text: &[u8], wanted: Settings) -> bool {
     match config_of(alloc, "A.conf", text) {
         Ok(config) => match config.interfaces.as_slice() {
-            [interface] => settings(interface) == wanted,
+            [interface] => settings_of(interface) == wanted,
             _ => false,
         },
         Err(_) => false,
