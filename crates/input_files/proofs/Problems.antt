@@ -10,7 +10,7 @@ use Rattle.request_reader.specs.Asked.{Asked}
 use Rattle.input_files.specs.declared.stop.Stop.{Stop}
 use Rattle.input_files.specs.declared.problem.View.{View}
 use Rattle.input_files.specs.Inputs.{InputFiles}
-use Rattle.input_files.specs.Readings.{Reading, Ready, ◌>>=◌, Says, EndsAs, Gave}
+use Rattle.input_files.specs.Readings.{Reading, Ready, ◌>>=◌, Says, Gave}
 use Rattle.input_files.specs.Outcomes.{ConfigFile, Input, request_read, configs_read, routers_of, topology_read, problem_read, outcome}
 use Rattle.input_files.specs.Stops.{StopsAs, IsReady, IsReadAs}
 use Rattle.input_files.proofs.Readings.{ends_then}

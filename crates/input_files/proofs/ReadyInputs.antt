@@ -10,7 +10,7 @@ use Rattle.wanted_paths.specs.declared.stop.ResolutionFault.{ResolutionFault}
 use Rattle.path_requests.specs.Resolving.{resolution_fault}
 use Rattle.input_files.specs.declared.problem.View.TheVariants.{AsRequested}
 use Rattle.input_files.specs.Inputs.{InputFiles}
-use Rattle.input_files.specs.Readings.{Reading, Refused, Ready, ◌>>=◌, Says, EndsAs}
+use Rattle.input_files.specs.Readings.{Reading, Ready, ◌>>=◌, Says, EndsAs}
 use Rattle.input_files.proofs.Readings.{one_said, said_faulty, was_read}
 use Rattle.input_files.specs.Outcomes.{ConfigFile, Input, request_read, configs_read, routers_of, if_faultless, topology_read, if_resolved, problem_read, outcome}
 

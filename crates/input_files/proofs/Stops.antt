@@ -1,12 +1,12 @@
 -- What was read one after another, and what stopped it.
-use Rattle.std.proofs.Common.{◌≡◌, ℕ, refl, sym, subst, List, [], ◌∷◌, ◌++◌, append-nil, Result, Ok, Err}
+use Rattle.std.proofs.Common.{ℕ, refl, subst, List, [], ◌∷◌, ◌++◌, append-nil, Result, Ok, Err}
 use Rattle.std.specs.Borrow.{Bor}
 use Rattle.cost_base.specs.declared.ShelfStop.{ShelfStop}
 use Rattle.cost_base.specs.declared.ShelfStop.TheVariants as shelf
 use Rattle.cost_base.specs.Histories.{Taken}
 use Rattle.input_files.specs.declared.stop.Stop.{Stop}
 use Rattle.input_files.specs.declared.stop.Stop.TheVariants as stops
-use Rattle.input_files.specs.Readings.{Refusal, Reading, Take, Refused, Ready, ◌>>=◌, End, Says, Faulty, Failed, EndsAs, Gave}
+use Rattle.input_files.specs.Readings.{Reading, ◌>>=◌, Says, Faulty, Failed, EndsAs, Gave}
 use Rattle.input_files.specs.Outcomes.{file_read}
 use Rattle.input_files.specs.Stops.{StopsAs, IsReady, IsReadAs, file_stop, refusal_in}
 use Rattle.input_files.proofs.Readings.{ends_then, ends_faulty, ends_failed}

@@ -21,7 +21,7 @@ use Rattle.input_files.specs.declared.stop.Stop.{Stop}
 use Rattle.input_files.specs.declared.stop.Stop.TheVariants.{Refused, ReadFault, OutOfMemory}
 use Rattle.input_files.specs.declared.reading.FileWords.{FileWords}
 use Rattle.input_files.specs.Inputs.{InputFiles}
-use Rattle.input_files.specs.Readings.{Refusal, Reading, End, Says, Faulty, Failed, EndsAs, too_long}
+use Rattle.input_files.specs.Readings.{Refusal, Reading, Says, Faulty, Failed, EndsAs}
 use Rattle.input_files.specs.Outcomes.{file_of, resolution_refusal}
 
 -- the files that words name

@@ -1,7 +1,6 @@
 -- What was read, made and resolved so far says what the files say.
-use Rattle.std.proofs.Common.{◌≡◌, List, [], ◌++◌, ◌∙◌, sym, subst}
+use Rattle.std.proofs.Common.{◌≡◌, [], subst}
 use Rattle.std.proofs.lemmas.Result.{err_from_is_err_and}
-use Rattle.cost_base.specs.Histories.{Taken}
 use Rattle.lsdb_build.specs.Graphs.{Database, IsDatabase}
 use Rattle.request_reader.specs.Asked.{Asked}
 use Rattle.input_files.specs.Outcomes.{topology_read}

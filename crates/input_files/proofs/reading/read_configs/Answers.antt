@@ -1,5 +1,5 @@
 -- What stops a configuration stops all, and what was read goes on by one.
-use Rattle.std.proofs.Common.{◌≡◌, ℕ, List, ◌∷◌, [], ◌++◌, ◌∙◌, sym, ap, subst, length, drop, ◌+◌, ◌<◌, rules}
+use Rattle.std.proofs.Common.{ℕ, List, ◌∷◌, [], ◌++◌, ◌∙◌, sym, ap, subst, length, drop, ◌+◌, ◌<◌, rules}
 use Rattle.std.specs.Prelude.{String}
 use Rattle.std.specs.declared.alloc.Global.{Global}
 use Rattle.std.proofs.lemmas.List.{drop_all}
