@@ -14,5 +14,5 @@ off_grammar_rejected p bytes rejection off = record { cause = inl off; never = r
 pub invalid_rejected : (claim : Claim) (rejection : Rejection) → IsInvalid claim rejection → IsRejected claim rejection
 invalid_rejected claim rejection is = record {
   cause = inr is;
-  never = subst (λ (bytes : List ℕ). IsNoValidText claim.problem bytes) (sym is.said.spelled) (invalid_stays claim.problem is.answer is.said.kept is.invalid);
+  never = subst (λ (bytes : List ℕ). IsNoValidText claim.problem bytes) (sym is.said.spelled) (invalid_stays claim.problem is.answer is.said.value.fits is.invalid);
 }

@@ -4,11 +4,11 @@ use Rattle.cost_base.specs.Order.{FirstOf}
 use Rattle.path_rows.specs.Problems.{DesignProblem}
 use Rattle.path_rows.specs.Answers.{AnswerParts, IsValid}
 use Rattle.path_rows.specs.ProblemLaws.{IsTrueVerdict}
-use Rattle.path_rows.specs.Text.{text, IsAnswer}
+use Rattle.path_rows.specs.Text.{text}
 use Rattle.answer_lines.specs.Grammar.{AtHead}
 use Rattle.evidence_reader.specs.declared.stop.AnswerFault.{AnswerFault}
 use Rattle.evidence_reader.specs.Refusals.{IsRefused, number_of}
-use Rattle.answer_laws.specs.Laws.{IsNoValidText}
+use Rattle.answer_laws.specs.Laws.{IsAnswerValue, IsNoValidText}
 use Rattle.evidence_checker.specs.declared.stop.Accepted.{Accepted as Acceptance}
 use Rattle.evidence_checker.specs.Laws.{IsAcceptedAs}
 use Rattle.evidence_checker.specs.Tests.{tests}
@@ -35,7 +35,7 @@ claim_read names answer =
 -- the bytes are the text of an answer; a text says no start of its rows' rivals, which stand at 0
 pub record IsTextOf (bytes : List ℕ) (answer : AnswerParts) : Type 0 where
   pub spelled : bytes ≡ text answer
-  pub kept : IsAnswer answer
+  pub value : IsAnswerValue answer
   pub starts : All (λ row. row.rival.start ≡ 0) answer.rows
 
 -- the bytes are the text of a valid answer, and what its verdict claims is true

@@ -9,6 +9,7 @@ ghost use Rattle.input_files.specs.Outcomes.{longest_answer};
 ghost use Rattle.input_files.specs.Stops.{IsReadAs, files_named};
 ghost use Rattle.answer_commands.specs.Checks.{Claim, IsInvalid, IsJudged, IsTextOf, claim_read};
 
+use crate::bounds::keeps_answer;
 use crate::rejection::{Rejection, rejection_of_text};
 use cost_base::{OutOfMemory, Shelf};
 use evidence_checker::{Accepted, CheckStop, check};
@@ -55,7 +56,10 @@ fn judge(alloc: Global, problem: &Problem, bytes: &[u8]) -> Result<Judgement, Ou
     ensures { IfOk result (IsJudged (record { problem = problem.now; bytes = bytes.now })) }
 {
     match read_answer(alloc, bytes) {
-        Ok(answer) => judge_answer(alloc, problem, &answer),
+        Ok(answer) => {
+            keeps_answer(&answer);
+            judge_answer(alloc, problem, &answer)
+        }
         Err(stop) => Ok(Judgement::Rejected(rejection_of_text(stop)?)),
     }
 }

@@ -1,6 +1,7 @@
 //! The commands on answers' files: a check against a problem, and a rewrite of a configuration.
 #![tactic(auto)]
 
+mod bounds;
 mod check;
 mod own_lines;
 mod rejection;

@@ -10,6 +10,7 @@ ghost use Rattle.input_files.specs.Stops.{IsReadAs};
 ghost use Rattle.answer_commands.specs.Checks.{IsTextOf};
 ghost use Rattle.answer_commands.specs.Rewrites.{HasFewLines, IsRevised, Revision, new_costs, revision_read};
 
+use crate::bounds::keeps_answer;
 use crate::own_lines::last_lines;
 use crate::rejection::{Rejection, rejection_of_text};
 use config_writer::{RewriteStop, rewrite};
@@ -92,7 +93,10 @@ fn revised_by_text(
     ensures { IfOk result (IsRevised (record { config = config.now; bytes = bytes.now })) }
 {
     match read_answer(alloc, bytes) {
-        Ok(answer) => revised_by_answer(alloc, config, &answer),
+        Ok(answer) => {
+            keeps_answer(&answer);
+            revised_by_answer(alloc, config, &answer)
+        }
         Err(stop) => Ok(Revised::Rejected(rejection_of_text(stop)?)),
     }
 }

@@ -1,14 +1,12 @@
 -- The bytes are the text of the answer that was read, or of none.
 use Rattle.std.proofs.Common.{subst}
-use Rattle.path_rows.specs.Answers.{AnswerParts}
-use Rattle.path_rows.specs.Text.{IsAnswer}
 use Rattle.answer_commands.proofs.Judged.{off_grammar_rejected}
 use Rattle.answer_commands.proofs.check.judge.Goals as goal
 
 pub returns-in-Ok : goal.returns-in-Ok
 returns-in-Ok c =
     c.judge_answer.ensures c.args.bytes.now
-    (record { spelled = c.in-Ok.ensures.read; kept = subst (λ (a : AnswerParts). IsAnswer a) c.answer.view_is c.answer.invariant; starts = c.in-Ok.ensures.starts })
+    (record { spelled = c.in-Ok.ensures.read; value = c.keeps_answer.ensures; starts = c.in-Ok.ensures.starts })
 
 pub returns-in_ok-rejection_of_text-in-Err : goal.returns-in_ok-rejection_of_text-in-Err
 returns-in_ok-rejection_of_text-in-Err c =

@@ -19,7 +19,7 @@ name_of said name asked bytes read says named text =
 
 pub rewrite-requires-clause-router : goal.rewrite-requires-clause-router
 rewrite-requires-clause-router c =
-    let named = c.as_str.ensures.value ∙ ap (λ (file : ConfigFile). file.name) c.config.view_is in
+    let named = ap (λ (file : ConfigFile). file.name) c.config.view_is in
     let text = c.deref.ensures.value ∙ ap (λ (file : ConfigFile). file.bytes) c.config.view_is in
     routers_own _ _ c.args.lines.now _ (c.deref-2.ensures.value ∙ c.in_ok-own.ensures) (name_of _ _ _ _ _ (c.behind-config.view_is ∙ c.said.ensures) named text)
 
@@ -31,7 +31,7 @@ rewrite-requires-clause-apart c = interfaces_own _ c.args.lines.now _ (c.deref-2
 
 pub returns-in-Ok : goal.returns-in-Ok
 returns-in-Ok c bytes answer costs said printed lines =
-    let named = c.as_str.ensures.value ∙ ap (λ (file : ConfigFile). file.name) c.config.view_is in
+    let named = ap (λ (file : ConfigFile). file.name) c.config.view_is in
     let text = c.deref.ensures.value ∙ ap (λ (file : ConfigFile). file.bytes) c.config.view_is in
     rewritten_by c.args.config.now _ bytes answer costs c.args.lines.now _ _ _ c.in-Ok.text.items (c.behind-config.view_is ∙ c.said.ensures) lines (c.deref-2.ensures.value ∙ c.in_ok-own.ensures)
     named text said printed c.in-Ok.ensures.headed c.in-Ok.ensures.written c.in-Ok.ensures.read_back

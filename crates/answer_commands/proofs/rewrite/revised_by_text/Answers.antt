@@ -1,7 +1,5 @@
 -- The bytes are the text of the answer that was read.
 use Rattle.std.proofs.Common.{ℕ, ◌-◌, ◌^◌, ◌<◌, List, length, arith, subst}
-use Rattle.path_rows.specs.Answers.{AnswerParts}
-use Rattle.path_rows.specs.Text.{IsAnswer}
 use Rattle.answer_commands.proofs.FewLines.{few_lines}
 use Rattle.answer_commands.proofs.rewrite.revised_by_text.Goals as goal
 
@@ -12,4 +10,4 @@ revised_by_answer-requires c =
 pub returns-in-Ok : goal.returns-in-Ok
 returns-in-Ok c =
     c.revised_by_answer.ensures c.args.bytes.now
-    (record { spelled = c.in-Ok.ensures.read; kept = subst (λ (a : AnswerParts). IsAnswer a) c.answer.view_is c.answer.invariant; starts = c.in-Ok.ensures.starts })
+    (record { spelled = c.in-Ok.ensures.read; value = c.keeps_answer.ensures; starts = c.in-Ok.ensures.starts })
