@@ -5,7 +5,6 @@ use Rattle.std.proofs.lemmas.List.{take-append-le}
 use Rattle.std.proofs.lemmas.Bool.{cases_lt, false≢true}
 use Rattle.std.specs.Result.{IsErr}
 use Rattle.cost_base.specs.Outside.{HasCause}
-use Rattle.cost_base.specs.Histories.{Hands}
 use Rattle.designer_command.specs.Reports.{IsHanded}
 
 -- of the whole text the sink was handed all but what is left
@@ -52,7 +51,7 @@ stop_at {T} {E} {F} Before Now Both f0 f1 f2 left total x (Err y) err piece rest
     let p = prefix_of piece rest put.0 in
     let whole : u.so_far ++ (piece ++ rest) ≡ total = ap (λ bytes. u.so_far ++ bytes) (sym e) ∙ u.same in
     let same : u.so_far ++ take put.0 piece ≡ take (length u.so_far + p.0) total =
-          ap (λ bytes. u.so_far ++ bytes) p.1 ∙ sym (take-append-add u.so_far (piece ++ rest) p.0) ∙ ap (λ bytes. take (length u.so_far + p.0) bytes) whole in
+    ap (λ bytes. u.so_far ++ bytes) p.1 ∙ sym (take-append-add u.so_far (piece ++ rest) p.0) ∙ ap (λ bytes. take (length u.so_far + p.0) bytes) whole in
     record {
       bytes = (length u.so_far + p.0, subst Both same (more u.so_far (take put.0 piece) u.got put.1));
       cause = record { later = omega (arith, u.later, cause.later); failed = omega (arith, u.later, cause.failed) };
