@@ -1,11 +1,10 @@
 -- When a run has to answer.
-use Rattle.std.proofs.Common.{◌≡◌, ℕ, refl, sym, subst, List}
+use Rattle.std.proofs.Common.{◌≡◌, ℕ, refl, subst, List}
 use Rattle.cost_base.specs.declared.Status.{Status}
 use Rattle.cost_base.specs.declared.Status.TheVariants as status
 use Rattle.cost_base.specs.Histories.{Taken}
 use Rattle.input_files.specs.Readings.{Reading, Says, Faulty, Failed, EndsAs}
 use Rattle.input_files.proofs.Readings.{one_end, one_said, said_faulty, said_failed}
-use Rattle.answer_commands.specs.Checks.{Claim}
 use Rattle.designer_command.specs.Runs.{MayAfter, MayAudit, MayCheck}
 use Rattle.designer_command.specs.Completeness.{ValidAnswersAreAccepted, WellFormedInputIsAudited}
 

@@ -8,7 +8,6 @@ use Rattle.path_rows.specs.Problems.{DesignProblem}
 use Rattle.path_rows.specs.Rows.{IsFit}
 use Rattle.path_rows.specs.Answers.{AnswerParts}
 use Rattle.path_rows.specs.Text.{text}
-use Rattle.lsdb_build.specs.Graphs.{IsDatabase}
 use Rattle.input_files.specs.declared.problem.View.{View}
 use Rattle.input_files.specs.declared.problem.View.TheVariants.{AsRequested}
 use Rattle.input_files.specs.Inputs.{InputFiles}

@@ -1,5 +1,5 @@
 -- A pair of routers: what its files say, its printed answer read back, and a request with a bound of 0.
-use Rattle.std.proofs.Common.{◌≡◌, ℕ, refl, List, [], ◌∷◌, ◌++◌, Option, Some, None}
+use Rattle.std.proofs.Common.{◌≡◌, ℕ, refl, List, [], ◌∷◌, ◌++◌, Some, None}
 use Rattle.std.specs.Prelude.{codes, Ok, Err}
 use Rattle.area_graph.specs.declared.Vertex.TheVariants.{Router as RouterVertex}
 use Rattle.area_graph.specs.declared.Price.TheVariants.{Fixed, Var}

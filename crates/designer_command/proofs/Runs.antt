@@ -15,7 +15,7 @@ use Rattle.command_words.specs.Jobs as read
 use Rattle.input_files.specs.declared.stop.Stop.{Stop}
 use Rattle.input_files.specs.declared.stop.Stop.TheVariants as stops
 use Rattle.input_files.specs.Readings.{Reading, Gave}
-use Rattle.input_files.specs.Stops.{StopsAs, IsReady, IsReadAs, refusal_in}
+use Rattle.input_files.specs.Stops.{StopsAs, IsReadAs, refusal_in}
 use Rattle.designer_command.specs.declared.report.Report.{Report}
 use Rattle.designer_command.specs.Texts.{usage}
 use Rattle.designer_command.specs.Reports.{Reports, ReportsStop, ReportsAny, IsWritten, bytes_in}

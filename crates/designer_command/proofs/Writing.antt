@@ -5,7 +5,6 @@ use Rattle.std.proofs.lemmas.List.{take-append-le}
 use Rattle.std.proofs.lemmas.Bool.{cases_lt, false≢true}
 use Rattle.std.specs.Result.{IsErr}
 use Rattle.cost_base.specs.Outside.{HasCause}
-use Rattle.cost_base.specs.Histories.{Hands}
 use Rattle.designer_command.specs.Reports.{IsHanded}
 
 -- of the whole text the sink was handed all but what is left

@@ -1,7 +1,6 @@
 -- The lines that a run writes beside an answer.
-use Rattle.std.specs.Prelude.{ℕ, List, [], ◌∷◌, ◌++◌, codes, map}
-use Rattle.std.specs.List.{concat, join_with_byte}
-use Rattle.std.specs.Borrow.{Bor}
+use Rattle.std.specs.Prelude.{ℕ, List, [], ◌∷◌, ◌++◌, codes}
+use Rattle.std.specs.List.{join_with_byte}
 use Rattle.cost_base.specs.Decimal.{decimal}
 use Rattle.config_reader.specs.Sections.{with_ends}
 use Rattle.evidence_checker.specs.declared.stop.Accepted.{Accepted}

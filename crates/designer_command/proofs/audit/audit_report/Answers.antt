@@ -1,5 +1,4 @@
 -- The paths of the problem that was read were audited.
-use Rattle.std.proofs.Common.{◌≡◌}
 use Rattle.input_files.specs.declared.problem.View.TheVariants.{AtPresent}
 use Rattle.input_files.specs.Stops.{files_named}
 use Rattle.designer_command.proofs.DesignRuns.{audit_found}

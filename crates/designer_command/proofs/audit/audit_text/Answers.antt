@@ -1,5 +1,5 @@
 -- The line of the next path is put behind the others.
-use Rattle.std.proofs.Common.{◌<◌, ◌∙◌, sym, length, rules}
+use Rattle.std.proofs.Common.{◌<◌, ◌∙◌, length, rules}
 use Rattle.designer_command.proofs.Audits.{audit_turn}
 use Rattle.designer_command.proofs.audit.audit_text.Goals as goal
 

@@ -1,7 +1,7 @@
 -- Each line is put after the others.
-use Rattle.std.proofs.Common.{◌≡◌, ◌++◌, sym, subst, List, ℕ}
+use Rattle.std.proofs.Common.{◌≡◌, ◌++◌, sym}
 use Rattle.std.proofs.lemmas.List.{take-append-drop}
-use Rattle.designer_command.proofs.Writing.{IsUnderway, begin, turn, stop_at, finish}
+use Rattle.designer_command.proofs.Writing.{begin, turn, stop_at}
 use Rattle.designer_command.proofs.writer.put_text.Goals as goal
 
 pub loop-left-init : goal.loop-left-init
