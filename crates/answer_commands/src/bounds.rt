@@ -10,26 +10,22 @@ use path_rows::{Answer, CapTree, CostLine, Costs, Entry, Floor, Member, Parts, R
 /// The number of a variable, a request or an edge.
 fn keeps_thing(_number: u32)
     ensures { IsThing _number }
-{
-}
+{}
 
 /// A cost or a bound.
 fn keeps_cost(_cost: u16)
     ensures { IsCost _cost }
-{
-}
+{}
 
 /// The number of a row.
 fn keeps_row_number(_row: u64)
     ensures { IsRowNumber _row }
-{
-}
+{}
 
 /// A bound of a variable.
 fn keeps_end(_var: u32, _bound: u16)
     ensures { IsThing _var × IsCost _bound }
-{
-}
+{}
 
 /// What is claimed.
 fn keeps_verdict(verdict: Verdict)
@@ -78,8 +74,7 @@ fn keeps_costs(costs: &Option<Costs>)
 /// The numbers of edges.
 fn keeps_edges(_edges: &[u32])
     ensures { All IsThing _edges.now }
-{
-}
+{}
 
 /// A request and the edges of a rival.
 fn keeps_row(row: &Row)
@@ -147,7 +142,10 @@ fn keeps_entry(entry: &Entry)
 {
     match entry {
         Entry::Tighten {
-            var, value, row, ..
+            var,
+            value,
+            row,
+            ..
         } => {
             keeps_end(*var, *value);
             keeps_row_number(*row);
