@@ -1,9 +1,9 @@
 -- An answer's file, read after other files.
-use Rattle.std.proofs.Common.{◌≡◌, refl, List, [], ◌++◌, Result, Ok, Err}
+use Rattle.std.proofs.Common.{refl, List, ◌++◌, Ok, Err}
 use Rattle.cost_base.specs.Histories.{Taken}
 use Rattle.input_files.specs.declared.stop.Stop.{Stop}
 use Rattle.input_files.specs.Readings.{Reading, Ready, ◌>>=◌, Gave}
-use Rattle.input_files.specs.Stops.{StopsAs, IsReady, IsReadAs}
+use Rattle.input_files.specs.Stops.{StopsAs, IsReady}
 use Rattle.input_files.proofs.Stops.{gave_then, gave_made, gave_stop}
 
 -- what stops the file stops both, where the others were read

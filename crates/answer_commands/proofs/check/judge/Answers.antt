@@ -1,5 +1,4 @@
 -- The bytes are the text of the answer that was read, or of none.
-use Rattle.std.proofs.Common.{subst}
 use Rattle.answer_commands.proofs.Judged.{off_grammar_rejected}
 use Rattle.answer_commands.proofs.check.judge.Goals as goal
 
