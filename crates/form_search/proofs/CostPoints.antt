@@ -1,0 +1,195 @@
+-- Points of a box of costs, least points, and forms that fit a tableau.
+use Rattle.std.proofs.Common.{◌≡◌, ℕ, zero, suc, ◌+◌, ◌*◌, ◌^◌, ◌<◌, ◌≤◌, refl, sym, ◌∙◌, ap, subst, inl, inr, List, [], ◌∷◌, length, map, arith}
+use Rattle.std.specs.Prelude.{ℤ, pos, negsuc, ◌+ℤ◌, ◌*ℤ◌, ◌<ℤ◌, ◌≤ℤ◌, nat_abs, All, slice_index}
+use Rattle.std.proofs.Math.Nat.{mul-le-mul_left}
+use Rattle.std.proofs.lemmas.Int.{ints}
+use Rattle.std.proofs.lemmas.List.{length-map}
+use Rattle.std.proofs.lemmas.Bool.{cases_lt}
+use Rattle.area_graph.specs.declared.Point.{Point}
+use Rattle.area_graph.specs.Costs.{at_costs}
+use Rattle.path_rows.specs.Forms.{Form}
+use Rattle.path_rows.specs.declared.form.CostBox.{CostBox}
+use Rattle.path_rows.specs.Forms.{added, dot, form_at, no_form, value, value_at, weighted}
+use Rattle.path_rows.specs.Boxes.{IsBox, IsInBox, IsPointOf, Refutes, greatest, upper, upper_sum}
+use Rattle.path_rows.specs.Trees.{CutsAt}
+use Rattle.path_rows.specs.Earnest.{Before, IsLeast, SplitsFraction}
+use Rattle.advisor_box.specs.declared.candidate.Candidate.{Candidate}
+use Rattle.form_search.specs.Sources.{AreMet, IsCostPoint, IsTrueForm, scaled}
+use Rattle.form_search.specs.Points.{IsCostsBox, IsFractional}
+
+low_first : (n : ℕ) (box : CostBox) → IsCostsBox n box → (k : ℕ) → k < n → 1 ≤ slice_index box.low k
+low_first n box kept k k_in = kept.lows k 0 (omega (arith, kept.is_box.low_count))
+
+high_last : (n : ℕ) (box : CostBox) → IsCostsBox n box → (k : ℕ) → k < n → slice_index box.high k ≤ 65535
+high_last n box kept k k_in = kept.highs k 0 (omega (arith, kept.is_box.high_count))
+
+scaled_least : (low x scale : ℕ) → 1 ≤ low → low * scale ≤ x → scale ≤ x
+scaled_least (suc low) x scale some above = omega arith
+scaled_least zero x scale some above = absurd (omega arith)
+
+scaled_most : (high x scale : ℕ) → high ≤ 65535 → x ≤ high * scale → x ≤ 65535 * scale
+scaled_most high x scale few below =
+    let more : scale * high ≤ scale * 65535 = mul-le-mul_left scale few in
+    omega arith
+
+each_at : (P : ℕ → Type 0) (xs : List ℕ) → ((k : ℕ) → k < length xs → P (slice_index xs k)) → All P xs
+each_at P [] each k d k_in = absurd (omega arith)
+each_at P (x ∷ xs) each zero d k_in = each 0 (omega arith)
+each_at P (x ∷ xs) each (suc k) d k_in = each_at P xs (λ i i_in. each (suc i) (omega arith)) k d (omega arith)
+
+-- a point of a box of costs
+pub cost_point : (n : ℕ) (box : CostBox) (point : Point) → IsCostsBox n box → IsPointOf box point → point.scale < 2 ^ 100 → IsCostPoint n point
+cost_point n box point kept inside small =
+    let count : length point.values ≡ n = sym inside.low_count ∙ kept.is_box.low_count in
+    record {
+      count = count;
+      scale = inside.scale;
+      scale_below = small;
+      least = each_at (λ x. point.scale ≤ x) point.values (λ k k_in. scaled_least (slice_index box.low k) (slice_index point.values k) point.scale (low_first n box kept k (omega arith)) (inside.above k k_in));
+      most = each_at (λ x. x ≤ 65535 * point.scale) point.values (λ k k_in. scaled_most (slice_index box.high k) (slice_index point.values k) point.scale (high_last n box kept k (omega arith)) (inside.below k k_in));
+    }
+
+-- the low corner of a box as costs
+pub low_values : (n : ℕ) (box : CostBox) → IsCostsBox n box → All (λ x. (1 ≤ x) × (x ≤ 65535)) box.low
+low_values n box kept = each_at (λ x. (1 ≤ x) × (x ≤ 65535)) box.low (λ k k_in.
+    let known : k < n = omega (arith, kept.is_box.low_count) in
+    (low_first n box kept k known, (let a = kept.is_box.ordered k known in let b = high_last n box kept k known in omega arith)))
+
+-- of points that meet the forms the least one that is accepted is the least accepted one
+pub least_accepted : (n : ℕ) (accepted : Point → Type 0) (forms : List Form) (box : CostBox) (point : Point) → IsBox n box → All (IsTrueForm n accepted) forms → IsPointOf box point → ((other : Point) → IsPointOf box other → AreMet forms other → Before other point → ⊥) → accepted point → IsLeast accepted box point
+least_accepted n accepted forms box point kept hold inside least is = record {
+  inside = inside;
+  accepted = is;
+  least = λ other other_in other_is before.
+      least other other_in (λ k d k_in. (hold k d k_in).met other (sym other_in.low_count ∙ kept.low_count) other_is) before;
+}
+
+-- a candidate cuts its variable's range
+pub candidate_cuts : (n : ℕ) (box : CostBox) (point : Point) (candidate : Candidate) → IsBox n box → IsPointOf box point → IsFractional box point candidate → CutsAt box candidate.var candidate.floor
+candidate_cuts n box point candidate kept inside fractional = record {
+  var_known = omega (arith, fractional.known, inside.low_count);
+  above =
+      elim (cases_lt candidate.floor (slice_index box.low candidate.var)) [
+        | inl less ↦
+            let more : point.scale * (candidate.floor + 1) ≤ point.scale * slice_index box.low candidate.var = mul-le-mul_left point.scale (let e : candidate.floor + 1 ≤ slice_index box.low candidate.var = omega arith in e) in
+            let at_least = inside.above candidate.var fractional.known in
+            let below = fractional.below in
+            absurd (omega arith)
+        | inr not ↦ not
+      ];
+  below =
+      elim (cases_lt candidate.floor (slice_index box.high candidate.var)) [
+        | inl less ↦ less
+        | inr not ↦
+            let more : point.scale * slice_index box.high candidate.var ≤ point.scale * candidate.floor = mul-le-mul_left point.scale not in
+            let at_most = inside.below candidate.var fractional.known in
+            let above = fractional.above in
+            absurd (omega arith)
+      ];
+}
+
+-- and the least accepted point is fractional there
+pub candidate_splits : (accepted : Point → Type 0) (box : CostBox) (point : Point) (candidate : Candidate) → IsLeast accepted box point → IsFractional box point candidate → SplitsFraction accepted box candidate.var candidate.floor
+candidate_splits accepted box point candidate least fractional = record { point = point; least = least; above = fractional.above; below = fractional.below }
+
+-- values that are below the upper bounds, and not divided by the scale, are costs of the box
+pub values_inside : (n : ℕ) (box : CostBox) (point : Point) → IsCostsBox n box → IsPointOf box point → ((k : ℕ) → k < length box.high → slice_index point.values k ≤ slice_index box.high k) → IsInBox box point.values
+values_inside n box point kept inside within = record {
+  low_count = inside.low_count;
+  high_count = inside.high_count;
+  above = λ k k_in. grown (slice_index box.low k) (slice_index point.values k) point.scale inside.scale (inside.above k k_in);
+  below = λ k k_in. within k (omega (arith, inside.high_count));
+}
+  where
+    grown : (low x scale : ℕ) → 0 < scale → low * scale ≤ x → low ≤ x
+    grown low x scale some above = let more : low * 1 ≤ low * scale = mul-le-mul_left low some in omega arith
+
+-- whole costs are costs of the box where the point is one of it
+pub whole_inside : (box : CostBox) (w : List ℕ) (scale : ℕ) → IsPointOf box (scaled w scale) → IsInBox box w
+whole_inside box w scale inside =
+    let counted = length-map w (λ (x : ℕ). x * scale) in
+    record {
+      low_count = inside.low_count ∙ counted;
+      high_count = inside.high_count ∙ counted;
+      above = λ k k_in. divided (slice_index box.low k) (slice_index w k) scale inside.scale (subst (λ (x : ℕ). slice_index box.low k * scale ≤ x) (at w k k_in) (inside.above k (omega arith)));
+      below = λ k k_in. divided (slice_index w k) (slice_index box.high k) scale inside.scale (subst (λ (x : ℕ). x ≤ slice_index box.high k * scale) (at w k k_in) (inside.below k (omega arith)));
+    }
+  where
+    at : (xs : List ℕ) (k : ℕ) → k < length xs → slice_index (map (λ x. x * scale) xs) k ≡ slice_index xs k * scale
+    at [] k k_in = absurd (omega arith)
+    at (x ∷ xs) zero k_in = refl
+    at (x ∷ xs) (suc k) k_in = at xs k (omega arith)
+
+    divided : (a b scale : ℕ) → 0 < scale → a * scale ≤ b * scale → a ≤ b
+    divided a b scale some small =
+        elim (cases_lt b a) [
+          | inl less ↦ (let more : scale * (b + 1) ≤ scale * a = mul-le-mul_left scale (let e : b + 1 ≤ a = omega arith in e) in absurd (omega arith))
+          | inr not ↦ not
+        ]
+
+-- a value at costs is the value at their point
+times_one : (z : ℤ) → (z *ℤ pos 1) ≡ z
+times_one z = omega (arith, ints)
+
+pub value_there : (f : Form) (w : List ℕ) → value_at f (at_costs w) ≡ value f w
+value_there f w = ap (λ (z : ℤ). z +ℤ dot f.coefficients w) (times_one f.constant)
+
+-- at a box of one point the greatest value is the value there
+one_term : (c : ℤ) (x : ℕ) → upper c x x ≡ (c *ℤ pos x)
+one_term (pos c) x = refl
+one_term (negsuc c) x = refl
+
+one_sum : (cs : List ℤ) (xs : List ℕ) → upper_sum cs xs xs ≡ dot cs xs
+one_sum [] xs = refl
+one_sum (c ∷ cs) [] = refl
+one_sum (c ∷ cs) (x ∷ xs) = cc (one_term c x, one_sum cs xs)
+
+pub one_value : (f : Form) (box : CostBox) → box.low ≡ box.high → greatest f box ≡ value_at f (at_costs box.low)
+one_value f box one =
+    ap (λ (hs : List ℕ). f.constant +ℤ upper_sum f.coefficients box.low hs) (sym one)
+    ∙ ap (λ (z : ℤ). f.constant +ℤ z) (one_sum f.coefficients box.low)
+    ∙ sym (value_there f box.low)
+
+pub one_met : (forms : List Form) (box : CostBox) → box.low ≡ box.high → All (λ f. pos 0 ≤ℤ greatest f box) forms → AreMet forms (at_costs box.low)
+one_met forms box one met k d k_in = subst (λ (z : ℤ). pos 0 ≤ℤ z) (one_value (slice_at forms k d) box one) (met k d k_in)
+  where
+    slice_at : List Form → ℕ → Form → Form
+    slice_at fs k d = Rattle.std.proofs.Common.get_or fs k d
+
+-- the sum of one form is that form
+one_product : (c : ℤ) → (pos 1 *ℤ c) ≡ c
+one_product (pos n) = omega (arith, ints)
+one_product (negsuc n) = omega (arith, ints)
+
+one_products : (cs : List ℤ) → added (map (λ c. pos 1 *ℤ c) cs) [] ≡ cs
+one_products [] = refl
+one_products (c ∷ cs) = go (map (λ d. pos 1 *ℤ d) cs) (one_list cs)
+  where
+    one_list : (ds : List ℤ) → map (λ d. pos 1 *ℤ d) ds ≡ ds
+    one_list [] = refl
+    one_list (d ∷ ds) = cc (one_product d, one_list ds)
+
+    go : (ds : List ℤ) → ds ≡ cs → ((pos 1 *ℤ c) ∷ ds) ≡ (c ∷ cs)
+    go ds same = cc (one_product c, same)
+
+no_more : (c : ℤ) → (c +ℤ pos 0) ≡ c
+no_more c = omega (arith, ints)
+
+pub weighted_one : (forms : List Form) (row : ℕ) → weighted forms ((row, 1) ∷ []) ≡ form_at forms row
+weighted_one forms row = λ i. record {
+  constant = (no_more (pos 1 *ℤ (form_at forms row).constant) ∙ one_product (form_at forms row).constant) i;
+  coefficients = one_products (form_at forms row).coefficients i;
+}
+
+-- one form that is negative all over a box refutes it
+pub refutes_one : (forms : List Form) (row : ℕ) (box : CostBox) → row < length forms → greatest (form_at forms row) box <ℤ pos 0 → Refutes forms ((row, 1) ∷ []) box
+refutes_one forms row box row_in negative = record {
+  rows = one_all (λ part. part.0 < length forms) row_in;
+  positive = one_all (λ part. 0 < part.1) (omega arith);
+  sum = omega arith;
+  negative = subst (λ (f : Form). greatest f box <ℤ pos 0) (sym (weighted_one forms row)) negative;
+}
+  where
+    one_all : (P : ℕ × ℕ → Type 0) → P (row, 1) → All P ((row, 1) ∷ [])
+    one_all P p zero d k_in = p
+    one_all P p (suc k) d k_in = absurd (omega arith)

@@ -1,0 +1,2 @@
+pub mod CostPoints
+pub mod Entries

@@ -1,0 +1,10 @@
+use Rattle.std.proofs.Common.{◌≡◌, ℕ, ◌<◌, ◌%◌, length, get_or}
+use Rattle.std.specs.Prelude.{All}
+use Rattle.form_search.specs.Points.{IsFractional}
+use Rattle.form_search.proofs.candidates.fractional.Given as goal
+
+abbrev pub invariant-loop-var : goal.invariant-loop-var
+invariant-loop-var l = record {
+  found : All (IsFractional l.costs l.point) l.candidates.items;
+  some : (k : ℕ) → k < l.var → (get_or l.point.values k 0 % l.point.scale ≡ 0 → ⊥) → 0 < length l.candidates.items;
+}

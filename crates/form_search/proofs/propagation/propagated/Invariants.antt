@@ -1,0 +1,7 @@
+use Rattle.std.proofs.Common.{length}
+use Rattle.path_rows.specs.OpenPlaces.{first_place}
+use Rattle.form_search.specs.Turns.{IsWatch}
+use Rattle.form_search.proofs.propagation.propagated.Given as goal
+
+abbrev pub invariant-loop-row : goal.invariant-loop-row
+invariant-loop-row l = IsWatch (length (first_place l.tree.places).box.low) l.watch

@@ -1,0 +1,6 @@
+pub mod Sources
+pub mod Finds
+pub mod Advised
+pub mod Points
+pub mod Tables
+pub mod Turns

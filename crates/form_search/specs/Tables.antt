@@ -1,0 +1,59 @@
+-- What a tableau that is kept holds, and what it tells of a box.
+use Rattle.std.specs.Prelude.{◌≡◌, ◌≢◌, ℕ, suc, ◌+◌, ◌^◌, ◌<◌, ◌≤◌, List, [], length, take, All, Option, Some, None}
+use Rattle.area_graph.specs.declared.Point.{Point}
+use Rattle.path_rows.specs.Forms.{Form}
+use Rattle.path_rows.specs.declared.form.CostBox.{CostBox}
+use Rattle.path_rows.specs.declared.tree.WideAt.{WideAt}
+use Rattle.path_rows.specs.Boxes.{Refutes}
+use Rattle.path_rows.specs.Steps.{IsTooWide}
+use Rattle.path_rows.specs.Earnest.{IsLeast}
+use Rattle.path_rows.specs.Text.{IsPrinted}
+use Rattle.exact_simplex.specs.Tableaus.{Held, IsGoing, MeetsRows, wide_at}
+use Rattle.exact_simplex.specs.declared.stage.SimplexStop.{SimplexStop}
+use Rattle.exact_simplex.specs.declared.stage.SimplexStop.TheVariants.{TooWide as StepTooWide, OutOfMemory}
+use Rattle.form_search.specs.declared.table.HeldTableau.{HeldTableau}
+use Rattle.form_search.specs.declared.table.Least.{Least}
+use Rattle.form_search.specs.declared.table.Least.TheVariants.{Point as AtPoint, Refuted, Wide}
+
+-- A tableau in n variables that holds the first forms of the pool; where a step has stopped it, maybe one more than it counts.
+pub record IsHeld (top n : ℕ) (forms : List Form) (table : HeldTableau) : Type 0 where
+  pub same_top : table.tableau.top ≡ top
+  pub width : length table.tableau.costs.low ≡ n
+  pub taken : ℕ
+  pub few : taken ≤ length forms
+  pub rows : table.tableau.rows ≡ take taken forms
+  pub all : IsGoing table.tableau.stage → taken ≡ table.held
+
+-- one that is kept, if there is one
+abbrev pub IsKept : ℕ → ℕ → List Form → Option HeldTableau → Type 0
+IsKept top n forms None = Unit {0}
+IsKept top n forms (Some table) = IsHeld top n forms table
+
+-- it stands over the box, and goes
+pub record StandsAt (top : ℕ) (box : CostBox) (forms : List Form) (table : HeldTableau) : Type 0 where
+  pub is_held : IsHeld top (length box.low) forms table
+  pub costs : table.tableau.costs ≡ box
+  pub going : IsGoing table.tableau.stage
+
+-- a step that is too wide, as it is printed
+pub record IsPrintedWide (top : ℕ) (box : CostBox) (forms : List Form) (wide : WideAt) : Type 0 where
+  pub too_wide : IsTooWide top box forms wide
+  pub left : IsPrinted wide.left
+  pub right : IsPrinted wide.right
+  pub some : wide.basis ≢ []
+
+-- multipliers that refute the box, of few forms
+pub record RefutesBy (box : CostBox) (forms : List Form) (parts : List (ℕ × ℕ)) : Type 0 where
+  pub refutes : Refutes forms parts box
+  pub few : length parts ≤ length box.low + 1
+
+-- what the tableau tells: the least point of the box that meets the forms, multipliers, or a step that is too wide
+abbrev pub IsTold : ℕ → CostBox → List Form → Point → Least → Type 0
+IsTold top box forms point AtPoint = IsLeast (MeetsRows forms) box point × (point.scale < 2 ^ 100)
+IsTold top box forms point (Refuted parts) = RefutesBy box forms parts
+IsTold top box forms point (Wide wide) = IsPrintedWide top box forms wide
+
+-- the step that stopped the work is too wide at the tableau's basis, with the forms that it holds
+abbrev pub IsStepTold : CostBox → List Form → Held → SimplexStop → Type 0
+IsStepTold box forms held (StepTooWide wide) = IsTooWide held.top box held.rows (wide_at wide held.basis)
+IsStepTold box forms held OutOfMemory = Unit {0}

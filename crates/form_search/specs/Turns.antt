@@ -1,0 +1,63 @@
+-- What comes next at an open place, and what is kept from box to box.
+use Rattle.std.specs.Prelude.{◌≡◌, ℕ, ◌^◌, ◌≤◌, List, length, nat_abs, false, All, Contains}
+use Rattle.area_graph.specs.declared.Point.{Point}
+use Rattle.area_graph.specs.Costs.{at_costs}
+use Rattle.path_rows.specs.Forms.{Form}
+use Rattle.path_rows.specs.declared.tree.Entry.{Entry}
+use Rattle.path_rows.specs.declared.tree.Entry.TheVariants.{Tighten, Split, Halve, Refute, Undone}
+use Rattle.path_rows.specs.Boxes.{IsInBox, Refutes}
+use Rattle.path_rows.specs.Trees.{SoundAt, TightensAt, is_undone}
+use Rattle.path_rows.specs.Earnest.{EarnestAt, Place}
+use Rattle.form_search.specs.declared.turn.Next.{Next}
+use Rattle.form_search.specs.declared.turn.Next.TheVariants.{Forms, Costs, Entry as ByEntry}
+use Rattle.form_search.specs.declared.turn.Desk.{Desk}
+use Rattle.form_search.specs.declared.watch.Watch.{Watch}
+use Rattle.form_search.specs.Finds.{IsShort}
+use Rattle.form_search.specs.Tables.{IsKept}
+
+-- an entry that may come next at the place, over the pool's forms
+pub record IsNextEntry (accepted : Point → Type 0) (top : ℕ) (forms : List Form) (place : Place) (entry : Entry) : Type 0 where
+  pub sound : SoundAt forms place.box entry
+  pub earnest : EarnestAt accepted top forms place entry
+  pub short : IsShort (length place.box.low) entry
+  pub closed : is_undone entry ≡ false
+
+-- a form in n variables, with coefficients of at most 2^26
+pub record IsFormIn (n : ℕ) (form : Form) : Type 0 where
+  pub count : length form.coefficients ≡ n
+  pub sizes : All (λ c. nat_abs c ≤ 2 ^ 26) form.coefficients
+
+abbrev pub AreFormsOf : ℕ → List Form → Type 0
+AreFormsOf n forms = All (IsFormIn n) forms
+
+-- the entry by one form: it may come next whatever the points that are accepted
+abbrev pub IsNextRow : List Form → Place → Entry → Type 0
+IsNextRow forms place (Tighten var side value row) = TightensAt forms place.box side var value row × EarnestAt (λ point. ⊥) 0 forms place (Tighten var side value row)
+IsNextRow forms place (Split var value) = ⊥
+IsNextRow forms place (Halve var value wide) = ⊥
+IsNextRow forms place (Refute parts) = Refutes forms parts place.box × IsShort (length place.box.low) (Refute parts)
+IsNextRow forms place Undone = ⊥
+
+-- the pool has a form that it hadn't
+pub record HasNew (old new : List Form) : Type 0 where
+  pub form : Form
+  pub is_new : Contains new form
+  pub not_old : Contains old form → ⊥
+
+-- what may come next at the place: new forms, costs of its box that are accepted, or an entry
+abbrev pub IsNext : (Point → Type 0) → ℕ → List Form → List Form → Place → Next → Type 0
+IsNext accepted top old new place Forms = HasNew old new
+IsNext accepted top old new place (Costs w) = IsInBox place.box w × accepted (at_costs w)
+IsNext accepted top old new place (ByEntry entry) = IsNextEntry accepted top new place entry
+
+-- a watch over n variables
+pub record IsWatch (n : ℕ) (watch : Watch) : Type 0 where
+  pub lists : length watch.forms_of.items ≡ n
+  pub low : length watch.low.items ≡ n
+  pub high : length watch.high.items ≡ n
+
+-- what is kept from box to box, in n variables
+pub record IsDesk (top n : ℕ) (forms : List Form) (desk : Desk) : Type 0 where
+  pub watch : IsWatch n desk.watch
+  pub table : IsKept top n forms desk.table
+  pub point : length desk.point.values ≡ n

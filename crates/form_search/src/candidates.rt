@@ -1,0 +1,104 @@
+//! The variables at which a box may be split.
+ghost use Rattle.std.specs.Prelude.{◌≡◌, ℕ, ◌%◌, ◌^◌, ◌<◌, ◌≤◌, length, slice_index, All, IfOk, OnOk};
+ghost use Rattle.path_rows.specs.Boxes.{IsPointOf};
+ghost use Rattle.form_search.specs.Points.{IsCostsBox, IsFractional, IsWholePoint};
+
+use crate::watch::Watch;
+use advisor_box::Candidate;
+use area_graph::Point;
+use cost_base::OutOfMemory;
+use path_rows::CostBox;
+use std::alloc::Global;
+
+/// Where a candidate stands: first those of wide ranges, the widest first; then the others, those in more forms first;
+/// equal ones in rising order.
+#[derive(Clone, Copy, PartialEq, Eq, PartialOrd, Ord)]
+struct Rank {
+    is_narrow: bool,
+    short_by: usize,
+    var: u32,
+}
+
+/// The rank of a candidate that stands in so many forms.
+fn rank_of(candidate: &Candidate, forms: usize) -> Rank {
+    let range = candidate.high.saturating_sub(candidate.low);
+    if range >= 256 {
+        Rank {
+            is_narrow: false,
+            short_by: usize::MAX - usize::from(range),
+            var: candidate.var,
+        }
+    } else {
+        Rank {
+            is_narrow: true,
+            short_by: usize::MAX - forms,
+            var: candidate.var,
+        }
+    }
+}
+
+/// Puts a variable at the end, where it is fractional at the point.
+fn push_fractional(
+    candidates: &mut Vec<Candidate>,
+    point: &Point,
+    costs: &CostBox,
+    var: usize,
+) -> Result<(), OutOfMemory>
+    requires ranges { IsCostsBox (length costs.now.low) costs.now }
+    requires inside { IsPointOf costs.now point.now }
+    requires known { var < length point.now.values }
+    requires so_far { All (IsFractional costs.now point.now) candidates.old.items }
+    ensures fractional { OnOk result (All (IsFractional costs.now point.now) candidates.new.items) }
+    ensures more { OnOk result (length candidates.old.items ≤ length candidates.new.items) }
+    ensures some { OnOk result ((slice_index point.now.values var % point.now.scale ≡ 0 → ⊥) → 0 < length candidates.new.items) }
+{
+    let scale = point.scale;
+    let x = point.values.as_slice()[var];
+    if x % scale == 0 {
+        return Ok(());
+    }
+    let candidate = Candidate {
+        var: var as u32,
+        floor: (x / scale) as u16,
+        low: costs.low.as_slice()[var],
+        high: costs.high.as_slice()[var],
+    };
+    match candidates.push(candidate) {
+        Ok(()) => Ok(()),
+        Err(_) => Err(OutOfMemory),
+    }
+}
+
+/// The variables that are fractional at the point, in rising order.
+fn fractional(alloc: Global, point: &Point, costs: &CostBox) -> Result<Vec<Candidate>, OutOfMemory>
+    requires ranges { IsCostsBox (length costs.now.low) costs.now }
+    requires inside { IsPointOf costs.now point.now }
+    ensures fractional { IfOk result (λ found. All (IsFractional costs.now point.now) found.items) }
+    ensures some { (IsWholePoint point.now → ⊥) → IfOk result (λ found. 0 < length found.items) }
+{
+    let mut candidates = Vec::new(alloc);
+    for var in 0..point.values.as_slice().len() {
+        push_fractional(&mut candidates, point, costs, var)?;
+    }
+    Ok(candidates)
+}
+
+/// The candidates of the point, in the order in which advisors see them.
+pub(crate) fn candidates_of(
+    alloc: Global,
+    point: &Point,
+    costs: &CostBox,
+    watch: &Watch,
+) -> Result<Vec<Candidate>, OutOfMemory>
+    requires ranges { IsCostsBox (length costs.now.low) costs.now }
+    requires inside { IsPointOf costs.now point.now }
+    ensures fractional { IfOk result (λ found. All (IsFractional costs.now point.now) found.items) }
+    ensures some { (IsWholePoint point.now → ⊥) → IfOk result (λ found. 0 < length found.items) }
+{
+    let mut candidates = fractional(alloc, point, costs)?;
+    candidates.sort_unstable_by_key(|candidate| rank_of(
+        candidate,
+        watch.forms_with(candidate.var),
+    ));
+    Ok(candidates)
+}

@@ -1,0 +1,55 @@
+//! The pool of forms.
+ghost use Rattle.std.specs.Prelude.{◌≡◌, ◌++◌, [], ◌∷◌, OnOk, OnErr};
+
+use cost_base::OutOfMemory;
+use path_rows::Form;
+use std::alloc::Global;
+use std::marker::Model;
+
+/// The forms that a search knows. Contracts see the list of the forms.
+#[derive(Drop)]
+pub struct FormPool {
+    forms: Vec<Form>,
+}
+
+impl Model for FormPool {
+    ghost use Rattle.std.specs.Prelude.{List};
+    ghost use Rattle.path_rows.specs.Forms.{Form};
+
+    ghost Value = { List Form };
+
+    ghost view = { λ p. p.forms.items };
+}
+
+impl FormPool {
+    /// The pool without a form. It takes no memory yet.
+    pub fn new(alloc: Global) -> FormPool
+        ensures { result ≡ [] }
+    {
+        FormPool {
+            forms: Vec::new(alloc),
+        }
+    }
+
+    /// Adds a form at the end.
+    ///
+    /// # Errors
+    ///
+    /// `OutOfMemory` where the list got no memory. Then the pool is as before.
+    pub fn push(&mut self, form: Form) -> Result<(), OutOfMemory>
+        ensures added { OnOk result (self.new ≡ self.old ++ form ∷ []) }
+        ensures kept { OnErr result (self.new ≡ self.old) }
+    {
+        match self.forms.push(form) {
+            Ok(()) => Ok(()),
+            Err(_) => Err(OutOfMemory),
+        }
+    }
+
+    /// The forms, in order.
+    pub fn as_slice(&self) -> &[Form]
+        ensures { result.now ≡ self.now }
+    {
+        self.forms.as_slice()
+    }
+}

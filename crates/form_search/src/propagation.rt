@@ -1,0 +1,107 @@
+//! What the forms say of a box, one by one.
+ghost use Rattle.std.specs.Prelude.{◌≡◌, ℕ, ◌<◌, ◌^◌, ◌≤◌, [], ◌∷◌, ◌<ℤ◌, ◌≤ℤ◌, pos, List, length, nat_abs, All, IfOk, IfSome, MatchOption, None, OnOk};
+ghost use Rattle.path_rows.specs.declared.tree.Entry.TheVariants.{Refute};
+ghost use Rattle.path_rows.specs.Forms.{Form};
+ghost use Rattle.path_rows.specs.Boxes.{greatest};
+ghost use Rattle.path_rows.specs.Forms.{form_at};
+ghost use Rattle.path_rows.specs.OpenPlaces.{first_place};
+ghost use Rattle.form_search.specs.Points.{IsCostsBox};
+ghost use Rattle.form_search.specs.Turns.{AreFormsOf, IsFormIn, IsNextRow, IsWatch};
+
+use crate::FormPool;
+use crate::watch::Watch;
+use bound_propagation::tighten;
+use cost_base::OutOfMemory;
+use path_rows::{CostBox, Entry, Form, Parts, TreeBuilder, greatest_over};
+use std::alloc::Global;
+
+/// The Refute by one form.
+pub(crate) fn refute_by(alloc: Global, row: usize) -> Result<Entry, OutOfMemory>
+    ensures { IfOk result (λ entry. entry ≡ Refute ((row, 1) ∷ [])) }
+{
+    let mut parts = Vec::new(alloc);
+    match parts.push((row as u64, 1u128)) {
+        Ok(()) => Ok(Entry::Refute {
+            parts: Parts::from_items(parts),
+        }),
+        Err(_) => Err(OutOfMemory),
+    }
+}
+
+/// The first form that is negative all over the box.
+pub(crate) fn first_negative(forms: &[Form], costs: &CostBox) -> Option<usize>
+    requires counts { AreFormsOf (length costs.now.low) forms.now }
+    requires highs { length costs.now.high ≡ length costs.now.low }
+    ensures { MatchOption result
+        (All (λ form. pos 0 ≤ℤ greatest form costs.now) forms.now)
+        (λ row. (row < length forms.now) × (greatest (form_at forms.now row) costs.now <ℤ pos 0)) }
+{
+    forms.iter().position(|form| greatest_over(form, costs) < 0)
+}
+
+/// What a form says of the open box of a tree: it refutes it, or makes a range smaller. A step at a variable and side that
+/// were tightened since the last cut is barred.
+fn entry_of(
+    alloc: Global,
+    form: &Form,
+    row: usize,
+    tree: &TreeBuilder,
+    watch: &mut Watch,
+) -> Result<Option<Entry>, OutOfMemory>
+    requires open { 0 < length tree.now.places }
+    requires ranges { IsCostsBox (length (first_place tree.now.places).box.low) (first_place tree.now.places).box }
+    requires form { IsFormIn (length (first_place tree.now.places).box.low) form.now }
+    ensures entry { (forms : List Form) → row < length forms → form_at forms row ≡ form.now →
+        IfOk result (λ found. IfSome found (IsNextRow forms (first_place tree.now.places))) }
+    ensures watch { (n : ℕ) → IsWatch n watch.old → IsWatch n watch.new }
+{
+    if greatest_over(form, tree.costs()) < 0 {
+        return Ok(Some(refute_by(alloc, row)?));
+    }
+    let Some(step) = tighten(form, tree.costs()) else {
+        watch.rest(row);
+        return Ok(None);
+    };
+    if tree.is_tightened(step.var, step.side) {
+        watch.bar(row)?;
+        return Ok(None);
+    }
+    Ok(Some(Entry::Tighten {
+        var: step.var,
+        side: step.side,
+        value: step.value,
+        row: row as u64,
+    }))
+}
+
+/// The entry that the first form with something to say gives.
+pub(crate) fn propagated(
+    alloc: Global,
+    pool: &FormPool,
+    tree: &TreeBuilder,
+    watch: &mut Watch,
+) -> Result<Option<Entry>, OutOfMemory>
+    requires open { 0 < length tree.now.places }
+    requires ranges { IsCostsBox (length (first_place tree.now.places).box.low) (first_place tree.now.places).box }
+    requires forms { AreFormsOf (length (first_place tree.now.places).box.low) pool.now }
+    requires watch { IsWatch (length (first_place tree.now.places).box.low) watch.old }
+    ensures entry { IfOk result (λ found. IfSome found (IsNextRow pool.now (first_place tree.now.places))) }
+    ensures watch { IsWatch (length (first_place tree.now.places).box.low) watch.new }
+{
+    let forms = pool.as_slice();
+    watch.learn(forms)?;
+    if tree.is_fresh() {
+        watch.release();
+    }
+    watch.look(tree.costs());
+    for row in watch.first()..forms.len() {
+        if watch.is_pending(row) {
+            if let Some(entry) = entry_of(alloc, &forms[row], row, tree, watch)? {
+                watch.looked_to(row);
+                return Ok(Some(entry));
+            }
+        }
+    }
+    watch.looked_to(forms.len());
+    Ok(None)
+}

@@ -1,0 +1,157 @@
+//! The tableau that is kept from box to box.
+ghost use Rattle.std.specs.Prelude.{◌≡◌, ℕ, ◌^◌, ◌<◌, List, length, All, IfErr, IfOk, OnErr, OnOk};
+ghost use Rattle.path_rows.specs.Forms.{Form};
+ghost use Rattle.path_rows.specs.Boxes.{IsBox};
+ghost use Rattle.path_rows.specs.Steps.{IsTooWide, ratio_of};
+ghost use Rattle.path_rows.specs.Text.{IsPrinted};
+ghost use Rattle.exact_simplex.specs.Tableaus.{FitsBox, IsGoing, wide_at};
+ghost use Rattle.form_search.specs.Tables.{IsHeld, IsKept, IsPrintedWide, IsStepTold, IsTold, StandsAt};
+
+use area_graph::Point;
+use cost_base::{Listed, OutOfMemory, Ratio};
+use exact_simplex::{SimplexStop, Solved, Tableau};
+use path_rows::{CostBox, Form, Parts, WideAt};
+use std::alloc::Global;
+use wide_fraction::{Frac, Top, Wide};
+
+/// A tableau that holds the first `held` forms of the pool.
+#[derive(Drop)]
+pub(crate) struct HeldTableau {
+    tableau: Tableau,
+    held: usize,
+}
+
+/// What a tableau says of its box and the pool's forms.
+#[derive(Drop)]
+pub(crate) enum Least {
+    /// The least point of the box that meets the forms was put in place.
+    Point,
+    /// No point of the box meets them, by these multipliers.
+    Refuted(Parts),
+    /// A step needed too wide a number.
+    Wide(WideAt),
+}
+
+/// The tableau over the box: the kept one moved there, with the forms that it holds; a new one where none is kept or the
+/// kept one had stopped.
+pub(crate) fn moved(
+    alloc: Global,
+    kept: Option<HeldTableau>,
+    costs: &CostBox,
+    top: Top,
+) -> Result<HeldTableau, OutOfMemory>
+    requires ranges { IsBox (length costs.now.low) costs.now }
+    requires few { length costs.now.low < 2 ^ 32 }
+    requires fits { (forms : List Form) × IsKept top (length costs.now.low) forms kept × All (FitsBox costs.now) forms }
+    ensures { (forms : List Form) → IsKept top (length costs.now.low) forms kept → IfOk result (StandsAt top costs.now forms) }
+{
+    if let Some(mut table) = kept {
+        if table.tableau.rebase(costs).is_ok() {
+            return Ok(table);
+        }
+    }
+    Ok(HeldTableau {
+        tableau: Tableau::start(alloc, costs, top)?,
+        held: 0,
+    })
+}
+
+/// The fraction as it is printed.
+fn ratio_of(fraction: Frac) -> Ratio
+    ensures ratio { result ≡ ratio_of fraction }
+    ensures printed { IsPrinted result }
+{
+    Ratio {
+        numerator: fraction.numerator(),
+        denominator: fraction.denominator(),
+    }
+}
+
+impl HeldTableau {
+    /// Adds the forms of the pool that it doesn't hold yet, in order.
+    fn add_rows(&mut self, alloc: Global, forms: &[Form]) -> Result<(), SimplexStop>
+        requires stands { StandsAt self.old.tableau.top self.old.tableau.costs forms.now self.old }
+        requires fits { All (FitsBox self.old.tableau.costs) forms.now }
+        ensures stands { OnOk result (StandsAt self.old.tableau.top self.old.tableau.costs forms.now self.new) }
+        ensures all { OnOk result (self.new.held ≡ length forms.now) }
+        ensures held { IsHeld self.old.tableau.top (length self.old.tableau.costs.low) forms.now self.new }
+        ensures costs { self.new.tableau.costs ≡ self.old.tableau.costs }
+        ensures wide { IfErr result (IsStepTold self.old.tableau.costs forms.now self.new.tableau) }
+    {
+        for row in self.held..forms.len() {
+            self.tableau.add_row(alloc, &forms[row])?;
+            self.held = row + 1;
+        }
+        Ok(())
+    }
+
+    /// Adds the forms, solves, and puts the least point in place.
+    fn solve_to(
+        &mut self,
+        alloc: Global,
+        forms: &[Form],
+        point: &mut Point,
+    ) -> Result<Least, SimplexStop>
+        requires stands { StandsAt self.old.tableau.top self.old.tableau.costs forms.now self.old }
+        requires fits { All (FitsBox self.old.tableau.costs) forms.now }
+        requires places { length point.old.values ≡ length self.old.tableau.costs.low }
+        ensures told { IfOk result (IsTold self.old.tableau.top self.old.tableau.costs forms.now point.new) }
+        ensures stands { OnOk result (StandsAt self.old.tableau.top self.old.tableau.costs forms.now self.new) }
+        ensures held { IsHeld self.old.tableau.top (length self.old.tableau.costs.low) forms.now self.new }
+        ensures costs { self.new.tableau.costs ≡ self.old.tableau.costs }
+        ensures places { length point.new.values ≡ length point.old.values }
+        ensures wide { IfErr result (IsStepTold self.old.tableau.costs forms.now self.new.tableau) }
+    {
+        self.add_rows(alloc, forms)?;
+        match self.tableau.solve()? {
+            Solved::Feasible => {
+                self.tableau.point(point)?;
+                Ok(Least::Point)
+            }
+            Solved::Refuted(form) => {
+                let mut parts = Parts::from_items(Vec::new(alloc));
+                self.tableau.multipliers(alloc, form, &mut parts)?;
+                Ok(Least::Refuted(parts))
+            }
+        }
+    }
+
+    /// The step that was too wide, with the basis at which it was taken.
+    fn wide_at(&self, alloc: Global, wide: Wide) -> Result<WideAt, OutOfMemory>
+        requires wide { IsTooWide self.now.tableau.top self.now.tableau.costs self.now.tableau.rows (wide_at wide self.now.tableau.basis) }
+        requires some { 0 < length self.now.tableau.costs.low }
+        ensures { IfOk result (IsPrintedWide self.now.tableau.top self.now.tableau.costs self.now.tableau.rows) }
+    {
+        let basis = self.tableau.basis(alloc)?;
+        Ok(WideAt {
+            step: wide.step,
+            left: ratio_of(wide.left),
+            right: ratio_of(wide.right),
+            basis: Listed::from_items(basis),
+        })
+    }
+
+    /// What the tableau says of the box and the forms, where it holds the first of them.
+    pub(crate) fn least(
+        &mut self,
+        alloc: Global,
+        forms: &[Form],
+        point: &mut Point,
+    ) -> Result<Least, OutOfMemory>
+        requires stands { StandsAt self.old.tableau.top self.old.tableau.costs forms.now self.old }
+        requires fits { All (FitsBox self.old.tableau.costs) forms.now }
+        requires some { 0 < length self.old.tableau.costs.low }
+        requires places { length point.old.values ≡ length self.old.tableau.costs.low }
+        ensures told { IfOk result (IsTold self.old.tableau.top self.old.tableau.costs forms.now point.new) }
+        ensures stands { result ≡ Ok Least.Point → StandsAt self.old.tableau.top self.old.tableau.costs forms.now self.new }
+        ensures held { IsHeld self.old.tableau.top (length self.old.tableau.costs.low) forms.now self.new }
+        ensures costs { self.new.tableau.costs ≡ self.old.tableau.costs }
+        ensures places { length point.new.values ≡ length point.old.values }
+    {
+        match self.solve_to(alloc, forms, point) {
+            Ok(least) => Ok(least),
+            Err(SimplexStop::OutOfMemory) => Err(OutOfMemory),
+            Err(SimplexStop::TooWide(wide)) => Ok(Least::Wide(self.wide_at(alloc, wide)?)),
+        }
+    }
+}
