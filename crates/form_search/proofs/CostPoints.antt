@@ -1,6 +1,6 @@
 -- Points of a box of costs, least points, and forms that fit a tableau.
 use Rattle.std.proofs.Common.{◌≡◌, ℕ, zero, suc, ◌+◌, ◌*◌, ◌^◌, ◌<◌, ◌≤◌, refl, sym, ◌∙◌, ap, subst, inl, inr, List, [], ◌∷◌, length, map, arith}
-use Rattle.std.specs.Prelude.{ℤ, pos, negsuc, ◌+ℤ◌, ◌*ℤ◌, ◌<ℤ◌, ◌≤ℤ◌, nat_abs, All, slice_index}
+use Rattle.std.specs.Prelude.{ℤ, pos, negsuc, ◌+ℤ◌, ◌*ℤ◌, ◌<ℤ◌, ◌≤ℤ◌, All, slice_index}
 use Rattle.std.proofs.Math.Nat.{mul-le-mul_left}
 use Rattle.std.proofs.lemmas.Int.{ints}
 use Rattle.std.proofs.lemmas.List.{length-map}
@@ -9,7 +9,7 @@ use Rattle.area_graph.specs.declared.Point.{Point}
 use Rattle.area_graph.specs.Costs.{at_costs}
 use Rattle.path_rows.specs.Forms.{Form}
 use Rattle.path_rows.specs.declared.form.CostBox.{CostBox}
-use Rattle.path_rows.specs.Forms.{added, dot, form_at, no_form, value, value_at, weighted}
+use Rattle.path_rows.specs.Forms.{added, dot, form_at, value, value_at, weighted}
 use Rattle.path_rows.specs.Boxes.{IsBox, IsInBox, IsPointOf, Refutes, greatest, upper, upper_sum}
 use Rattle.path_rows.specs.Trees.{CutsAt}
 use Rattle.path_rows.specs.Earnest.{Before, IsLeast, SplitsFraction}
@@ -103,6 +103,13 @@ values_inside n box point kept inside within = record {
   where
     grown : (low x scale : ℕ) → 0 < scale → low * scale ≤ x → low ≤ x
     grown low x scale some above = let more : low * 1 ≤ low * scale = mul-le-mul_left low some in omega arith
+
+-- costs of a box are at most 65,535
+pub inside_most : (n : ℕ) (box : CostBox) (w : List ℕ) → IsCostsBox n box → IsInBox box w → All (λ x. x ≤ 65535) w
+inside_most n box w kept inside = each_at (λ x. x ≤ 65535) w (λ k k_in.
+    let below = inside.below k k_in in
+    let most = high_last n box kept k (omega (arith, inside.low_count, kept.is_box.low_count)) in
+    omega arith)
 
 -- whole costs are costs of the box where the point is one of it
 pub whole_inside : (box : CostBox) (w : List ℕ) (scale : ℕ) → IsPointOf box (scaled w scale) → IsInBox box w

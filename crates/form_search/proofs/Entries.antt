@@ -1,5 +1,5 @@
 -- The entries that come next, by one form or by a tableau.
-use Rattle.std.proofs.Common.{◌≡◌, ℕ, zero, suc, ◌+◌, ◌^◌, ◌<◌, ◌≤◌, refl, sym, ◌∙◌, subst, List, [], ◌∷◌, length, take, drop, arith, take-append-drop}
+use Rattle.std.proofs.Common.{◌≡◌, ℕ, zero, suc, ◌^◌, ◌<◌, refl, sym, subst, List, [], ◌∷◌, length, take, drop, arith, take-append-drop}
 use Rattle.std.specs.Prelude.{pos, ◌<ℤ◌, All}
 use Rattle.area_graph.specs.declared.Point.{Point}
 use Rattle.path_rows.specs.Forms.{Form}
@@ -8,14 +8,17 @@ use Rattle.path_rows.specs.declared.tree.WideAt.{WideAt}
 use Rattle.path_rows.specs.declared.tree.Entry.{Entry}
 use Rattle.path_rows.specs.declared.tree.Entry.TheVariants.{Tighten, Split, Halve, Refute, Undone}
 use Rattle.path_rows.specs.Forms.{form_at}
-use Rattle.path_rows.specs.Boxes.{greatest}
+use Rattle.path_rows.specs.Boxes.{IsBox, greatest}
+use Rattle.path_rows.specs.Trees.{CutsAt}
 use Rattle.path_rows.specs.Steps.{IsTooWide}
-use Rattle.path_rows.specs.Earnest.{Place}
+use Rattle.path_rows.specs.Earnest.{IsLeast, Place}
 use Rattle.path_rows.proofs.Renumbering.{too_wide_kept}
 use Rattle.form_search.specs.declared.table.HeldTableau.{HeldTableau}
+use Rattle.advisor_box.specs.declared.candidate.Candidate.{Candidate}
+use Rattle.form_search.specs.Points.{IsFractional}
 use Rattle.form_search.specs.Tables.{IsHeld, IsPrintedWide}
 use Rattle.form_search.specs.Turns.{IsNextEntry, IsNextRow}
-use Rattle.form_search.proofs.CostPoints.{refutes_one}
+use Rattle.form_search.proofs.CostPoints.{candidate_cuts, candidate_splits, refutes_one}
 
 -- the Refute by one form
 pub next_refute : (forms : List Form) (row : ℕ) (place : Place) (form : Form) (costs : CostBox) (entry : Entry) → row < length forms → form_at forms row ≡ form → costs ≡ place.box → greatest form costs <ℤ pos 0 → entry ≡ Refute ((row, 1) ∷ []) → IsNextRow forms place entry
@@ -57,4 +60,22 @@ printed_held top n box forms table wide is_held costs printed = record {
   left = printed.left;
   right = printed.right;
   some = printed.some;
+}
+
+-- the Split at a candidate of the least accepted point
+pub next_split : (accepted : Point → Type 0) (top n : ℕ) (forms : List Form) (place : Place) (point : Point) (candidate : Candidate) → IsBox n place.box → IsLeast accepted place.box point → IsFractional place.box point candidate → IsNextEntry accepted top forms place (Split candidate.var candidate.floor)
+next_split accepted top n forms place point candidate kept least fractional = record {
+  sound = candidate_cuts n place.box point candidate kept least.inside fractional;
+  earnest = candidate_splits accepted place.box point candidate least fractional;
+  short = (tt, tt);
+  closed = refl;
+}
+
+-- the Halve at a step that is too wide
+pub next_halve : (accepted : Point → Type 0) (top : ℕ) (forms : List Form) (place : Place) (var value : ℕ) (wide : WideAt) → CutsAt place.box var value → IsPrintedWide top place.box forms wide → IsNextEntry accepted top forms place (Halve var value wide)
+next_halve accepted top forms place var value wide cuts printed = record {
+  sound = cuts;
+  earnest = printed.too_wide;
+  short = ((printed.left, printed.right, printed.some), tt);
+  closed = refl;
 }

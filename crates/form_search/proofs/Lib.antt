@@ -1,2 +1,5 @@
+pub mod AdvisorLaws
 pub mod CostPoints
 pub mod Entries
+pub mod Searching
+pub mod Turned

@@ -2,7 +2,7 @@
 use Rattle.std.specs.Prelude.{◌≡◌, ℕ, ◌+◌, ◌*◌, ◌^◌, ◌<◌, ◌≤◌, ◌%◌, slice_index, All, length}
 use Rattle.area_graph.specs.declared.Point.{Point}
 use Rattle.path_rows.specs.declared.form.CostBox.{CostBox}
-use Rattle.path_rows.specs.Boxes.{IsBox, IsPointOf}
+use Rattle.path_rows.specs.Boxes.{IsBox}
 use Rattle.path_rows.specs.Earnest.{IsLeast}
 use Rattle.advisor_box.specs.declared.candidate.Candidate.{Candidate}
 

@@ -1,5 +1,5 @@
 -- Sources of forms: the points that they accept, and the forms that are true of these.
-use Rattle.std.specs.Prelude.{◌≡◌, ℕ, ◌+◌, ◌*◌, ◌^◌, ◌<◌, ◌≤◌, ◌↔◌, List, [], ◌∷◌, ◌++◌, pos, ◌<ℤ◌, ◌≤ℤ◌, nat_abs, map, length, All, Contains}
+use Rattle.std.specs.Prelude.{◌≡◌, ℕ, ◌*◌, ◌^◌, ◌<◌, ◌≤◌, ◌↔◌, List, ◌++◌, pos, ◌<ℤ◌, ◌≤ℤ◌, nat_abs, map, length, All, Contains}
 use Rattle.area_graph.specs.declared.Point.{Point}
 use Rattle.path_rows.specs.Forms.{Form}
 use Rattle.path_rows.specs.Forms.{value, value_at}

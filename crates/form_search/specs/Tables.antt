@@ -1,5 +1,5 @@
 -- What a tableau that is kept holds, and what it tells of a box.
-use Rattle.std.specs.Prelude.{◌≡◌, ◌≢◌, ℕ, suc, ◌+◌, ◌^◌, ◌<◌, ◌≤◌, List, [], length, take, All, Option, Some, None}
+use Rattle.std.specs.Prelude.{◌≡◌, ◌≢◌, ℕ, ◌+◌, ◌^◌, ◌<◌, ◌≤◌, List, [], length, take, Option, Some, None}
 use Rattle.area_graph.specs.declared.Point.{Point}
 use Rattle.path_rows.specs.Forms.{Form}
 use Rattle.path_rows.specs.declared.form.CostBox.{CostBox}

@@ -1,4 +1,4 @@
-use Rattle.std.proofs.Common.{◌≡◌, ℕ, length}
+use Rattle.std.proofs.Common.{◌≡◌}
 use Rattle.form_search.specs.Tables.{StandsAt}
 use Rattle.form_search.proofs.table.HeldTableau.add_rows.Given as goal
 

@@ -1,0 +1,130 @@
+-- The tree of a search while it grows, and what it shows at its end.
+use Rattle.std.proofs.Common.{◌≡◌, ◌≢◌, ℕ, zero, suc, ◌<◌, ◌≤◌, refl, sym, ◌∙◌, subst, List, [], ◌∷◌, ◌++◌, length, arith}
+use Rattle.std.proofs.lemmas.List.{append-nil, get_or_default, length-append}
+use Rattle.std.specs.Prelude.{All, Contains, slice_index}
+use Rattle.std.proofs.lemmas.List.Elements.{Contains-append_right}
+use Rattle.area_graph.specs.declared.Point.{Point}
+use Rattle.path_rows.specs.Forms.{Form}
+use Rattle.path_rows.specs.declared.form.CostBox.{CostBox}
+use Rattle.path_rows.specs.declared.tree.Entry.{Entry}
+use Rattle.path_rows.specs.declared.tree.Entry.TheVariants.{Undone}
+use Rattle.path_rows.specs.Boxes.{IsBox, IsInBox}
+use Rattle.path_rows.specs.Trees.{IsClosed, IsWholeTree, entry_count}
+use Rattle.path_rows.specs.Earnest.{IsEarnestTree, Place}
+use Rattle.path_rows.specs.OpenPlaces.{Growing, Opens, first_place, fresh, grown, places_after, undones}
+use Rattle.path_rows.proofs.OpenPlaces.{closed_count, closed_more, earnest_tree_sound, opens_ends, opens_more, opens_undone, undone_count, undone_last}
+use Rattle.path_rows.proofs.BoxParts.{IsBoxIn, in_part, open_boxes_in}
+use Rattle.path_rows.proofs.Renumbering.{opens_kept}
+use Rattle.path_rows.proofs.TreeShapes.{sound_whole}
+use Rattle.form_search.specs.Sources.{Grows}
+use Rattle.form_search.specs.Points.{IsCostsBox}
+use Rattle.form_search.specs.Finds.{IsSearchTree, IsShort}
+use Rattle.form_search.specs.Turns.{IsNextEntry}
+
+-- a tree over a box that grew by entries that might come next, at most so many
+pub record IsGrowing (accepted : Point → Type 0) (top nodes : ℕ) (forms : List Form) (box : CostBox) (tree : Growing) : Type 0 where
+  pub opens : Opens accepted top forms (fresh box ∷ []) tree.entries tree.places
+  pub closed : IsClosed tree.entries
+  pub short : All (IsShort (length box.low)) tree.entries
+  pub few : length tree.entries ≤ nodes
+
+pub growing_start : (accepted : Point → Type 0) (top nodes : ℕ) (forms : List Form) (box : CostBox) → IsGrowing accepted top nodes forms box (record { entries = []; places = fresh box ∷ [] })
+growing_start accepted top nodes forms box = record { opens = refl; closed = tt; short = λ k d k_in. absurd (omega arith); few = omega arith }
+
+-- more forms in the pool
+pub growing_kept : (IsTrue : Form → Type 0) (accepted : Point → Type 0) (top nodes : ℕ) (old new : List Form) (box : CostBox) (tree : Growing) → Grows IsTrue old new → IsGrowing accepted top nodes old box tree → IsGrowing accepted top nodes new box tree
+growing_kept IsTrue accepted top nodes old new box tree grows growing = record {
+  opens = subst (λ (fs : List Form). Opens accepted top fs (fresh box ∷ []) tree.entries tree.places) (sym grows.same) (opens_kept accepted top old grows.more (fresh box ∷ []) tree.entries tree.places growing.opens);
+  closed = growing.closed;
+  short = growing.short;
+  few = growing.few;
+}
+
+-- the first open box
+pub first_in : (accepted : Point → Type 0) (top n : ℕ) (forms : List Form) (box : CostBox) (entries : List Entry) (places : List Place) → IsBox n box → 0 < length places → Opens accepted top forms (fresh box ∷ []) entries places → IsBoxIn n box (first_place places).box
+first_in accepted top n forms box entries [] kept some opens = absurd (omega arith)
+first_in accepted top n forms box entries (place ∷ places) kept some opens = (open_boxes_in accepted top n forms box entries (place ∷ places) kept opens).0
+
+-- is a box of costs
+pub first_costs : (n : ℕ) (box part : CostBox) → IsCostsBox n box → IsBoxIn n box part → IsCostsBox n part
+first_costs n box part kept within = record {
+  is_box = within.is_box;
+  lows = λ k d k_in. subst (λ (x : ℕ). 1 ≤ x) (get_or_default part.low k 0 d k_in) (lower (slice_index box.low k) (slice_index part.low k) (kept.lows k 0 (omega (arith, kept.is_box.low_count, within.is_box.low_count))) (within.is_part.low k k_in));
+  highs = λ k d k_in. subst (λ (x : ℕ). x ≤ 65535) (get_or_default part.high k 0 d k_in) (upper (slice_index box.high k) (slice_index part.high k) (kept.highs k 0 (omega (arith, kept.is_box.high_count, within.is_box.high_count))) (within.is_part.high k k_in));
+  few = kept.few;
+}
+  where
+    lower : (a b : ℕ) → 1 ≤ a → a ≤ b → 1 ≤ b
+    lower a b some less = omega arith
+
+    upper : (a b : ℕ) → a ≤ 65535 → b ≤ a → b ≤ 65535
+    upper a b few less = omega arith
+
+all_more : (P : Entry → Type 0) (entries : List Entry) (entry : Entry) → All P entries → P entry → All P (entries ++ entry ∷ [])
+all_more P [] entry all one zero d k_in = one
+all_more P [] entry all one (suc k) d k_in = absurd (omega arith)
+all_more P (e ∷ entries) entry all one zero d k_in = all 0 d (omega arith)
+all_more P (e ∷ entries) entry all one (suc k) d k_in = all_more P entries entry (λ i f i_in. all (suc i) f (omega arith)) one k d (omega arith)
+
+-- one more entry
+pub growing_more : (accepted : Point → Type 0) (top nodes : ℕ) (forms : List Form) (box : CostBox) (tree : Growing) (entry : Entry) → IsBox (length box.low) box → IsGrowing accepted top nodes forms box tree → 0 < length tree.places → length tree.entries ≢ nodes → IsNextEntry accepted top forms (first_place tree.places) entry → IsGrowing accepted top nodes forms box (grown tree entry)
+growing_more accepted top nodes forms box tree entry kept growing some left next = record {
+  opens = at_first tree.places some growing.opens next;
+  closed = closed_more tree.entries entry growing.closed next.closed;
+  short =
+      all_more (IsShort (length box.low)) tree.entries entry growing.short
+      (subst (λ (n : ℕ). IsShort n entry) (first_in accepted top (length box.low) forms box tree.entries tree.places kept some growing.opens).is_box.low_count next.short);
+  few = let longer = length-append tree.entries (entry ∷ []) in let few = growing.few in omega arith;
+}
+  where
+    at_first : (places : List Place) → 0 < length places → Opens accepted top forms (fresh box ∷ []) tree.entries places → IsNextEntry accepted top forms (first_place places) entry → Opens accepted top forms (fresh box ∷ []) (tree.entries ++ entry ∷ []) (places_after places entry)
+    at_first [] some_place opens is_next = absurd (omega arith)
+    at_first (place ∷ places) some_place opens is_next = opens_more accepted top forms (fresh box ∷ []) tree.entries place places entry opens is_next.sound is_next.earnest
+
+-- costs of the first open box are costs of the box
+pub first_found : (accepted : Point → Type 0) (top nodes : ℕ) (forms : List Form) (box : CostBox) (tree : Growing) (w : List ℕ) → IsBox (length box.low) box → IsGrowing accepted top nodes forms box tree → 0 < length tree.places → IsInBox (first_place tree.places).box w → IsInBox box w
+first_found accepted top nodes forms box tree w kept growing some inside =
+    in_part box (first_place tree.places).box w (first_in accepted top (length box.low) forms box tree.entries tree.places kept some growing.opens).is_part inside
+
+none_left : (places : List Place) → (0 < length places → ⊥) → places ≡ []
+none_left [] none = refl
+none_left (place ∷ places) none = absurd (none (omega arith))
+
+-- a tree with no open place
+pub growing_ends : (accepted : Point → Type 0) (top nodes : ℕ) (forms : List Form) (box : CostBox) (tree : Growing) → IsGrowing accepted top nodes forms box tree → (0 < length tree.places → ⊥) → IsSearchTree accepted top forms box tree.entries × IsClosed tree.entries × (entry_count tree.entries ≤ nodes)
+growing_ends accepted top nodes forms box tree growing none = (
+  record {
+    earnest = opens_ends accepted top forms (fresh box ∷ []) tree.entries (subst (λ (ps : List Place). Opens accepted top forms (fresh box ∷ []) tree.entries ps) (none_left tree.places none) growing.opens);
+    last = record { done = tree.entries; closed = growing.closed; undone = 0; same = sym (append-nil tree.entries) };
+    short = growing.short;
+  },
+  growing.closed,
+  (let count = closed_count tree.entries growing.closed in let few = growing.few in omega arith),
+)
+
+all_undone : (P : Entry → Type 0) (entries : List Entry) (n : ℕ) → All P entries → P Undone → All P (entries ++ undones n)
+all_undone P [] zero all one k d k_in = absurd (omega arith)
+all_undone P [] (suc n) all one zero d k_in = one
+all_undone P [] (suc n) all one (suc k) d k_in = all_undone P [] n (λ i f i_in. absurd (omega arith)) one k d (omega arith)
+all_undone P (e ∷ entries) n all one zero d k_in = all 0 d (omega arith)
+all_undone P (e ∷ entries) n all one (suc k) d k_in = all_undone P entries n (λ i f i_in. all (suc i) f (omega arith)) one k d (omega arith)
+
+-- a tree whose open places are undone, where the budget is used up
+pub growing_undone : (accepted : Point → Type 0) (top nodes : ℕ) (forms : List Form) (box : CostBox) (tree : Growing) → IsGrowing accepted top nodes forms box tree → 0 < length tree.places → length tree.entries ≡ nodes → IsSearchTree accepted top forms box (tree.entries ++ undones (length tree.places)) × Contains (tree.entries ++ undones (length tree.places)) Undone × (entry_count (tree.entries ++ undones (length tree.places)) ≡ nodes)
+growing_undone accepted top nodes forms box tree growing some full = (
+  record {
+    earnest = opens_undone accepted top forms (fresh box ∷ []) tree.entries tree.places growing.opens;
+    last = undone_last tree.entries (length tree.places) growing.closed;
+    short = all_undone (IsShort (length box.low)) tree.entries (length tree.places) growing.short (tt, tt);
+  },
+  Contains-append_right tree.entries (undones (length tree.places)) Undone (has_one (length tree.places) some),
+  undone_count tree.entries (length tree.places) growing.closed ∙ full,
+)
+  where
+    has_one : (n : ℕ) → 0 < n → Contains (undones n) Undone
+    has_one zero none = absurd (omega arith)
+    has_one (suc n) is = (0, omega arith, refl)
+
+-- the entries are one whole tree
+pub earnest_whole : (accepted : Point → Type 0) (top : ℕ) (forms : List Form) (box : CostBox) (tree : List Entry) → IsEarnestTree accepted top forms box tree → IsWholeTree tree
+earnest_whole accepted top forms box tree earnest = sound_whole forms box tree (earnest_tree_sound accepted top forms box tree earnest)
