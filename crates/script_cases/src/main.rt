@@ -1,19 +1,24 @@
-//! Runs scripts of tableaus: each line of standard input, with what a tableau answers to it. `stdin` has the cases, and
+//! Runs scripts of tableaus and searches: each line of standard input, with what is answered to it. `stdin` has the cases, and
 //! `stdout` their answers, which a plain program found that follows the stated order of steps.
 #![tactic(auto)]
 
+mod advisors;
 mod answer;
 mod command;
+mod scene;
+mod search;
+mod source;
+mod words;
 
-use exact_simplex::Tableau;
+use crate::scene::Scene;
 use std::io;
 
 fn main(rt: HostRuntime) -> io::Result<()> {
     let alloc = rt.alloc();
-    let mut tableau: Option<Tableau> = None;
+    let mut scene: Option<Scene> = None;
     for line in rt.lines(alloc) {
         let line = line?;
-        let text = answer::answer(alloc, &mut tableau, line.as_str())?;
+        let text = answer::answer(alloc, &mut scene, line.as_str())?;
         println!(rt; "{line}{text}")?;
     }
     Ok(())

@@ -4,63 +4,15 @@ ghost use Rattle.exact_simplex.specs.declared.stage.Solved.TheVariants.{Feasible
 ghost use Rattle.exact_simplex.specs.declared.stage.Stage.TheVariants.{Ended};
 
 use crate::command::{Command, read_command};
+use crate::scene::Scene;
+use crate::search::search_text;
+use crate::words::{Named, Part, Step};
 use area_graph::Point;
-use cost_base::{Listed, StepName};
+use cost_base::Listed;
 use exact_simplex::{SimplexStop, Solved, Tableau, is_box};
-use path_rows::{CostBox, Form, Member, Parts};
+use path_rows::{CostBox, Form, Parts};
 use std::alloc::{AllocError, Global};
-use std::fmt;
-use wide_fraction::{Frac, Top, Wide};
-
-/// A step as it is written: its name and its two fractions.
-#[derive(Drop)]
-struct Step(Wide);
-
-impl fmt::Display for Step {
-    fn fmt<W: fmt::Write>(&self, f: &mut fmt::Formatter<W>) -> fmt::Result {
-        let name = match self.0.step {
-            StepName::Add => "add",
-            StepName::Sub => "sub",
-            StepName::Mul => "mul",
-            StepName::Div => "div",
-            StepName::Lcm => "lcm",
-            StepName::Scale => "scale",
-        };
-        let left = self.0.left;
-        let right = self.0.right;
-        write!(
-            f,
-            "wide {name} {}/{} ",
-            left.numerator(),
-            left.denominator()
-        )?;
-        write!(f, "{}/{}", right.numerator(), right.denominator())
-    }
-}
-
-/// A member of a basis, as it is written: its kind and number, and the bound that it has.
-#[derive(Drop)]
-struct Named(Member);
-
-impl fmt::Display for Named {
-    fn fmt<W: fmt::Write>(&self, f: &mut fmt::Formatter<W>) -> fmt::Result {
-        match self.0 {
-            Member::Low(var, bound) => write!(f, " low{var}={bound}"),
-            Member::High(var, bound) => write!(f, " high{var}={bound}"),
-            Member::Row(row) => write!(f, " row{row}"),
-        }
-    }
-}
-
-/// A row's multiplier, as it is written.
-#[derive(Drop)]
-struct Part(u64, u128);
-
-impl fmt::Display for Part {
-    fn fmt<W: fmt::Write>(&self, f: &mut fmt::Formatter<W>) -> fmt::Result {
-        write!(f, " {}*row{}", self.1, self.0)
-    }
-}
+use wide_fraction::Top;
 
 /// The members of the basis.
 fn basis(alloc: Global, tableau: &Tableau) -> Result<String, AllocError> {
@@ -78,7 +30,7 @@ fn basis(alloc: Global, tableau: &Tableau) -> Result<String, AllocError> {
 /// Another tableau in place of the one at hand.
 fn start(
     alloc: Global,
-    tableau: &mut Option<Tableau>,
+    scene: &mut Option<Scene>,
     bits: u32,
     costs: &CostBox,
 ) -> Result<String, AllocError> {
@@ -91,7 +43,7 @@ fn start(
     let Ok(started) = Tableau::start(alloc, costs, top) else {
         return Err(AllocError);
     };
-    *tableau = Some(started);
+    *scene = Some(Scene::new(alloc, started, top, costs)?);
     String::from_str(alloc, ": started")
 }
 
@@ -172,24 +124,28 @@ fn solve(alloc: Global, tableau: &mut Tableau) -> Result<String, AllocError> {
     }
 }
 
-/// What the tableau at hand answers to a line, to stand behind the line.
+/// What the scene at hand answers to a line, to stand behind the line.
 pub fn answer(
     alloc: Global,
-    tableau: &mut Option<Tableau>,
+    scene: &mut Option<Scene>,
     line: &str,
 ) -> Result<String, AllocError> {
     let asked = read_command(alloc, line)?;
     if let Command::Start(bits, costs) = asked {
-        return start(alloc, tableau, bits, &costs);
+        return start(alloc, scene, bits, &costs);
     }
-    let Some(tableau) = tableau else {
+    let Some(scene) = scene else {
         return String::from_str(alloc, "");
     };
     match asked {
-        Command::Row(form) => add(alloc, tableau, &form),
-        Command::Move(costs) => change(alloc, tableau, &costs),
-        Command::Solve => solve(alloc, tableau),
-        Command::Basis => basis(alloc, tableau),
+        Command::Row(form) => {
+            scene.learn(alloc, &form)?;
+            add(alloc, &mut scene.tableau, &form)
+        }
+        Command::Move(costs) => change(alloc, &mut scene.tableau, &costs),
+        Command::Solve => solve(alloc, &mut scene.tableau),
+        Command::Basis => basis(alloc, &scene.tableau),
+        Command::Search(nodes, picks) => search_text(alloc, scene, nodes, &picks),
         _ => String::from_str(alloc, ""),
     }
 }

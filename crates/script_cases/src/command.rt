@@ -18,6 +18,9 @@ pub enum Command {
     Solve,
     /// `basis`: the members of the basis.
     Basis,
+    /// `search NODES PICK ..`: a search of the box for costs at which each row is at least 0, with a budget, and an advisor
+    /// for each position, which always picks it.
+    Search(u64, Vec<i64>),
     /// Anything else is a comment.
     Comment,
 }
@@ -93,6 +96,10 @@ pub fn read_command(alloc: Global, line: &str) -> Result<Command, AllocError> {
     }
     if first == "basis" {
         return Ok(Command::Basis);
+    }
+    if first == "search" {
+        let nodes = u64::try_from(number(&mut words)).unwrap_or(0);
+        return Ok(Command::Search(nodes, numbers(alloc, &mut words)?));
     }
     Ok(Command::Comment)
 }

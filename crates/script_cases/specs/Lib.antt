@@ -1,0 +1,2 @@
+pub mod SmallForms
+pub mod SourceLaws

@@ -1,0 +1,77 @@
+-- Laws of a list of forms as a source.
+use Rattle.std.proofs.Common.{◌≡◌, ℕ, zero, suc, ◌+◌, ◌*◌, ◌^◌, ◌<◌, ◌≤◌, refl, sym, ◌∙◌, subst, ap, List, [], ◌∷◌, map, length, arith}
+use Rattle.std.specs.Prelude.{ℤ, pos, negsuc, ◌+ℤ◌, ◌*ℤ◌, ◌≤ℤ◌, nat_abs, slice_index_or, All, Contains, sum_by}
+use Rattle.std.proofs.lemmas.Int.{ints}
+use Rattle.std.proofs.lemmas.List.Sums.{sum_by-cons}
+use Rattle.std.proofs.lemmas.List.Elements.{All-nil, All-cons, All-tail}
+use Rattle.whole_numbers.proofs.Ring.{var, num, ◌⊕◌, ◌⊗◌, ring, ring_by, nothing, using}
+use Rattle.exact_simplex.proofs.Solutions.{high_number}
+use Rattle.area_graph.specs.declared.Point.{Point}
+use Rattle.area_graph.specs.Costs.{at_costs}
+use Rattle.path_rows.specs.declared.form.Term.{Term}
+use Rattle.path_rows.specs.Forms.{Form, dot, size_of, terms_from, terms_of, value, value_at}
+use Rattle.path_rows.proofs.FormSizes.{value_size}
+use Rattle.path_rows.proofs.TermLaws.{sizes_from}
+use Rattle.form_search.specs.Sources.{AreMet, IsTrueForm, scaled}
+use Rattle.script_cases.specs.SmallForms.{IsTiny, IsTrueOf, SmallForms}
+
+each_coefficient : (P : ℤ → Type 0) (first : ℕ) (cs : List ℤ) → P (pos 0) → All (λ (t : Term). P t.coefficient) (terms_from first cs) → All P cs
+each_coefficient P first [] none each = All-nil P
+each_coefficient P first (pos zero ∷ cs) none each = All-cons P (pos zero) cs none (each_coefficient P (suc first) cs none each)
+each_coefficient P first (pos (suc n) ∷ cs) none each =
+    All-cons P (pos (suc n)) cs (each 0 (record { var = 0; coefficient = pos 0 }) (omega arith)) (each_coefficient P (suc first) cs none (All-tail (λ (t : Term). P t.coefficient) (record { var = first; coefficient = pos (suc n) }) (terms_from (suc first) cs) each))
+each_coefficient P first (negsuc n ∷ cs) none each =
+    All-cons P (negsuc n) cs (each 0 (record { var = 0; coefficient = pos 0 }) (omega arith)) (each_coefficient P (suc first) cs none (All-tail (λ (t : Term). P t.coefficient) (record { var = first; coefficient = negsuc n }) (terms_from (suc first) cs) each))
+
+sum_most : (ts : List Term) → All (λ (t : Term). nat_abs t.coefficient ≤ 4) ts → sum_by (λ (t : Term). nat_abs t.coefficient) ts ≤ 4 * length ts
+sum_most [] each = omega arith
+sum_most (t ∷ ts) each =
+    let here = each 0 t (omega arith) in
+    let rest = sum_most ts (λ k d k_in. each (suc k) d (omega arith)) in
+    rw (sum_by-cons (λ (u : Term). nat_abs u.coefficient) t ts) (omega arith)
+
+small_form : (n : ℕ) (form : Form) → IsTiny n form → size_of form < 2 ^ 27
+small_form n form tiny =
+    let sizes = sizes_from 0 form.coefficients in
+    let sum = sum_most (terms_of form) tiny.sizes in
+    let few = tiny.few in
+    let constant = tiny.constant in
+    omega arith
+
+values_small : (w : List ℕ) → All (λ x. (1 ≤ x) × (x ≤ 65535)) w → All (λ x. x < 2 ^ 16) w
+values_small w each k d k_in = let both = each k d k_in in omega arith
+
+below_four : (z : ℤ) → nat_abs z ≤ 4 → nat_abs z ≤ 2 ^ 26
+below_four z small = omega arith
+
+pub true_forms_hold : (s : SmallForms) (form : Form) → IsTrueOf s form → IsTrueForm s.variables (AreMet s.forms) form
+true_forms_hold s form is = record {
+  count = is.tiny.count;
+  sizes =
+      λ k d k_in. below_four (slice_index_or form.coefficients k d) (each_coefficient (λ (z : ℤ). nat_abs z ≤ 4) 0 form.coefficients (omega arith) is.tiny.sizes k d k_in);
+  values = λ w count each. let size = value_size form w (values_small w each) in let small = small_form s.variables form is.tiny in omega arith;
+  met = λ point count met. subst (λ (f : Form). pos 0 ≤ℤ value_at f point) is.listed.2 (met is.listed.0 form is.listed.1);
+}
+
+pub true_forms_listed : (s : SmallForms) (form : Form) → IsTrueOf s form → Contains s.forms form
+true_forms_listed s form is = is.listed
+
+dot_scaled : (cs : List ℤ) (w : List ℕ) (scale : ℕ) → dot cs (map (λ x. x * scale) w) ≡ (dot cs w *ℤ pos scale)
+dot_scaled [] w scale = ring (pos scale ∷ []) (num (pos 0)) (num (pos 0) ⊗ var 0) refl
+dot_scaled (c ∷ cs) [] scale = ring (pos scale ∷ []) (num (pos 0)) (num (pos 0) ⊗ var 0) refl
+dot_scaled (c ∷ cs) (x ∷ w) scale =
+    ring_by (c ∷ pos x ∷ pos scale ∷ dot cs (map (λ y. y * scale) w) ∷ dot cs w ∷ [])
+    (var 0 ⊗ (var 1 ⊗ var 2) ⊕ var 3) ((var 0 ⊗ var 1 ⊕ var 4) ⊗ var 2)
+    (using (num (pos 1)) (var 3) (var 4 ⊗ var 2) (dot_scaled cs w scale) nothing) refl
+
+-- a form's value at multiples of costs
+value_scaled : (f : Form) (w : List ℕ) (scale : ℕ) → (value_at f (scaled w scale) *ℤ pos 1) ≡ (value_at f (at_costs w) *ℤ pos scale)
+value_scaled f w scale =
+    ring_by (f.constant ∷ pos scale ∷ dot f.coefficients (map (λ x. x * scale) w) ∷ dot f.coefficients w ∷ [])
+    ((var 0 ⊗ var 1 ⊕ var 2) ⊗ num (pos 1)) ((var 0 ⊗ num (pos 1) ⊕ var 3) ⊗ var 1)
+    (using (num (pos 1)) (var 2) (var 3 ⊗ var 1) (dot_scaled f.coefficients w scale) nothing) refl
+
+pub scale_is_free : (s : SmallForms) (w : List ℕ) (scale : ℕ) → 0 < scale → AreMet s.forms (scaled w scale) → AreMet s.forms (at_costs w)
+scale_is_free s w scale some met k d k_in =
+    let f = slice_index_or s.forms k d in
+    high_number (value_at f (scaled w scale)) (value_at f (at_costs w)) scale 1 some (omega arith) (value_scaled f w scale) (met k d k_in)
