@@ -1,39 +1,54 @@
-//! Advisors that always pick one position.
+//! Advisors of a script.
 
 use advisor_box::{Advisor, Candidate};
 use path_rows::Entry;
 use std::alloc::{AllocError, Global};
 
-/// Picks one position, be there such a candidate or not.
+/// Picks the first candidate in so many calls, and then one position, be there such a candidate or not.
 #[derive(Drop)]
-struct Always {
+struct Turns {
+    calls: u32,
     position: u32,
 }
 
-impl Advisor for Always {
-    ghost use Rattle.std.specs.Prelude.{[], ◌∷◌, slice_index};
+impl Advisor for Turns {
+    ghost use Rattle.std.specs.Prelude.{[], ◌∷◌, ◌-◌, ◌==◌, if◌then◌else◌, slice_index};
 
-    ghost state = { λ advisor. advisor.position ∷ [] };
+    ghost state = { λ advisor. advisor.calls ∷ advisor.position ∷ [] };
 
-    ghost would = { λ state _. slice_index state 0 };
+    ghost would = { λ state _. if slice_index state 0 == 0 then slice_index state 1 else 0 };
 
-    ghost left = { λ state _. state };
+    ghost left = { λ state _. slice_index state 0 - 1 ∷ slice_index state 1 ∷ [] };
 
     ghost after = { λ state _. state };
 
     fn pick(&mut self, _choices: &[Candidate]) -> u32 {
-        self.position
+        if self.calls == 0 {
+            return self.position;
+        }
+        self.calls -= 1;
+        0
     }
 
     fn told(&mut self, _entry: &Entry) {}
 }
 
-/// An advisor for each of these positions.
-pub fn advisors_of(alloc: Global, picks: &[i64]) -> Result<Vec<Box<dyn Advisor>>, AllocError> {
+/// The advisor of a number: it always picks that position; of -N the first candidate in N calls and then position 4000.
+fn advisor_of(number: i64) -> Turns {
+    match u32::try_from(number) {
+        Ok(position) => Turns { calls: 0, position },
+        Err(_) => Turns {
+            calls: u32::try_from(number.unsigned_abs()).unwrap_or(0),
+            position: 4000,
+        },
+    }
+}
+
+/// An advisor for each of these numbers.
+pub fn advisors_of(alloc: Global, numbers: &[i64]) -> Result<Vec<Box<dyn Advisor>>, AllocError> {
     let mut advisors: Vec<Box<dyn Advisor>> = Vec::new(alloc);
-    for position in picks {
-        let position = u32::try_from(*position).unwrap_or(0);
-        advisors.push(Box::new(alloc, Always { position })?)?;
+    for number in numbers {
+        advisors.push(Box::new(alloc, advisor_of(*number))?)?;
     }
     Ok(advisors)
 }

@@ -85,6 +85,7 @@ fn write_wide<W: fmt::Write>(wide: &WideAt, f: &mut fmt::Formatter<W>) -> fmt::R
 }
 
 /// An entry of a tree, as it is written.
+#[derive(Drop)]
 pub struct Line<'a>(pub &'a Entry);
 
 impl<'a> fmt::Display for Line<'a> {
