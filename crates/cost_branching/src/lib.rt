@@ -1,0 +1,12 @@
+//! One cap decided: costs that fit the problem within the cap, or a tree of cases which shows that there are none.
+//!
+//! The search runs over the rivals of the wanted paths: at each point every request is asked for its cheapest rival, and
+//! each that is too cheap becomes a row of the pool.
+#![tactic(auto)]
+
+mod decide;
+mod pool;
+
+pub use decide::decide;
+pub use form_search::Found;
+pub use pool::Pool;
