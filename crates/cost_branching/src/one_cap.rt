@@ -30,6 +30,7 @@ fn search_rivals<B: Begun>(
     pool: &mut Pool,
     advisors: &mut Vec<Box<dyn Advisor>>,
 ) -> Result<Found, OutOfMemory>
+    requires problem { problem.now ≡ B.problem }
     requires pool { IsPool problem.now pool.old }
     requires begun { pool.old.rows ≡ B.rows }
     requires ranges { IsBox (length problem.now.low) costs.now }
