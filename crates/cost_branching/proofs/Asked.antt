@@ -1,6 +1,6 @@
 -- Requests that are asked one after another.
-use Rattle.std.proofs.Common.{◌≡◌, ℕ, suc, ◌+◌, ◌<◌, ◌≤◌, refl, sym, ◌∙◌, ap, subst, inl, inr, get_or, List, [], ◌∷◌, ◌++◌, length, arith, append_assoc, append-nil}
-use Rattle.std.specs.Prelude.{ℤ, pos, ◌-ℤ◌, ◌<ℤ◌, ◌≤ℤ◌, ◌⊎◌, All, Contains, map, slice_get}
+use Rattle.std.proofs.Common.{◌≡◌, ℕ, ◌+◌, ◌<◌, ◌≤◌, refl, sym, ◌∙◌, ap, subst, inl, inr, get_or, List, [], ◌∷◌, ◌++◌, length, arith, append_assoc, append-nil}
+use Rattle.std.specs.Prelude.{ℤ, pos, ◌-ℤ◌, ◌<ℤ◌, ◌≤ℤ◌, ◌⊎◌, All, slice_get}
 use Rattle.std.proofs.lemmas.Int.{ints}
 use Rattle.std.proofs.lemmas.Bool.{cases_lt}
 use Rattle.std.proofs.lemmas.List.{get_or-map, length-map, map-append}
@@ -13,11 +13,10 @@ use Rattle.path_rows.specs.Forms.{Form}
 use Rattle.path_rows.specs.Forms.{no_form, value_at}
 use Rattle.path_rows.specs.Problems.{DesignProblem, IsProblem, ends_of, no_request}
 use Rattle.path_rows.specs.Rows.{IsRow, LeadsEach, form_of_row, forms_of_rows, path_edges}
-use Rattle.form_search.specs.Sources.{AreMet, Grows, HasNewRival, IsAnswered, SameSource}
+use Rattle.form_search.specs.Sources.{AreMet, Grows, IsAnswered}
 use Rattle.form_search.specs.declared.source.Asked.{Asked}
 use Rattle.form_search.specs.declared.source.Asked.TheVariants.{Nothing, Added}
 use Rattle.cost_branching.specs.Pools.{Differ, IsPool}
-use Rattle.cost_branching.specs.Candidates.{candidate_forms}
 use Rattle.cost_branching.specs.Rivals.{IsKept, IsTooCheap, IsTrueOf, KnownRows, LeadsAt}
 use Rattle.cost_branching.specs.Asking.{AnswersBelow, AreAsked, NoRow, OneRow}
 use Rattle.cost_branching.specs.SourceLaws.{row_met, value_between}

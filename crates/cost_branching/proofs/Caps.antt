@@ -1,6 +1,6 @@
 -- What a search over the box at a cap decides.
-use Rattle.std.proofs.Common.{◌≡◌, ℕ, ◌+◌, ◌<◌, ◌≤◌, refl, sym, ◌∙◌, ap, subst, get_or, List, [], ◌∷◌, ◌++◌, length, take, arith}
-use Rattle.std.specs.Prelude.{All, min, slice_index}
+use Rattle.std.proofs.Common.{◌≡◌, ℕ, ◌<◌, ◌≤◌, refl, sym, ◌∙◌, ap, subst, get_or, List, [], ◌++◌, length, take, arith}
+use Rattle.std.specs.Prelude.{All, min}
 use Rattle.std.proofs.lemmas.List.{append-nil, get_or-map, length-map, take_at}
 use Rattle.std.proofs.lemmas.List.Elements.{All-from_get_or, All-map}
 use Rattle.path_rows.specs.declared.form.CostBox.{CostBox}
@@ -8,7 +8,7 @@ use Rattle.path_rows.specs.declared.form.Row.{Row}
 use Rattle.path_rows.specs.Forms.{Form}
 use Rattle.path_rows.specs.Problems.{DesignProblem, IsProblem}
 use Rattle.path_rows.specs.Boxes.{IsInBox, capped}
-use Rattle.path_rows.specs.Rows.{IsFit, LeadsEach, box_of, form_of_row, forms_of_rows}
+use Rattle.path_rows.specs.Rows.{IsFit, LeadsEach, box_of, form_of_row}
 use Rattle.form_search.specs.Finds.{IsFound, IsSearchTree}
 use Rattle.form_search.specs.Sources.{Grows}
 use Rattle.form_search.specs.declared.found.Found.{Found}

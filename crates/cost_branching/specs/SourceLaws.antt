@@ -1,6 +1,6 @@
 -- Laws of the source of rivals: its true forms hold where each path leads, they stand in one list, and a path that leads
 -- at multiples of costs leads at the costs.
-use Rattle.std.proofs.Common.{◌≡◌, ℕ, zero, suc, ◌+◌, ◌*◌, ◌^◌, ◌<◌, ◌≤◌, refl, sym, ◌∙◌, subst, ap, get_or, List, [], ◌∷◌, ◌++◌, map, length, arith}
+use Rattle.std.proofs.Common.{◌≡◌, ℕ, zero, suc, ◌+◌, ◌*◌, ◌^◌, ◌<◌, ◌≤◌, refl, sym, ◌∙◌, subst, ap, inl, inr, get_or, List, [], ◌∷◌, map, length, arith}
 use Rattle.std.specs.Prelude.{ℤ, pos, ◌-ℤ◌, ◌≤ℤ◌, nat_abs, All, Contains, slice_get, slice_index, Option, None, Some}
 use Rattle.std.proofs.lemmas.Int.{ints}
 use Rattle.std.proofs.lemmas.List.{length-map, get_or-map}
@@ -8,14 +8,12 @@ use Rattle.std.proofs.lemmas.List.Elements.{Contains-append_left, Contains-appen
 use Rattle.std.proofs.lemmas.List.Sums.{sum_by-cons}
 use Rattle.std.proofs.Math.Nat.{mul-le-mul_left}
 use Rattle.std.proofs.lemmas.Bool.{cases_lt}
-use Rattle.std.proofs.Common.{inl, inr}
 use Rattle.cost_base.specs.Lists.{numbers_from}
 use Rattle.cost_base.proofs.ListLemmas.{length-numbers_from, get_or-numbers_from}
 use Rattle.area_graph.specs.declared.Point.{Point}
 use Rattle.area_graph.specs.declared.Price.{Price}
 use Rattle.area_graph.specs.declared.Price.TheVariants.{Fixed, Var, Zero}
 use Rattle.area_graph.specs.Area.{Area, edge_at}
-use Rattle.area_graph.specs.Paths.{IsPathOf}
 use Rattle.area_graph.specs.Costs.{IsPriced, LeadsBy, at_costs, cost, price_at}
 use Rattle.path_rows.specs.declared.problem.Request.{Request}
 use Rattle.path_rows.specs.declared.form.Row.{Row}

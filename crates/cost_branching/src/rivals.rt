@@ -1,6 +1,5 @@
 //! The rivals of a problem's wanted paths, as the source of a search.
 ghost use Rattle.std.specs.Prelude.{◌≡◌, ◌<◌, ◌++◌, ◌∷◌, [], length, IfOk, MatchBool, OnErr, OnOk};
-ghost use Rattle.area_graph.specs.Costs.{FitsPoint};
 ghost use Rattle.path_rows.specs.Rows.{IsRow, form_of_row};
 ghost use Rattle.spf_ties.specs.Distances.{IsRoomFor};
 ghost use Rattle.form_search.specs.Sources.{IsCostPoint};
