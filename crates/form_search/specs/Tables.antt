@@ -14,6 +14,9 @@ use Rattle.exact_simplex.specs.declared.stage.SimplexStop.TheVariants.{TooWide a
 use Rattle.form_search.specs.declared.table.HeldTableau.{HeldTableau}
 use Rattle.form_search.specs.declared.table.Least.{Least}
 use Rattle.form_search.specs.declared.table.Least.TheVariants.{Point as AtPoint, Refuted, Wide}
+use Rattle.form_search.specs.declared.relaxation.Relaxed.{Relaxed}
+use Rattle.form_search.specs.declared.relaxation.Relaxed.TheVariants.{Accepted, Refuted as NoneIsMet, Wide as TooWide}
+use Rattle.form_search.specs.Points.{IsLeastOf}
 
 -- A tableau in n variables that holds the first forms of the pool; where a step has stopped it, maybe one more than it counts.
 pub record IsHeld (top n : ℕ) (forms : List Form) (table : HeldTableau) : Type 0 where
@@ -57,3 +60,9 @@ IsTold top box forms point (Wide wide) = IsPrintedWide top box forms wide
 abbrev pub IsStepTold : CostBox → List Form → Held → SimplexStop → Type 0
 IsStepTold box forms held (StepTooWide wide) = IsTooWide held.top box held.rows (wide_at wide held.basis)
 IsStepTold box forms held OutOfMemory = Unit {0}
+
+-- what the relaxation of a box comes to: its least accepted point, multipliers that refute it, or a step that is too wide
+abbrev pub IsRelaxed : (Point → Type 0) → ℕ → CostBox → List Form → Point → Relaxed → Type 0
+IsRelaxed accepted top box forms point Accepted = IsLeastOf accepted box point
+IsRelaxed accepted top box forms point (NoneIsMet parts) = RefutesBy box forms parts
+IsRelaxed accepted top box forms point (TooWide wide) = IsPrintedWide top box forms wide

@@ -11,6 +11,8 @@ mod one_point;
 mod points;
 mod pool;
 mod propagation;
+mod relaxation;
+mod searching;
 mod source;
 mod table;
 mod turn;
@@ -18,4 +20,5 @@ mod watch;
 
 pub use found::Found;
 pub use pool::FormPool;
+pub use searching::search;
 pub use source::{Asked, RowSource};

@@ -1,0 +1,23 @@
+-- What is decided at a cap.
+use Rattle.std.specs.Prelude.{◌≡◌, ℕ, ◌≤◌, List, Contains}
+use Rattle.path_rows.specs.declared.tree.Entry.{Entry}
+use Rattle.path_rows.specs.declared.tree.Entry.TheVariants.{Undone}
+use Rattle.path_rows.specs.Problems.{DesignProblem}
+use Rattle.path_rows.specs.Boxes.{IsInBox, capped}
+use Rattle.path_rows.specs.Rows.{IsFit, LeadsEach, box_of, forms_of_rows}
+use Rattle.path_rows.specs.Trees.{IsClosed, entry_count}
+use Rattle.form_search.specs.Finds.{IsSearchTree}
+use Rattle.form_search.specs.declared.found.Found.{Found}
+use Rattle.form_search.specs.declared.found.Found.TheVariants.{Costs, Refuted, Spent}
+use Rattle.cost_branching.specs.Pools.{Pooled}
+
+-- a tree over the box of the problem at the cap, by the pool's rows: earnest, with relaxed points for its Splits
+abbrev pub IsTreeAt : DesignProblem → ℕ → ℕ → Pooled → List Entry → Type 0
+IsTreeAt p top cap pool tree = IsSearchTree (LeadsEach p) top (forms_of_rows p pool.rows) (capped (box_of p) cap) tree
+
+-- What is decided: fit costs of at most the cap; a closed tree of at most N entries; or, where the budget was used up, a
+-- tree with an Undone and exactly N entries.
+abbrev pub IsDecided : DesignProblem → ℕ → ℕ → ℕ → Pooled → Found → Type 0
+IsDecided p top nodes cap pool (Costs w) = IsFit p w × IsInBox (capped (box_of p) cap) w
+IsDecided p top nodes cap pool (Refuted tree) = IsTreeAt p top cap pool tree × IsClosed tree × (entry_count tree ≤ nodes)
+IsDecided p top nodes cap pool (Spent tree) = IsTreeAt p top cap pool tree × Contains tree Undone × (entry_count tree ≡ nodes)

@@ -1,0 +1,68 @@
+-- What is answered to a problem: best costs, that there are none, or that the budget was used up.
+use Rattle.std.specs.Prelude.{◌≡◌, ℕ, ◌<◌, ◌≤◌, List, All, Contains, Option, None, Some}
+use Rattle.path_rows.specs.declared.tree.Entry.TheVariants.{Undone}
+use Rattle.path_rows.specs.declared.answer.CapTree.{CapTree}
+use Rattle.path_rows.specs.declared.answer.Costs.{Costs}
+use Rattle.path_rows.specs.declared.answer.Floor.TheVariants.{Absent}
+use Rattle.path_rows.specs.declared.answer.Verdict.{Verdict}
+use Rattle.path_rows.specs.declared.answer.Verdict.TheVariants.{Optimal, Impossible, Budget}
+use Rattle.path_rows.specs.declared.form.Row.{Row}
+use Rattle.path_rows.specs.Problems.{DesignProblem}
+use Rattle.path_rows.specs.Boxes.{capped}
+use Rattle.path_rows.specs.Rows.{IsRow, box_of}
+use Rattle.path_rows.specs.Trees.{entry_count}
+use Rattle.path_rows.specs.Earnest.{IsEarnestFor}
+use Rattle.path_rows.specs.OpenPlaces.{UndoneLast}
+use Rattle.path_rows.specs.Answers.{AnswerParts, IsValid, GivesCosts, Proves, greatest_bound}
+
+-- a tree that is printed: earnest over the box at its cap, no other entry after an Undone, and at most N entries
+pub record IsPrintedTree (p : DesignProblem) (top nodes : ℕ) (rows : List Row) (t : CapTree) : Type 0 where
+  pub earnest : IsEarnestFor p top rows (capped (box_of p) t.cap) t.tree
+  pub last : UndoneLast t.tree
+  pub few : entry_count t.tree ≤ nodes
+
+-- so is a proof that stands
+abbrev pub ProofIsPrinted : DesignProblem → ℕ → ℕ → List Row → Option CapTree → Type 0
+ProofIsPrinted p top nodes rows None = Unit {0}
+ProofIsPrinted p top nodes rows (Some proof) = IsPrintedTree p top nodes rows proof
+
+-- Spent budget: the tree has an Undone and exactly N entries
+pub record IsSpentTree (p : DesignProblem) (top nodes : ℕ) (rows : List Row) (t : CapTree) : Type 0 where
+  pub printed : IsPrintedTree p top nodes rows t
+  pub undone : Contains t.tree Undone
+  pub spent : entry_count t.tree ≡ nodes
+
+abbrev pub UnfinishedAt : DesignProblem → ℕ → ℕ → List Row → ℕ → Option CapTree → Type 0
+UnfinishedAt p top nodes rows cap None = ⊥
+UnfinishedAt p top nodes rows cap (Some t) = (t.cap ≡ cap) × IsSpentTree p top nodes rows t
+
+-- a proof that stands in an undecided answer: a closed sound tree at a cap below that of the verdict
+abbrev pub ProofIsBelow : DesignProblem → List Row → ℕ → Option CapTree → Type 0
+ProofIsBelow p rows cap None = Unit {0}
+ProofIsBelow p rows cap (Some proof) = Proves p rows proof.cap proof × (proof.cap < cap)
+
+-- Without costs the cap is the greatest upper bound; with costs, which are fit and of the greatest that is told, it is less
+-- than that.
+abbrev pub CostsAreAbove : DesignProblem → ℕ → Option Costs → Type 0
+CostsAreAbove p cap None = cap ≡ greatest_bound p
+CostsAreAbove p cap (Some costs) = GivesCosts p costs.greatest costs × (cap < costs.greatest)
+
+-- an undecided answer, whose parts are true
+pub record IsUndecided (p : DesignProblem) (top nodes cap : ℕ) (a : AnswerParts) : Type 0 where
+  pub rows : All (IsRow p) a.rows
+  pub no_floor : a.floor ≡ Absent
+  pub no_higher : All (λ low. low ≤ cap) p.low
+  pub unfinished : UnfinishedAt p top nodes a.rows cap a.unfinished
+  pub proof : ProofIsBelow p a.rows cap a.proof
+  pub costs : CostsAreAbove p cap a.costs
+
+-- what each verdict says of the answer
+abbrev pub VerdictHolds : DesignProblem → ℕ → ℕ → AnswerParts → Verdict → Type 0
+VerdictHolds p top nodes a (Optimal k) = IsValid p a
+VerdictHolds p top nodes a Impossible = IsValid p a
+VerdictHolds p top nodes a (Budget cap) = IsUndecided p top nodes cap a
+
+-- an answer to a problem: it is valid, or the budget was used up; a proof in it is an earnest tree
+pub record IsAnswered (p : DesignProblem) (top nodes : ℕ) (a : AnswerParts) : Type 0 where
+  pub holds : VerdictHolds p top nodes a a.verdict
+  pub proof : ProofIsPrinted p top nodes a.rows a.proof

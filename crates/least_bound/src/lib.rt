@@ -1,0 +1,6 @@
+//! The least cap at which a problem has fit costs, with its evidence.
+#![tactic(auto)]
+
+mod least;
+
+pub use least::least;
