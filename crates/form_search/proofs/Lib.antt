@@ -3,5 +3,6 @@ pub mod CostPoints
 pub mod Entries
 pub mod GrowingTrees
 pub mod Missing
+pub mod Relaxing
 pub mod SourceLaws
 pub mod Turned

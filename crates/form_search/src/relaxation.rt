@@ -104,7 +104,7 @@ fn relax_by<S: RowSource>(
     ensures in_step { OnOk result (S.in_step source.new pool.new) }
     ensures same { SameSource S.count S.accepted S.true_form S.candidates source.old source.new }
 {
-    loop {
+    'rounds: loop {
         if let Some(relaxed) = relax_once(alloc, source, pool, costs, table, point)? {
             return Ok(relaxed);
         }

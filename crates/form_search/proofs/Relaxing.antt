@@ -1,0 +1,60 @@
+-- Rounds of a relaxation: the forms fit the box, the tableau that is kept holds the first forms of a pool that grew, and
+-- each new form is one that was missing.
+use Rattle.std.proofs.Common.{◌≡◌, ℕ, ◌<◌, sym, ◌∙◌, subst, inl, inr, List, ◌++◌, length, Option, arith}
+use Rattle.std.specs.Prelude.{All, Contains}
+use Rattle.std.proofs.lemmas.List.{length-append, take-append-le}
+use Rattle.std.proofs.lemmas.List.Elements.{Contains-append_cases}
+use Rattle.area_graph.specs.declared.Point.{Point}
+use Rattle.path_rows.specs.Forms.{Form}
+use Rattle.path_rows.specs.declared.form.CostBox.{CostBox}
+use Rattle.exact_simplex.specs.Tableaus.{FitsBox}
+use Rattle.form_search.specs.declared.table.HeldTableau.{HeldTableau}
+use Rattle.form_search.specs.Sources.{Grows, IsTrueForm}
+use Rattle.form_search.specs.Points.{IsCostsBox}
+use Rattle.form_search.specs.Tables.{IsHeld, IsKept, StandsAt}
+use Rattle.form_search.specs.Turns.{HasNew}
+use Rattle.form_search.proofs.CostPoints.{low_values}
+use Rattle.form_search.proofs.Missing.{missing, missing_falls}
+
+-- true forms fit a box of costs
+pub fit_box : (n : ℕ) (accepted : Point → Type 0) (box : CostBox) (forms : List Form) → IsCostsBox n box → All (IsTrueForm n accepted) forms → All (FitsBox box) forms
+fit_box n accepted box forms kept hold k d k_in =
+    let form = hold k d k_in in
+    record {
+      count = form.count ∙ sym kept.is_box.low_count;
+      sizes = form.sizes;
+      corner = form.values box.low kept.is_box.low_count (low_values n box kept);
+    }
+
+-- a tableau holds the first forms of a pool with more forms too
+pub held_more : (top n : ℕ) (old new more : List Form) (table : HeldTableau) → new ≡ old ++ more → IsHeld top n old table → IsHeld top n new table
+held_more top n old new more table same held = subst (λ (forms : List Form). IsHeld top n forms table) (sym same) (record {
+  same_top = held.same_top;
+  width = held.width;
+  taken = held.taken;
+  few = let longer = length-append old more in let few = held.few in omega arith;
+  rows = held.rows ∙ sym (take-append-le held.taken old more held.few);
+  all = held.all;
+})
+
+-- it stands there by its own top
+pub stands_own : (top : ℕ) (box : CostBox) (forms : List Form) (table : HeldTableau) → StandsAt top box forms table → StandsAt table.tableau.top box forms table
+stands_own top box forms table stands = subst (λ (t : ℕ). StandsAt t box forms table) (sym stands.is_held.same_top) stands
+
+-- what was kept in n variables, at a box of n variables
+pub kept_there : (top n : ℕ) (box : CostBox) (forms : List Form) (kept taken : Option HeldTableau) → IsCostsBox n box → taken ≡ kept → IsKept top n forms kept → IsKept top (length box.low) forms taken
+kept_there top n box forms kept taken costs same is =
+    subst (λ (m : ℕ). IsKept top m forms taken) (sym costs.is_box.low_count) (subst (λ (o : Option HeldTableau). IsKept top n forms o) (sym same) is)
+
+-- what a call brought is a true form
+pub new_true : (IsTrue : Form → Type 0) (old new : List Form) (form : Form) → Grows IsTrue old new → Contains new form → (Contains old form → ⊥) → IsTrue form
+new_true IsTrue old new form grows is_new not_old =
+    elim (Contains-append_cases old grows.more form (subst (λ (forms : List Form). Contains forms form) grows.same is_new)) [
+      | inl before ↦ absurd (not_old before)
+      | inr later ↦ subst IsTrue later.2 (grows.more_true later.0 form later.1)
+    ]
+
+-- so fewer candidates are missing
+pub new_falls : (IsTrue : Form → Type 0) (candidates old new : List Form) → ((form : Form) → IsTrue form → Contains candidates form) → Grows IsTrue old new → HasNew old new → missing candidates new < missing candidates old
+new_falls IsTrue candidates old new listed grows has =
+    missing_falls candidates old new has.form grows.more grows.same (listed has.form (new_true IsTrue old new has.form grows has.is_new has.not_old)) has.is_new has.not_old
