@@ -1,0 +1,5 @@
+pub mod BodyLaws
+pub mod Entries
+pub mod Lengths
+pub mod Pieces
+pub mod Underway
