@@ -17,7 +17,7 @@ use Rattle.lsa_bytes.specs.Databases.{HaveNoFault, is_router, is_same, has_link_
 use Rattle.lsa_bytes.specs.Faults.{Tells, body_fault, fault_behind, faults_behind, fault_of}
 
 -- an element that a test of the whole list missed
-misses : {X : Type 0} (p : X → Bool) (xs : List X) → list_any p xs ≡ false → (k : ℕ) (d : X) → k < length xs → p (get_or xs k d) ≡ false
+pub misses : {X : Type 0} (p : X → Bool) (xs : List X) → list_any p xs ≡ false → (k : ℕ) (d : X) → k < length xs → p (get_or xs k d) ≡ false
 misses p xs none k d within = false_from_ne_true (p (get_or xs k d)) (λ passes. false≢true (sym none ∙ list_any_at p xs k d within passes))
 
 -- a list without faults and one LSA without a fault behind them

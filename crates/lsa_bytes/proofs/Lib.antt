@@ -3,3 +3,6 @@ pub mod Entries
 pub mod Lengths
 pub mod Pieces
 pub mod Underway
+pub mod Spots
+pub mod EdgeSteps
+pub mod GraphFits

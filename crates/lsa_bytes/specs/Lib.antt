@@ -5,3 +5,5 @@ pub mod Databases
 pub mod Faults
 pub mod Files
 pub mod Seen
+pub mod AreaGraphs
+pub mod Vertices

@@ -73,20 +73,25 @@ impl Database {
         }
     }
 
-    /// The LSAs, in order.
+    /// The LSAs, in order, with what is kept of them.
     pub fn as_slice(&self) -> &[Lsa]
-        ensures { result.now ≡ self.now }
+        ensures items { result.now ≡ self.now }
+        ensures kept { IsDatabase self.now }
     {
         self.lsas.as_slice()
     }
 }
 
 mod bodies;
+mod edges;
 mod fields;
+mod graphs;
 mod reader;
 mod reading;
 mod seen;
 mod stop;
+mod vertices;
 
+pub use graphs::graph_of_lsas;
 pub use reading::{comes_to_one, read_lsas};
 pub use stop::{LsaFault, LsaStop};

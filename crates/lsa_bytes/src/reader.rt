@@ -97,7 +97,7 @@ impl Reader {
 }
 
 /// Whether an LSA is a router-LSA.
-fn is_router(lsa: &Lsa) -> bool
+pub(crate) fn is_router(lsa: &Lsa) -> bool
     ensures { result ≡ is_router lsa.now }
 {
     matches!(lsa.body, Body::Links(_))
