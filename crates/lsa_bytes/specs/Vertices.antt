@@ -1,0 +1,45 @@
+-- Where LSAs stand, found by what names them.
+use Rattle.std.specs.Prelude.{◌≡◌, ℕ, ◌+◌, ◌==◌, List, [], ◌∷◌, count_by, is_some, Bool, false, Option, Some, None, if◌then◌else◌}
+use Rattle.std.specs.Option.{option_or}
+use Rattle.std.specs.Ordering.{nat_cmp}
+use Rattle.std.specs.BTreeMap.{get}
+use Rattle.lsa_bytes.specs.declared.Lsa.{Lsa}
+use Rattle.lsa_bytes.specs.declared.vertices.Kind.{Kind}
+use Rattle.lsa_bytes.specs.declared.vertices.Kind.TheVariants.{Router, Network}
+use Rattle.lsa_bytes.specs.declared.vertices.Spot.{Spot}
+use Rattle.lsa_bytes.specs.declared.vertices.Found.{Found}
+use Rattle.lsa_bytes.specs.Databases.{is_router, is_network}
+
+abbrev pub is_kind : Kind → Lsa → Bool
+is_kind Router lsa = is_router lsa
+is_kind Network lsa = is_network lsa
+
+-- what names an LSA of a kind
+abbrev pub name_as : Kind → Lsa → Option ℕ
+name_as Router lsa = if is_router lsa then Some lsa.router else None
+name_as Network lsa = if is_router lsa then None else Some lsa.id
+
+abbrev pub is_named : Option ℕ → ℕ → Bool
+is_named None id = false
+is_named (Some name) id = name == id
+
+-- a spot, if it is the one sought
+abbrev pub spot_if : Bool → ℕ → ℕ → Option Spot
+spot_if sought number place = if sought then Some (record { number = number; place = place }) else None
+
+-- the first LSA of a kind that the ID names: its number among those of its kind, and its place among all
+abbrev pub spot_from : Kind → ℕ → ℕ → ℕ → List Lsa → Option Spot
+spot_from kind id number place [] = None
+spot_from kind id number place (lsa ∷ more) =
+    option_or (spot_if (is_named (name_as kind lsa) id) number place)
+    (spot_from kind id (number + (if is_kind kind lsa then 1 else 0)) (place + 1) more)
+
+-- one LSA more, which may have a name
+pub record Adds (old new : Found) (name : Option ℕ) (place : ℕ) : Type 0 where
+  pub spots : (id : ℕ) → get nat_cmp new.by_name id ≡ option_or (get nat_cmp old.by_name id) (spot_if (is_named name id) old.count place)
+  pub count : new.count ≡ old.count + (if is_some name then 1 else 0)
+
+-- the LSAs of a kind are found by what names them
+pub record HasFound (kind : Kind) (lsas : List Lsa) (found : Found) : Type 0 where
+  pub spots : (id : ℕ) → get nat_cmp found.by_name id ≡ spot_from kind id 0 0 lsas
+  pub count : found.count ≡ count_by (is_kind kind) lsas

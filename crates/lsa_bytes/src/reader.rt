@@ -1,0 +1,128 @@
+//! The LSAs that were read so far.
+ghost use Rattle.std.specs.Prelude.{◌≡◌, ◌≤◌, ◌&&◌, [], ◌∷◌, ◌++◌, None, MatchResult, count_by, length, nat_le, true};
+ghost use Rattle.std.specs.List.{list_any};
+ghost use Rattle.lsa_bytes.specs.Grammar.{said_by};
+ghost use Rattle.lsa_bytes.specs.Databases.{HaveNoFault, has_link_types, has_zero_metric, is_router, is_zero_link};
+ghost use Rattle.lsa_bytes.specs.Faults.{Tells, fault_behind, fault_of};
+
+use crate::bodies::said_by;
+use crate::seen::Seen;
+use crate::stop::refusal;
+use crate::{Body, Lsa, LsaFault, LsaLink, LsaStop};
+use std::alloc::Global;
+use std::marker::Model;
+
+/// The most router-LSAs that a database may have.
+const MOST_ROUTERS: usize = 1000;
+
+/// The LSAs that were read and aren't passed over, with a look-up by what names them.
+#[derive(Drop)]
+pub struct Reader {
+    lsas: Vec<Lsa>,
+    seen: Seen,
+}
+
+impl Model for Reader {
+    ghost use Rattle.std.specs.Prelude.{List};
+    ghost use Rattle.lsa_bytes.specs.declared.Lsa.{Lsa as OneLsa};
+    ghost use Rattle.lsa_bytes.specs.Databases.{HaveNoFault};
+    ghost use Rattle.lsa_bytes.specs.Seen.{HasSeen};
+
+    ghost Value = { List OneLsa };
+
+    ghost view = { λ r. r.lsas.items };
+
+    ghost invariant = { λ r. record {
+      seen : HasSeen r.seen r.lsas.items;
+      faultless : HaveNoFault r.lsas.items;
+    } };
+}
+
+impl Reader {
+    /// Nothing was read.
+    pub fn new(alloc: Global) -> Reader
+        ensures { result ≡ [] }
+    {
+        Reader {
+            lsas: Vec::new(alloc),
+            seen: Seen::new(alloc),
+        }
+    }
+
+    /// With what the bytes of one more LSA say.
+    pub fn with_bytes(self, alloc: Global, lsa: &[u8], offset: u32) -> Result<Reader, LsaStop>
+        requires { 20 ≤ length lsa.now }
+        ensures { MatchResult result (λ reader. (fault_of self lsa.now ≡ None) × (reader ≡ self ++ said_by lsa.now)) (Tells (fault_of self lsa.now) offset) }
+    {
+        match said_by(alloc, lsa, offset)? {
+            Some(said) => self.with(said, offset),
+            None => Ok(self),
+        }
+    }
+
+    /// With one more LSA.
+    fn with(self, lsa: Lsa, offset: u32) -> Result<Reader, LsaStop>
+        requires { has_link_types lsa.body ≡ true }
+        ensures { MatchResult result (λ reader. (fault_behind self lsa ≡ None) × (reader ≡ self ++ lsa ∷ [])) (Tells (fault_behind self lsa) offset) }
+    {
+        if self.has_no_room(&lsa) {
+            return Err(refusal(LsaFault::TooManyRouters, offset));
+        }
+        let Reader { mut lsas, mut seen } = self;
+        if !seen.add(&lsa)? {
+            return Err(refusal(LsaFault::LsaTwice, offset));
+        }
+        if has_zero_metric(&lsa.body) {
+            return Err(refusal(LsaFault::ZeroMetric, offset));
+        }
+        lsas.push(lsa)?;
+        Ok(Reader { lsas, seen })
+    }
+
+    /// Whether an LSA is a router-LSA more than a database may have.
+    fn has_no_room(&self, lsa: &Lsa) -> bool
+        ensures { result ≡ (is_router lsa.now && nat_le 1000 (count_by is_router self.now)) }
+    {
+        is_router(lsa) && self.seen.router_count() >= MOST_ROUTERS
+    }
+
+    /// The LSAs that were read, in order.
+    pub fn into_lsas(self) -> Vec<Lsa>
+        ensures lsas { result.items ≡ self }
+        ensures faultless { HaveNoFault self }
+    {
+        let Reader { lsas, seen: _ } = self;
+        lsas
+    }
+}
+
+/// Whether an LSA is a router-LSA.
+pub(crate) fn is_router(lsa: &Lsa) -> bool
+    ensures { result ≡ is_router lsa.now }
+{
+    matches!(lsa.body, Body::Links(_))
+}
+
+/// Whether a link of type 1 or 2 has metric 0.
+fn is_zero_link(link: &LsaLink) -> bool
+    ensures { result ≡ is_zero_link link.now }
+{
+    (link.kind == 1 || link.kind == 2) && link.metric == 0
+}
+
+/// Whether one of the links is of type 1 or 2 and has metric 0.
+fn has_zero_link(links: &[LsaLink]) -> bool
+    ensures { result ≡ list_any is_zero_link links.now }
+{
+    links.iter().any(|link| is_zero_link(link))
+}
+
+/// Whether a body has a link of type 1 or 2 with metric 0.
+fn has_zero_metric(body: &Body) -> bool
+    ensures { result ≡ has_zero_metric body.now }
+{
+    match body {
+        Body::Links(links) => has_zero_link(links.as_slice()),
+        Body::Attached(_) => false,
+    }
+}

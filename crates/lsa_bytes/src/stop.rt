@@ -1,0 +1,84 @@
+//! Why LSAs or router IDs are refused.
+ghost use Rattle.std.specs.Prelude.{◌≡◌};
+ghost use Rattle.lsa_bytes.specs.Numbers.{number_of};
+
+use cost_base::OutOfMemory;
+use std::alloc::AllocFailed;
+
+/// Why the bytes of LSAs, or the router IDs of a run, are refused.
+#[derive(Clone, Copy, Debug, PartialEq, Eq)]
+pub enum LsaFault {
+    /// Fewer bytes are left than a header of 20, or than the LSA's length says.
+    ShortLsa,
+    /// The length of an LSA is below 20.
+    BadLength,
+    /// A router-LSA's or network-LSA's body isn't as RFC 2328, A.4.2 and A.4.3, say, or a link's type isn't 1 to 4.
+    BadBody,
+    /// An earlier LSA that isn't passed over is a router-LSA of the same advertising router, or a network-LSA of the same
+    /// link state ID.
+    LsaTwice,
+    /// A link of type 1 or 2 has metric 0.
+    ZeroMetric,
+    /// A configuration has no router ID, or a router ID has no router-LSA.
+    NoRouterId,
+    /// An earlier configuration has the same router ID.
+    RouterIdTwice,
+    /// There are more than 1,000 router-LSAs that aren't passed over.
+    TooManyRouters,
+}
+
+impl LsaFault {
+    /// The number by which the fault is written.
+    pub fn number(self) -> u8
+        ensures { result ≡ number_of self }
+    {
+        match self {
+            LsaFault::ShortLsa => 73,
+            LsaFault::BadLength => 74,
+            LsaFault::BadBody => 75,
+            LsaFault::LsaTwice => 76,
+            LsaFault::ZeroMetric => 77,
+            LsaFault::NoRouterId => 78,
+            LsaFault::RouterIdTwice => 79,
+            LsaFault::TooManyRouters => 80,
+        }
+    }
+}
+
+/// Why bytes made no database: the first faulty LSA, or want of memory.
+#[derive(Clone, Copy, Debug, PartialEq, Eq)]
+pub enum LsaStop {
+    /// The fault of the first faulty LSA, and the offset in bytes at which that LSA begins.
+    Refused { fault: LsaFault, offset: u32 },
+    /// There was no memory.
+    OutOfMemory,
+}
+
+impl From<OutOfMemory> for LsaStop {
+    ghost use Rattle.std.specs.Prelude.{◌≡◌};
+    ghost use Rattle.lsa_bytes.specs.declared.stop.LsaStop.TheVariants.{OutOfMemory as StopOutOfMemory};
+
+    ghost from_gives = { λ stop result. result ≡ StopOutOfMemory };
+
+    fn from(_: OutOfMemory) -> LsaStop {
+        LsaStop::OutOfMemory
+    }
+}
+
+impl<T: Drop> From<AllocFailed<T>> for LsaStop {
+    ghost use Rattle.std.specs.Prelude.{◌≡◌};
+    ghost use Rattle.lsa_bytes.specs.declared.stop.LsaStop.TheVariants.{OutOfMemory as StopOutOfMemory};
+
+    ghost from_gives = { λ stop result. result ≡ StopOutOfMemory };
+
+    fn from(_error: AllocFailed<T>) -> LsaStop {
+        LsaStop::OutOfMemory
+    }
+}
+
+/// The refusal of an LSA that begins at an offset.
+pub(crate) fn refusal(fault: LsaFault, offset: u32) -> LsaStop
+    ensures { result ≡ LsaStop.Refused fault offset }
+{
+    LsaStop::Refused { fault, offset }
+}
