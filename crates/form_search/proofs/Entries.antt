@@ -1,6 +1,8 @@
 -- The entries that come next, by one form or by a tableau.
 use Rattle.std.proofs.Common.{◌≡◌, ℕ, zero, suc, ◌^◌, ◌<◌, refl, sym, subst, List, [], ◌∷◌, length, take, drop, arith, take-append-drop}
-use Rattle.std.specs.Prelude.{pos, ◌<ℤ◌, All}
+use Rattle.std.specs.Prelude.{◌≢◌, pos, ◌<ℤ◌, ◌+◌, ◌≤◌, All, sum_by}
+use Rattle.std.proofs.lemmas.Int.{ints}
+use Rattle.std.proofs.lemmas.List.Sums.{get_or-le-sum_by}
 use Rattle.area_graph.specs.declared.Point.{Point}
 use Rattle.path_rows.specs.Forms.{Form}
 use Rattle.path_rows.specs.declared.form.CostBox.{CostBox}
@@ -8,7 +10,7 @@ use Rattle.path_rows.specs.declared.tree.WideAt.{WideAt}
 use Rattle.path_rows.specs.declared.tree.Entry.{Entry}
 use Rattle.path_rows.specs.declared.tree.Entry.TheVariants.{Tighten, Split, Halve, Refute, Undone}
 use Rattle.path_rows.specs.Forms.{form_at}
-use Rattle.path_rows.specs.Boxes.{IsBox, greatest}
+use Rattle.path_rows.specs.Boxes.{IsBox, Refutes, greatest}
 use Rattle.path_rows.specs.Trees.{CutsAt}
 use Rattle.path_rows.specs.Steps.{IsTooWide}
 use Rattle.path_rows.specs.Earnest.{IsLeast, Place}
@@ -16,8 +18,8 @@ use Rattle.path_rows.proofs.Renumbering.{too_wide_kept}
 use Rattle.form_search.specs.declared.table.HeldTableau.{HeldTableau}
 use Rattle.advisor_box.specs.declared.candidate.Candidate.{Candidate}
 use Rattle.form_search.specs.Points.{IsFractional}
-use Rattle.form_search.specs.Tables.{IsHeld, IsPrintedWide}
-use Rattle.form_search.specs.Turns.{IsNextEntry, IsNextRow}
+use Rattle.form_search.specs.Tables.{IsHeld, IsPrintedWide, RefutesBy}
+use Rattle.form_search.specs.Turns.{IsNextEntry, IsNextRow, IsSplitAt}
 use Rattle.form_search.proofs.CostPoints.{candidate_cuts, candidate_splits, refutes_one}
 
 -- the Refute by one form
@@ -68,6 +70,30 @@ next_split accepted top n forms place point candidate kept least fractional = re
   sound = candidate_cuts n place.box point candidate kept least.inside fractional;
   earnest = candidate_splits accepted place.box point candidate least fractional;
   short = (tt, tt);
+  closed = refl;
+}
+
+pub next_split_at : (accepted : Point → Type 0) (top n : ℕ) (forms : List Form) (place : Place) (point : Point) (entry : Entry) → IsBox n place.box → IsLeast accepted place.box point → IsSplitAt place.box point entry → IsNextEntry accepted top forms place entry
+next_split_at accepted top n forms place point entry kept least split =
+    subst (IsNextEntry accepted top forms place) (sym split.same) (next_split accepted top n forms place point split.candidate kept least split.fractional)
+
+-- no forms at all refute no box
+some_parts : (forms : List Form) (parts : List (ℕ × ℕ)) (box : CostBox) → Refutes forms parts box → parts ≢ []
+some_parts forms [] box refutes none = absurd (omega (arith, ints, refutes.negative))
+some_parts forms (part ∷ parts) box refutes none = cc
+
+-- a multiplier is at most the sum of all
+small_parts : (parts : List (ℕ × ℕ)) → sum_by (λ part. part.1) parts < 2 ^ 100 → All (λ part. part.1 < 10 ^ 31) parts
+small_parts parts small k d k_in =
+    let one = get_or-le-sum_by (λ (part : ℕ × ℕ). part.1) parts k d k_in in
+    omega arith
+
+-- the Refute by multipliers
+pub next_refuted : (accepted : Point → Type 0) (top : ℕ) (forms : List Form) (place : Place) (parts : List (ℕ × ℕ)) → RefutesBy place.box forms parts → IsNextEntry accepted top forms place (Refute parts)
+next_refuted accepted top forms place parts by = record {
+  sound = by.refutes;
+  earnest = tt;
+  short = ((some_parts forms parts place.box by.refutes, small_parts parts by.refutes.sum), by.few);
   closed = refl;
 }
 

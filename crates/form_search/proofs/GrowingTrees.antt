@@ -1,5 +1,6 @@
 -- The tree of a search while it grows, and what it shows at its end.
-use Rattle.std.proofs.Common.{◌≡◌, ◌≢◌, ℕ, zero, suc, ◌<◌, ◌≤◌, refl, sym, ◌∙◌, subst, List, [], ◌∷◌, ◌++◌, length, arith}
+use Rattle.std.proofs.Common.{◌≡◌, ◌≢◌, ℕ, zero, suc, ◌+◌, ◌-◌, ◌*◌, ◌<◌, ◌≤◌, refl, sym, ◌∙◌, ap, subst, List, [], ◌∷◌, ◌++◌, length, arith, Bool, true, false, ◌==◌, if◌then◌else◌, ControlFlow, Break, Continue}
+use Rattle.std.proofs.lemmas.Bool.{eq-eqb, eqb-false, eqb-true}
 use Rattle.std.proofs.lemmas.List.{append-nil, get_or_default, length-append}
 use Rattle.std.specs.Prelude.{All, Contains, slice_index}
 use Rattle.std.proofs.lemmas.List.Elements.{Contains-append_right}
@@ -19,7 +20,14 @@ use Rattle.path_rows.proofs.TreeShapes.{sound_whole}
 use Rattle.form_search.specs.Sources.{Grows}
 use Rattle.form_search.specs.Points.{IsCostsBox}
 use Rattle.form_search.specs.Finds.{IsSearchTree, IsShort}
-use Rattle.form_search.specs.Turns.{IsNextEntry}
+use Rattle.form_search.specs.declared.found.Found.{Found}
+use Rattle.form_search.specs.declared.found.Found.TheVariants.{Spent}
+use Rattle.form_search.specs.declared.turn.Next.{Next}
+use Rattle.form_search.specs.declared.turn.Next.TheVariants.{Forms, Costs, Entry as ByEntry}
+use Rattle.form_search.specs.Finds.{IsFound}
+use Rattle.form_search.specs.Turns.{HasNew, IsNext, IsNextEntry, IsSoundNext, turned}
+use Rattle.form_search.proofs.Missing.{missing, missing_few}
+use Rattle.form_search.proofs.Relaxing.{new_falls}
 
 -- a tree over a box that grew by entries that might come next, at most so many
 pub record IsGrowing (accepted : Point → Type 0) (top nodes : ℕ) (forms : List Form) (box : CostBox) (tree : Growing) : Type 0 where
@@ -128,3 +136,73 @@ growing_undone accepted top nodes forms box tree growing some full = (
 -- the entries are one whole tree
 pub earnest_whole : (accepted : Point → Type 0) (top : ℕ) (forms : List Form) (box : CostBox) (tree : List Entry) → IsEarnestTree accepted top forms box tree → IsWholeTree tree
 earnest_whole accepted top forms box tree earnest = sound_whole forms box tree (earnest_tree_sound accepted top forms box tree earnest)
+
+-- a tree whose open places are undone is one whole tree
+pub undone_whole : (accepted : Point → Type 0) (top nodes : ℕ) (forms : List Form) (box : CostBox) (tree : Growing) → IsGrowing accepted top nodes forms box tree → IsWholeTree (tree.entries ++ undones (length tree.places))
+undone_whole accepted top nodes forms box tree growing =
+    earnest_whole accepted top forms box (tree.entries ++ undones (length tree.places)) (opens_undone accepted top forms (fresh box ∷ []) tree.entries tree.places growing.opens)
+
+-- so is one with no open place
+pub ended_whole : (accepted : Point → Type 0) (top nodes : ℕ) (forms : List Form) (box : CostBox) (tree : Growing) → IsGrowing accepted top nodes forms box tree → (0 < length tree.places → ⊥) → IsWholeTree tree.entries
+ended_whole accepted top nodes forms box tree growing none =
+    earnest_whole accepted top forms box tree.entries (growing_ends accepted top nodes forms box tree growing none).0.earnest
+
+-- an entry that may come next is sound
+pub next_sound : (accepted : Point → Type 0) (top : ℕ) (old new : List Form) (place : Place) (next : Next) → IsNext accepted top old new place next → IsSoundNext place.box next
+next_sound accepted top old new place Forms is = tt
+next_sound accepted top old new place (Costs w) is = tt
+next_sound accepted top old new place (ByEntry entry) is = (new, is.sound)
+
+-- the tree goes on growing, or shows what was found
+abbrev pub IsTurned : (Point → Type 0) → ℕ → ℕ → List Form → CostBox → ControlFlow Found Growing → Type 0
+IsTurned accepted top nodes forms box (Continue tree) = IsGrowing accepted top nodes forms box tree
+IsTurned accepted top nodes forms box (Break found) = IsFound accepted top nodes forms box found
+
+-- by what may come next
+pub turned_growing : (IsTrue : Form → Type 0) (accepted : Point → Type 0) (top nodes : ℕ) (old new : List Form) (box : CostBox) (tree : Growing) (next : Next) → IsBox (length box.low) box → Grows IsTrue old new → IsGrowing accepted top nodes old box tree → 0 < length tree.places → IsNext accepted top old new (first_place tree.places) next → IsTurned accepted top nodes new box (turned nodes tree next)
+turned_growing IsTrue accepted top nodes old new box tree Forms kept grows growing some is = growing_kept IsTrue accepted top nodes old new box tree grows growing
+turned_growing IsTrue accepted top nodes old new box tree (Costs w) kept grows growing some is = (first_found accepted top nodes old box tree w kept growing some is.0, is.1)
+turned_growing IsTrue accepted top nodes old new box tree (ByEntry entry) kept grows growing some is = by (length tree.entries == nodes) refl
+  where
+    after : IsGrowing accepted top nodes new box tree
+    after = growing_kept IsTrue accepted top nodes old new box tree grows growing
+
+    by : (full : Bool) → (length tree.entries == nodes) ≡ full → IsTurned accepted top nodes new box (if full then Break (Spent (tree.entries ++ undones (length tree.places))) else Continue (grown tree entry))
+    by true full = growing_undone accepted top nodes new box tree after some (eqb-true (length tree.entries) nodes full)
+    by false left = growing_more accepted top nodes new box tree entry kept after some (eqb-false (length tree.entries) nodes left) is
+
+-- the tree has as many entries as it may have
+pub turned_full : (nodes : ℕ) (tree : Growing) (entry : Entry) (next : Next) (whole : List Entry) → next ≡ ByEntry entry → length tree.entries ≡ nodes → whole ≡ tree.entries ++ undones (length tree.places) → Break (Spent whole) ≡ turned nodes tree next
+turned_full nodes tree entry next whole is full same =
+    subst (λ (n : Next). Break (Spent whole) ≡ turned nodes tree n) (sym is)
+    (subst (λ (b : Bool). Break (Spent whole) ≡ (if b then Break (Spent (tree.entries ++ undones (length tree.places))) else Continue (grown tree entry))) (sym (eq-eqb (length tree.entries) nodes full))
+    (ap (λ (es : List Entry). Break (Spent es)) same))
+
+-- how much is left of a search: the entries that the tree may still get, and the forms that the pool may
+abbrev pub left_of : ℕ → List Form → List Form → Growing → ℕ
+left_of nodes candidates forms tree = (nodes - length tree.entries) * (length candidates + 1) + missing candidates forms
+
+one_less : (nodes entries longer few less more : ℕ) → longer ≡ entries + 1 → entries < nodes → less ≤ few → (nodes - longer) * (few + 1) + less < (nodes - entries) * (few + 1) + more
+one_less nodes entries longer few less more one some at_most =
+    let one_fewer : (nodes - longer) + 1 ≡ nodes - entries = omega arith in
+    subst (λ (left : ℕ). (nodes - longer) * (few + 1) + less < left * (few + 1) + more) one_fewer (falls (nodes - longer))
+  where
+    falls : (left : ℕ) → left * (few + 1) + less < (left + 1) * (few + 1) + more
+    falls left = omega arith
+
+same_tree : (t u : Growing) → (let x : ControlFlow Found Growing = Continue u in x) ≡ Continue t → t ≡ u
+same_tree t u e = cc
+
+-- each turn leaves less
+pub turned_falls : (IsTrue : Form → Type 0) (accepted : Point → Type 0) (top nodes : ℕ) (candidates old new : List Form) (place : Place) (tree longer : Growing) (next : Next) → ((form : Form) → IsTrue form → Contains candidates form) → Grows IsTrue old new → length tree.entries ≤ nodes → IsNext accepted top old new place next → Continue longer ≡ turned nodes tree next → left_of nodes candidates new longer < left_of nodes candidates old tree
+turned_falls IsTrue accepted top nodes candidates old new place tree longer Forms listed grows few is goes =
+    subst (λ (t : Growing). left_of nodes candidates new t < left_of nodes candidates old tree) (same_tree tree longer goes)
+    (let less = new_falls IsTrue candidates old new listed grows is in omega arith)
+turned_falls IsTrue accepted top nodes candidates old new place tree longer (Costs w) listed grows few is goes = absurd (cc)
+turned_falls IsTrue accepted top nodes candidates old new place tree longer (ByEntry entry) listed grows few is goes = by (length tree.entries == nodes) refl goes
+  where
+    by : (full : Bool) → (length tree.entries == nodes) ≡ full → Continue longer ≡ (if full then Break (Spent (tree.entries ++ undones (length tree.places))) else Continue (grown tree entry)) → left_of nodes candidates new longer < left_of nodes candidates old tree
+    by true full goes_on = absurd (cc)
+    by false left goes_on =
+        subst (λ (t : Growing). left_of nodes candidates new t < left_of nodes candidates old tree) (same_tree (grown tree entry) longer goes_on)
+        (one_less nodes (length tree.entries) (length (tree.entries ++ entry ∷ [])) (length candidates) (missing candidates new) (missing candidates old) (length-append tree.entries (entry ∷ [])) (let other = eqb-false (length tree.entries) nodes left in omega arith) (missing_few candidates new))

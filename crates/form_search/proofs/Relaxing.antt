@@ -1,6 +1,6 @@
 -- Rounds of a relaxation: the forms fit the box, the tableau that is kept holds the first forms of a pool that grew, and
 -- each new form is one that was missing.
-use Rattle.std.proofs.Common.{◌≡◌, ℕ, ◌<◌, sym, ◌∙◌, subst, inl, inr, List, ◌++◌, length, Option, arith}
+use Rattle.std.proofs.Common.{◌≡◌, ℕ, ◌<◌, sym, ◌∙◌, subst, inl, inr, List, ◌++◌, length, Option, None, Some, arith}
 use Rattle.std.specs.Prelude.{All, Contains}
 use Rattle.std.proofs.lemmas.List.{length-append, take-append-le}
 use Rattle.std.proofs.lemmas.List.Elements.{Contains-append_cases}
@@ -36,6 +36,11 @@ held_more top n old new more table same held = subst (λ (forms : List Form). Is
   rows = held.rows ∙ sym (take-append-le held.taken old more held.few);
   all = held.all;
 })
+
+-- so does one that is kept
+pub kept_more : (top n : ℕ) (old new more : List Form) (kept : Option HeldTableau) → new ≡ old ++ more → IsKept top n old kept → IsKept top n new kept
+kept_more top n old new more None same is = tt
+kept_more top n old new more (Some table) same is = held_more top n old new more table same is
 
 -- it stands there by its own top
 pub stands_own : (top : ℕ) (box : CostBox) (forms : List Form) (table : HeldTableau) → StandsAt top box forms table → StandsAt table.tableau.top box forms table

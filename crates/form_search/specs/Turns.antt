@@ -1,18 +1,26 @@
 -- What comes next at an open place, and what is kept from box to box.
-use Rattle.std.specs.Prelude.{◌≡◌, ℕ, ◌^◌, ◌≤◌, List, length, nat_abs, false, All, Contains}
+use Rattle.std.specs.Prelude.{◌≡◌, ℕ, ◌^◌, ◌≤◌, List, ◌++◌, length, nat_abs, false, All, Contains, ◌==◌, if◌then◌else◌}
+use Rattle.std.specs.declared.ops.ControlFlow.{ControlFlow}
+use Rattle.std.specs.declared.ops.ControlFlow.TheVariants.{Break, Continue}
 use Rattle.area_graph.specs.declared.Point.{Point}
 use Rattle.area_graph.specs.Costs.{at_costs}
 use Rattle.path_rows.specs.Forms.{Form}
+use Rattle.path_rows.specs.declared.form.CostBox.{CostBox}
 use Rattle.path_rows.specs.declared.tree.Entry.{Entry}
 use Rattle.path_rows.specs.declared.tree.Entry.TheVariants.{Tighten, Split, Halve, Refute, Undone}
 use Rattle.path_rows.specs.Boxes.{IsInBox, Refutes}
 use Rattle.path_rows.specs.Trees.{SoundAt, TightensAt, is_undone}
 use Rattle.path_rows.specs.Earnest.{EarnestAt, Place}
+use Rattle.path_rows.specs.OpenPlaces.{Growing, grown, undones}
+use Rattle.form_search.specs.declared.found.Found.{Found}
+use Rattle.form_search.specs.declared.found.Found.TheVariants.{Costs as FoundCosts, Spent}
 use Rattle.form_search.specs.declared.turn.Next.{Next}
 use Rattle.form_search.specs.declared.turn.Next.TheVariants.{Forms, Costs, Entry as ByEntry}
 use Rattle.form_search.specs.declared.turn.Desk.{Desk}
 use Rattle.form_search.specs.declared.watch.Watch.{Watch}
+use Rattle.advisor_box.specs.declared.candidate.Candidate.{Candidate}
 use Rattle.form_search.specs.Finds.{IsShort}
+use Rattle.form_search.specs.Points.{IsFractional}
 use Rattle.form_search.specs.Tables.{IsKept}
 
 -- an entry that may come next at the place, over the pool's forms
@@ -38,6 +46,12 @@ IsNextRow forms place (Halve var value wide) = ⊥
 IsNextRow forms place (Refute parts) = Refutes forms parts place.box × IsShort (length place.box.low) (Refute parts)
 IsNextRow forms place Undone = ⊥
 
+-- the Split at a candidate that is fractional at the point
+pub record IsSplitAt (box : CostBox) (point : Point) (entry : Entry) : Type 0 where
+  pub candidate : Candidate
+  pub same : entry ≡ Split candidate.var candidate.floor
+  pub fractional : IsFractional box point candidate
+
 -- the pool has a form that it hadn't
 pub record HasNew (old new : List Form) : Type 0 where
   pub form : Form
@@ -61,3 +75,17 @@ pub record IsDesk (top n : ℕ) (forms : List Form) (desk : Desk) : Type 0 where
   pub watch : IsWatch n desk.watch
   pub table : IsKept top n forms desk.table
   pub point : length desk.point.values ≡ n
+
+-- an entry that comes next is sound over some forms
+abbrev pub IsSoundNext : CostBox → Next → Type 0
+IsSoundNext box Forms = Unit {0}
+IsSoundNext box (Costs w) = Unit {0}
+IsSoundNext box (ByEntry entry) = (forms : List Form) × SoundAt forms box entry
+
+-- what a tree comes to by what comes next: the search goes on with the tree, maybe by one entry longer; it ends with costs;
+-- or, where the tree has as many entries as it may have, it ends with an Undone at each open place
+abbrev pub turned : ℕ → Growing → Next → ControlFlow Found Growing
+turned nodes tree Forms = Continue tree
+turned nodes tree (Costs w) = Break (FoundCosts w)
+turned nodes tree (ByEntry entry) =
+    if length tree.entries == nodes then Break (Spent (tree.entries ++ undones (length tree.places))) else Continue (grown tree entry)

@@ -1,10 +1,9 @@
-//! What a search over a source of forms is made of: sources and their contract, the pool of forms, what a search finds, and
-//! the steps at one box: bound propagation, the tableau that is kept from box to box, a box of one point, and the variables
-//! at which a box may be split.
-//!
-//! The loop over the boxes of a tree isn't here yet.
+//! The search over a source of forms: sources and their contract, the pool of forms, the steps at one box, and the loop
+//! over the boxes of a tree. The steps are bound propagation, the relaxation by the tableau that is kept from box to box, a
+//! box of one point, and the variables at which a box may be split.
 #![tactic(auto)]
 
+mod at_box;
 mod candidates;
 mod found;
 mod one_point;

@@ -1,16 +1,82 @@
 //! The search: boxes in preorder, with a tree of cases as its evidence.
-ghost use Rattle.std.specs.Prelude.{◌≡◌, ℕ, ◌≤◌, length, All, IfOk, OnOk};
+ghost use Rattle.std.specs.Prelude.{◌≡◌, ℕ, ◌<◌, ◌≤◌, ◌++◌, List, [], ◌∷◌, length, All, IfOk, OnOk};
+ghost use Rattle.std.specs.List.{AllZip};
+ghost use Rattle.path_rows.specs.Forms.{Form};
 ghost use Rattle.path_rows.specs.Boxes.{IsBox};
+ghost use Rattle.path_rows.specs.Trees.{IsWholeTree, SoundAt};
+ghost use Rattle.path_rows.specs.OpenPlaces.{first_place, fresh, grown, undones};
 ghost use Rattle.form_search.specs.Advised.{AreLeft, IsCalled};
 ghost use Rattle.form_search.specs.Finds.{IsFound};
+ghost use Rattle.form_search.specs.Points.{IsCostsBox};
 ghost use Rattle.form_search.specs.Sources.{Grows, SameSource};
+ghost use Rattle.form_search.specs.Turns.{IsSoundNext, turned};
 
+use crate::at_box::next_at;
+use crate::turn::{Desk, Next};
 use crate::{FormPool, Found, RowSource};
-use advisor_box::Advisor;
-use cost_base::OutOfMemory;
-use path_rows::CostBox;
+use advisor_box::{Advisor, tell};
+use cost_base::{Listed, OutOfMemory};
+use path_rows::{CostBox, Entry, TreeBuilder};
 use std::alloc::Global;
+use std::ops::ControlFlow;
 use wide_fraction::Limits;
+
+/// The tree without an entry over a box of costs in so many variables.
+fn first_tree(alloc: Global, variables: u32, costs: &CostBox) -> Result<TreeBuilder, OutOfMemory>
+    requires ranges { IsBox variables costs.now }
+    requires lows { All (λ low. 1 ≤ low) costs.now.low }
+    ensures tree { IfOk result (λ tree. tree ≡ record { entries = []; places = fresh costs.now ∷ [] }) }
+    ensures ranges { OnOk result (IsCostsBox variables costs.now) }
+{
+    let low = costs.low.copy(alloc)?;
+    let highs = costs.high.as_slice();
+    let high = Listed::from_slice(alloc, highs)?;
+    TreeBuilder::start(alloc, CostBox { low, high })
+}
+
+/// The tree with one more entry, of which the advisors are told.
+fn with_told(
+    tree: TreeBuilder,
+    entry: Entry,
+    advisors: &mut Vec<Box<dyn Advisor>>,
+) -> Result<TreeBuilder, OutOfMemory>
+    requires open { 0 < length tree.places }
+    requires sound { (forms : List Form) × SoundAt forms (first_place tree.places).box entry }
+    ensures tree { IfOk result (λ longer. longer ≡ grown tree entry) }
+    ensures told { AllZip
+        (λ b c. (c.vtable ≡ b.vtable) × (state c ≡ (⟦<dyn Advisor as Advisor>⟧ b.vtable).after (state b) entry))
+        advisors.old.items advisors.new.items }
+{
+    tell(advisors, &entry);
+    tree.with(entry)
+}
+
+/// What a tree comes to by what comes next at its open box: the search goes on, or it ends with what it found.
+fn turn(
+    tree: TreeBuilder,
+    next: Next,
+    nodes: u64,
+    advisors: &mut Vec<Box<dyn Advisor>>,
+) -> Result<ControlFlow<Found, TreeBuilder>, OutOfMemory>
+    requires open { 0 < length tree.places }
+    requires sound { IsSoundNext (first_place tree.places).box next }
+    requires whole { IsWholeTree (tree.entries ++ undones (length tree.places)) }
+    ensures outcome { IfOk result (λ outcome. outcome ≡ turned nodes tree next) }
+    ensures advisors { AreLeft
+        (IsCalled (λ b c. c.vtable ≡ b.vtable) (λ b. state b) (λ b. (⟦<dyn Advisor as Advisor>⟧ b.vtable).left) (λ b. (⟦<dyn Advisor as Advisor>⟧ b.vtable).after))
+        advisors.old.items advisors.new.items }
+{
+    match next {
+        Next::Forms => Ok(ControlFlow::Continue(tree)),
+        Next::Costs(costs) => Ok(ControlFlow::Break(Found::Costs(costs))),
+        Next::Entry(entry) => {
+            if tree.entries().len() as u64 == nodes {
+                return Ok(ControlFlow::Break(Found::Spent(tree.undone()?.into_tree())));
+            }
+            Ok(ControlFlow::Continue(with_told(tree, entry, advisors)?))
+        }
+    }
+}
 
 /// Searches a box for costs that the source accepts.
 ///
@@ -43,5 +109,14 @@ pub fn search<S: RowSource>(
         (IsCalled (λ b c. c.vtable ≡ b.vtable) (λ b. state b) (λ b. (⟦<dyn Advisor as Advisor>⟧ b.vtable).left) (λ b. (⟦<dyn Advisor as Advisor>⟧ b.vtable).after))
         advisors.old.items advisors.new.items }
 {
-    Err(OutOfMemory)
+    let mut tree = first_tree(alloc, source.variables(), costs)?;
+    let mut desk = Desk::start(alloc, costs)?;
+    'boxes: while tree.is_open() {
+        let next = next_at(alloc, source, limits.top, pool, advisors, &tree, &mut desk)?;
+        match turn(tree, next, limits.nodes, advisors)? {
+            ControlFlow::Continue(longer) => tree = longer,
+            ControlFlow::Break(found) => return Ok(found),
+        }
+    }
+    Ok(Found::Refuted(tree.into_tree()))
 }

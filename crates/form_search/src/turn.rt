@@ -28,9 +28,12 @@ pub(crate) enum Next {
 /// What is kept from box to box.
 #[derive(Drop)]
 pub(crate) struct Desk {
-    watch: Watch,
-    table: Option<HeldTableau>,
-    point: Point,
+    /// The forms that may say something.
+    pub(crate) watch: Watch,
+    /// The tableau of the last box that was relaxed, if there is one.
+    pub(crate) table: Option<HeldTableau>,
+    /// The point that is asked, with a place for each variable.
+    pub(crate) point: Point,
 }
 
 impl Desk {
@@ -69,7 +72,7 @@ fn widest(costs: &CostBox) -> usize
 }
 
 /// The Halve at the first variable with the greatest range.
-fn halved(costs: &CostBox, wide: WideAt) -> Entry
+pub(crate) fn halved(costs: &CostBox, wide: WideAt) -> Entry
     requires ranges { IsBox (length costs.now.low) costs.now }
     requires few { length costs.now.low < 2 ^ 32 }
     requires more { costs.now.low ≢ costs.now.high }

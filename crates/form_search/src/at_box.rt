@@ -1,0 +1,196 @@
+//! What comes next at the open box: by one form, by its least point, or by a cut.
+ghost use Rattle.std.specs.Prelude.{◌≡◌, ◌≢◌, ℕ, ◌<◌, List, length, All, IfOk, IfSome, OnOk};
+ghost use Rattle.area_graph.specs.declared.Point.{Point};
+ghost use Rattle.area_graph.specs.Costs.{at_costs};
+ghost use Rattle.path_rows.specs.declared.form.CostBox.{CostBox};
+ghost use Rattle.path_rows.specs.declared.tree.Side.{Side};
+ghost use Rattle.path_rows.specs.Forms.{Form};
+ghost use Rattle.path_rows.specs.Boxes.{IsInBox, IsPointOf};
+ghost use Rattle.path_rows.specs.OpenPlaces.{first_place};
+ghost use Rattle.form_search.specs.Advised.{AreLeft, IsCalled};
+ghost use Rattle.form_search.specs.Sources.{Grows, SameFor, SameSource};
+ghost use Rattle.form_search.specs.Points.{IsCostsBox, IsFractional, IsLeastOf, IsWholePoint};
+ghost use Rattle.form_search.specs.Turns.{IsDesk, IsNext, IsSplitAt};
+
+use crate::candidates::candidates_of;
+use crate::one_point::{at_one_point, is_one_point};
+use crate::points::{are_values_accepted, is_whole, value_costs, whole_costs};
+use crate::propagation::propagated;
+use crate::relaxation::{Relaxed, relax};
+use crate::turn::{Desk, Next, halved};
+use crate::watch::Watch;
+use crate::{FormPool, RowSource};
+use advisor_box::{Advisor, Candidate, choose};
+use area_graph::Point;
+use cost_base::OutOfMemory;
+use path_rows::{CostBox, CostList, Entry, TreeBuilder};
+use std::alloc::Global;
+use wide_fraction::Top;
+
+/// Costs of the box that the least accepted point gives: its values over the scale where these are whole; else the values
+/// themselves, where they are accepted as costs.
+fn costs_there<S: RowSource>(
+    alloc: Global,
+    source: &mut S,
+    costs: &CostBox,
+    point: &mut Point,
+) -> Result<Option<CostList>, OutOfMemory>
+    requires ranges { IsCostsBox (S.count source.old) costs.now }
+    requires least { IsLeastOf (S.accepted source.old) costs.now point.old }
+    ensures found { IfOk result (λ found. IfSome found (λ w. IsInBox costs.now w × S.accepted source.old (at_costs w))) }
+    ensures fractional { result ≡ Ok None → IsWholePoint point.old → ⊥ }
+    ensures point { point.new ≡ point.old }
+    ensures in_step { SameFor (S.in_step source.old) (S.in_step source.new) }
+    ensures same { SameSource S.count S.accepted S.true_form S.candidates source.old source.new }
+{
+    if is_whole(point) {
+        Ok(Some(whole_costs(alloc, point)?))
+    } else if are_values_accepted(source, costs, point) {
+        Ok(Some(value_costs(alloc, point)?))
+    } else {
+        Ok(None)
+    }
+}
+
+/// The Split at one of the candidates.
+fn split_at(candidates: &[Candidate], place: usize) -> Entry
+    requires { place < length candidates.now }
+    ensures { (costs : CostBox) (point : Point) → All (IsFractional costs point) candidates.now → IsSplitAt costs point result }
+{
+    let picked = candidates[place];
+    Entry::Split {
+        var: picked.var,
+        value: picked.floor,
+    }
+}
+
+/// The Split at the candidate that the advisors pick.
+fn split_there(
+    alloc: Global,
+    advisors: &mut Vec<Box<dyn Advisor>>,
+    costs: &CostBox,
+    point: &Point,
+    watch: &Watch,
+) -> Result<Entry, OutOfMemory>
+    requires ranges { IsCostsBox (length costs.now.low) costs.now }
+    requires inside { IsPointOf costs.now point.now }
+    requires fractional { IsWholePoint point.now → ⊥ }
+    ensures split { IfOk result (IsSplitAt costs.now point.now) }
+    ensures advisors { AreLeft
+        (IsCalled (λ b c. c.vtable ≡ b.vtable) (λ b. state b) (λ b. (⟦<dyn Advisor as Advisor>⟧ b.vtable).left) (λ b. (⟦<dyn Advisor as Advisor>⟧ b.vtable).after))
+        advisors.old.items advisors.new.items }
+{
+    let candidates = candidates_of(alloc, point, costs, watch)?;
+    let picked = choose(advisors, &candidates);
+    Ok(split_at(&candidates, picked as usize))
+}
+
+/// What comes next at the least accepted point of the box: costs that are accepted, or a Split.
+fn at_least_point<S: RowSource>(
+    alloc: Global,
+    source: &mut S,
+    advisors: &mut Vec<Box<dyn Advisor>>,
+    costs: &CostBox,
+    watch: &Watch,
+    point: &mut Point,
+) -> Result<Next, OutOfMemory>
+    requires ranges { IsCostsBox (S.count source.old) costs.now }
+    requires least { IsLeastOf (S.accepted source.old) costs.now point.old }
+    ensures next { IfOk result (λ next. (top : ℕ) (old new : List Form) (since : List (ℕ × Side)) →
+        IsNext (S.accepted source.old) top old new (record { box = costs.now; since = since }) next) }
+    ensures point { point.new ≡ point.old }
+    ensures in_step { SameFor (S.in_step source.old) (S.in_step source.new) }
+    ensures same { SameSource S.count S.accepted S.true_form S.candidates source.old source.new }
+    ensures advisors { AreLeft
+        (IsCalled (λ b c. c.vtable ≡ b.vtable) (λ b. state b) (λ b. (⟦<dyn Advisor as Advisor>⟧ b.vtable).left) (λ b. (⟦<dyn Advisor as Advisor>⟧ b.vtable).after))
+        advisors.old.items advisors.new.items }
+{
+    match costs_there(alloc, source, costs, point)? {
+        Some(found) => Ok(Next::Costs(found)),
+        None => Ok(Next::Entry(split_there(alloc, advisors, costs, point, watch)?)),
+    }
+}
+
+/// What comes next at a box of more than one point, by its relaxation: costs that are accepted, a Split, a Refute, or a
+/// Halve.
+fn at_box<S: RowSource>(
+    alloc: Global,
+    source: &mut S,
+    top: Top,
+    pool: &mut FormPool,
+    advisors: &mut Vec<Box<dyn Advisor>>,
+    costs: &CostBox,
+    desk: &mut Desk,
+) -> Result<Next, OutOfMemory>
+    requires in_step { S.in_step source.old pool.old }
+    requires true_forms { All (S.true_form source.old) pool.old }
+    requires ranges { IsCostsBox (S.count source.old) costs.now }
+    requires more { costs.now.low ≢ costs.now.high }
+    requires desk { IsDesk top (S.count source.old) pool.old desk.old }
+    ensures next { IfOk result (λ next. (since : List (ℕ × Side)) →
+        IsNext (S.accepted source.old) top pool.old pool.new (record { box = costs.now; since = since }) next) }
+    ensures desk { OnOk result (IsDesk top (S.count source.old) pool.new desk.new) }
+    ensures grows { Grows (S.true_form source.old) pool.old pool.new }
+    ensures in_step { OnOk result (S.in_step source.new pool.new) }
+    ensures same { SameSource S.count S.accepted S.true_form S.candidates source.old source.new }
+    ensures advisors { AreLeft
+        (IsCalled (λ b c. c.vtable ≡ b.vtable) (λ b. state b) (λ b. (⟦<dyn Advisor as Advisor>⟧ b.vtable).left) (λ b. (⟦<dyn Advisor as Advisor>⟧ b.vtable).after))
+        advisors.old.items advisors.new.items }
+{
+    match relax(
+        alloc,
+        source,
+        top,
+        pool,
+        costs,
+        &mut desk.table,
+        &mut desk.point,
+    )? {
+        Relaxed::Accepted => at_least_point(
+            alloc,
+            source,
+            advisors,
+            costs,
+            &desk.watch,
+            &mut desk.point,
+        ),
+        Relaxed::Refuted(parts) => Ok(Next::Entry(Entry::Refute { parts })),
+        Relaxed::Wide(wide) => Ok(Next::Entry(halved(costs, wide))),
+    }
+}
+
+/// What comes next at the open box of a tree: the entry of the first form that has something to say; else what its one
+/// point tells; else what its relaxation tells.
+pub(crate) fn next_at<S: RowSource>(
+    alloc: Global,
+    source: &mut S,
+    top: Top,
+    pool: &mut FormPool,
+    advisors: &mut Vec<Box<dyn Advisor>>,
+    tree: &TreeBuilder,
+    desk: &mut Desk,
+) -> Result<Next, OutOfMemory>
+    requires in_step { S.in_step source.old pool.old }
+    requires true_forms { All (S.true_form source.old) pool.old }
+    requires open { 0 < length tree.now.places }
+    requires ranges { IsCostsBox (S.count source.old) (first_place tree.now.places).box }
+    requires desk { IsDesk top (S.count source.old) pool.old desk.old }
+    ensures next { IfOk result (IsNext (S.accepted source.old) top pool.old pool.new (first_place tree.now.places)) }
+    ensures desk { OnOk result (IsDesk top (S.count source.old) pool.new desk.new) }
+    ensures grows { Grows (S.true_form source.old) pool.old pool.new }
+    ensures in_step { OnOk result (S.in_step source.new pool.new) }
+    ensures same { SameSource S.count S.accepted S.true_form S.candidates source.old source.new }
+    ensures advisors { AreLeft
+        (IsCalled (λ b c. c.vtable ≡ b.vtable) (λ b. state b) (λ b. (⟦<dyn Advisor as Advisor>⟧ b.vtable).left) (λ b. (⟦<dyn Advisor as Advisor>⟧ b.vtable).after))
+        advisors.old.items advisors.new.items }
+{
+    if let Some(entry) = propagated(alloc, pool, tree, &mut desk.watch)? {
+        return Ok(Next::Entry(entry));
+    }
+    let costs = tree.costs();
+    if is_one_point(costs) {
+        at_one_point(alloc, source, pool, costs, &mut desk.point)
+    } else {
+        at_box(alloc, source, top, pool, advisors, costs, desk)
+    }
+}
