@@ -1,2 +1,6 @@
 pub mod Pools
 pub mod Decisions
+pub mod Candidates
+pub mod Rivals
+pub mod Asking
+pub mod SourceLaws

@@ -1,5 +1,5 @@
 -- Pools of rows.
-use Rattle.std.specs.Prelude.{◌≡◌, ◌<◌, ℕ, List, ◌++◌, All, AllPairs}
+use Rattle.std.specs.Prelude.{◌≡◌, List, ◌++◌, All, AllPairs}
 use Rattle.path_rows.specs.Forms.{Form}
 use Rattle.path_rows.specs.declared.form.Row.{Row}
 use Rattle.path_rows.specs.Problems.{DesignProblem}

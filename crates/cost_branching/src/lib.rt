@@ -4,9 +4,10 @@
 //! each that is too cheap becomes a row of the pool.
 #![tactic(auto)]
 
-mod decide;
+mod one_cap;
 mod pool;
+mod rivals;
 
-pub use decide::decide;
 pub use form_search::Found;
+pub use one_cap::decide;
 pub use pool::Pool;

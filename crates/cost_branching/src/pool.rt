@@ -1,5 +1,5 @@
 //! The pool of rows.
-ghost use Rattle.std.specs.Prelude.{◌≡◌, []};
+ghost use Rattle.std.specs.Prelude.{◌≡◌, [], take};
 
 use form_search::FormPool;
 use path_rows::Row;
@@ -9,8 +9,8 @@ use std::marker::Model;
 /// The rows that the search of a problem knows, with their forms. Contracts see both lists.
 #[derive(Drop)]
 pub struct Pool {
-    rows: Vec<Row>,
-    forms: FormPool,
+    pub(crate) rows: Vec<Row>,
+    pub(crate) forms: FormPool,
 }
 
 impl Model for Pool {
@@ -31,6 +31,15 @@ impl Pool {
             rows: Vec::new(alloc),
             forms: FormPool::new(alloc),
         }
+    }
+
+    /// Takes away the rows behind the first `count`, and their forms.
+    pub(crate) fn truncate(&mut self, count: usize)
+        ensures rows { self.new.rows ≡ take count self.old.rows }
+        ensures forms { self.new.forms ≡ take count self.old.forms }
+    {
+        self.rows.truncate(count);
+        self.forms.truncate(count);
     }
 
     /// The rows, in order.

@@ -1,5 +1,5 @@
 //! The pool of forms.
-ghost use Rattle.std.specs.Prelude.{◌≡◌, ◌++◌, [], ◌∷◌, OnOk, OnErr};
+ghost use Rattle.std.specs.Prelude.{◌≡◌, ◌++◌, [], ◌∷◌, take, OnOk, OnErr};
 
 use cost_base::OutOfMemory;
 use path_rows::Form;
@@ -44,6 +44,13 @@ impl FormPool {
             Ok(()) => Ok(()),
             Err(_) => Err(OutOfMemory),
         }
+    }
+
+    /// Takes away the forms behind the first `count`.
+    pub fn truncate(&mut self, count: usize)
+        ensures { self.new ≡ take count self.old }
+    {
+        self.forms.truncate(count);
     }
 
     /// The forms, in order.

@@ -1,0 +1,44 @@
+-- The source of a search whose forms are those of the rivals of a problem's wanted paths.
+use Rattle.std.specs.Prelude.{◌≡◌, ℕ, ◌+◌, ◌<◌, List, [], ◌++◌, slice_get}
+use Rattle.area_graph.specs.declared.Point.{Point}
+use Rattle.area_graph.specs.Area.{FitsGraph, HasMetrics}
+use Rattle.area_graph.specs.Costs.{LeadsBy, cost}
+use Rattle.path_rows.specs.Forms.{Form}
+use Rattle.path_rows.specs.declared.form.Row.{Row}
+use Rattle.path_rows.specs.Problems.{DesignProblem, IsProblem, ends_of, request_at}
+use Rattle.path_rows.specs.Rows.{IsRivalOf, path_edges}
+use Rattle.path_rows.specs.Earnest.{IsFormOfRow}
+
+-- a problem, and the rows that are known of it
+pub record KnownRows : Type 0 where
+  pub problem : DesignProblem
+  pub rows : List Row
+
+-- what stands for a problem where none is picked
+abbrev pub no_problem : DesignProblem
+no_problem = record { graph = record { vertices = []; edges = [] }; vars = []; low = []; high = []; paths = [] }
+
+-- what every problem and its graph keep
+pub record IsKept (p : DesignProblem) : Type 0 where
+  pub problem : IsProblem p
+  pub graph : FitsGraph p.graph
+  pub metrics : HasMetrics p.graph
+
+-- a true form: that of a row of the problem
+pub record IsTrueOf (p : DesignProblem) (form : Form) : Type 0 where
+  pub kept : IsKept p
+  pub of_row : IsFormOfRow p form
+
+-- the path of a request leads at a point by the scale
+abbrev pub LeadsAt : DesignProblem → Point → ℕ → Type 0
+LeadsAt p point k = LeadsBy point.scale p.graph point (ends_of (request_at p.paths k)) (request_at p.paths k).path.edges
+
+-- a rival of a request that costs less at a point than its path and the scale
+pub record IsTooCheap (p : DesignProblem) (point : Point) (request : ℕ) (edges : List ℕ) : Type 0 where
+  pub rival : IsRivalOf p.graph (slice_get p.paths request) edges
+  pub cheap : cost p.graph point edges < cost p.graph point (path_edges (slice_get p.paths request)) + point.scale
+
+-- the rows begin with those
+pub record BeginWith (first rows : List Row) : Type 0 where
+  pub more : List Row
+  pub same : rows ≡ first ++ more

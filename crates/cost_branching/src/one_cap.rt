@@ -1,0 +1,91 @@
+//! One cap decided.
+ghost use Rattle.std.specs.Prelude.{◌≡◌, ◌≤◌, length, All, IfOk, OnOk};
+ghost use Rattle.path_rows.specs.Boxes.{IsBox};
+ghost use Rattle.path_rows.specs.Rows.{LeadsEach};
+ghost use Rattle.form_search.specs.Advised.{AreLeft, IsCalled};
+ghost use Rattle.form_search.specs.Finds.{IsFound};
+ghost use Rattle.form_search.specs.Sources.{Grows};
+ghost use Rattle.cost_branching.specs.Pools.{IsPool, MoreRows};
+ghost use Rattle.cost_branching.specs.Decisions.{IsDecided};
+ghost use Rattle.cost_branching.specs.Rivals.{IsTrueOf};
+
+use crate::rivals::{Begun, Rivals, keeps_conditions};
+use crate::{Found, Pool};
+use advisor_box::Advisor;
+use cost_base::OutOfMemory;
+use form_search::search;
+use path_rows::{CostBox, Problem, box_at};
+use spf_ties::Room;
+use std::alloc::Global;
+use std::marker::Brand;
+use std::mem;
+use wide_fraction::Limits;
+
+/// Searches a box over the rivals of the problem's paths. Whatever comes, the pool's rows begin with those that it had.
+fn search_rivals<B: Begun>(
+    alloc: Global,
+    problem: &Problem,
+    costs: &CostBox,
+    limits: &Limits,
+    pool: &mut Pool,
+    advisors: &mut Vec<Box<dyn Advisor>>,
+) -> Result<Found, OutOfMemory>
+    requires problem { problem.now ≡ B.problem }
+    requires pool { IsPool problem.now pool.old }
+    requires begun { pool.old.rows ≡ B.rows }
+    requires ranges { IsBox (length problem.now.low) costs.now }
+    requires lows { All (λ low. 1 ≤ low) costs.now.low }
+    ensures found { IfOk result (IsFound (LeadsEach problem.now) limits.now.top limits.now.nodes pool.new.forms costs.now) }
+    ensures pool { OnOk result (IsPool problem.now pool.new) }
+    ensures rows { MoreRows pool.old pool.new }
+    ensures forms { Grows (IsTrueOf problem.now) pool.old.forms pool.new.forms }
+    ensures advisors { AreLeft
+        (IsCalled (λ b c. c.vtable ≡ b.vtable) (λ b. state b) (λ b. (⟦<dyn Advisor as Advisor>⟧ b.vtable).left) (λ b. (⟦<dyn Advisor as Advisor>⟧ b.vtable).after))
+        advisors.old.items advisors.new.items }
+{
+    keeps_conditions(problem);
+    let room = Room::new(alloc, &problem.graph)?;
+    let rows = mem::replace(&mut pool.rows, Vec::new(alloc));
+    let mut source = Rivals::<B>::new(problem, room, rows);
+    let found = search(alloc, &mut source, costs, limits, &mut pool.forms, advisors);
+    pool.rows = source.into_rows();
+    found
+}
+
+/// Decides whether a problem has fit costs of at most `cap`.
+///
+/// Costs are fit and lie in the box at the cap. Refuted comes with a closed earnest tree over that box, Spent with one that
+/// has an Undone and exactly `limits.nodes` entries; the rows of the trees are numbered as in the pool. The pool keeps its
+/// rows, and new ones come at its end.
+///
+/// # Errors
+///
+/// `OutOfMemory`. Then too the pool keeps its rows, and each new one is a row of the problem.
+pub fn decide(
+    alloc: Global,
+    problem: &Problem,
+    cap: u16,
+    limits: &Limits,
+    pool: &mut Pool,
+    advisors: &mut Vec<Box<dyn Advisor>>,
+) -> Result<Found, OutOfMemory>
+    requires cap { All (λ low. low ≤ cap) problem.now.low }
+    requires pool { IsPool problem.now pool.old }
+    ensures decided { IfOk result (IsDecided problem.now limits.now.top limits.now.nodes cap pool.new) }
+    ensures pool { IsPool problem.now pool.new }
+    ensures more { MoreRows pool.old pool.new }
+    ensures advisors { AreLeft
+        (IsCalled (λ b c. c.vtable ≡ b.vtable) (λ b. state b) (λ b. (⟦<dyn Advisor as Advisor>⟧ b.vtable).left) (λ b. (⟦<dyn Advisor as Advisor>⟧ b.vtable).after))
+        advisors.old.items advisors.new.items }
+{
+    keeps_conditions(problem);
+    let costs = box_at(alloc, problem, cap)?;
+    let begun = pool.rows().len();
+    match search_rivals::<Brand>(alloc, problem, &costs, limits, pool, advisors) {
+        Ok(found) => Ok(found),
+        Err(OutOfMemory) => {
+            pool.truncate(begun);
+            Err(OutOfMemory)
+        }
+    }
+}
