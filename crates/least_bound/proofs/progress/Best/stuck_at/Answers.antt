@@ -1,0 +1,11 @@
+-- Without costs the tree at the greatest upper bound stays.
+use Rattle.std.proofs.Common.{subst, arith}
+use Rattle.least_bound.specs.declared.progress.Best.{Best}
+use Rattle.least_bound.specs.declared.progress.Best.TheVariants.{NoCosts}
+use Rattle.least_bound.specs.Caps.{BestHolds}
+use Rattle.least_bound.proofs.CapLaws.{still_none}
+use Rattle.least_bound.proofs.progress.Best.stuck_at.Goals as goal
+
+pub returns-in-NoCosts : goal.returns-in-NoCosts
+returns-in-NoCosts c = λ p top nodes old new most holds grows spent below.
+    still_none p top nodes old new most c.args.stuck.cap c.in-NoCosts.tree grows below (subst (λ (b : Best). BestHolds p top nodes old most b) c.in-NoCosts.is holds)

@@ -1,0 +1,27 @@
+-- What is kept is a tree at a cap below that of the unfinished one.
+use Rattle.std.proofs.Common.{◌≤◌, subst, arith}
+use Rattle.least_bound.specs.declared.progress.Best.{Best}
+use Rattle.least_bound.specs.declared.progress.Best.TheVariants.{NoCosts, Between}
+use Rattle.least_bound.specs.Caps.{BestHolds}
+use Rattle.least_bound.proofs.ValidAnswers.{kept_below}
+use Rattle.least_bound.proofs.progress.Progress.answer.Goals as goal
+
+pub undecided-requires-clause-trees : goal.undecided-requires-clause-trees
+undecided-requires-clause-trees c =
+    let p = c.args.problem.now in
+    let top = c.requires.progress.0 in
+    let nodes = c.requires.progress.1 in
+    let holds = c.requires.progress.3 in
+    let best : BestHolds p top nodes c.args.pool.now c.args.self.most (NoCosts c.in-NoCosts.tree) = subst (λ (b : Best). BestHolds p top nodes c.args.pool.now c.args.self.most b) c.in-NoCosts.is holds.best in
+    let below : c.args.self.least ≤ c.in-NoCosts.tree.cap = omega (arith, holds.ordered, best.1) in
+    (top, nodes, c.requires.progress.2, kept_below p top nodes c.args.pool.now c.args.self.least c.in-NoCosts.tree.cap c.args.self.kept below holds.kept, best.2)
+
+pub undecided-requires-in-Between-clause-trees : goal.undecided-requires-in-Between-clause-trees
+undecided-requires-in-Between-clause-trees c =
+    let p = c.args.problem.now in
+    let top = c.requires.progress.0 in
+    let nodes = c.requires.progress.1 in
+    let holds = c.requires.progress.3 in
+    let best : BestHolds p top nodes c.args.pool.now c.args.self.most (Between c.in-Between.costs c.in-Between.tree) = subst (λ (b : Best). BestHolds p top nodes c.args.pool.now c.args.self.most b) c.in-Between.is holds.best in
+    let below : c.args.self.least ≤ c.in-Between.tree.cap = omega (arith, holds.ordered, best.2) in
+    (top, nodes, c.requires.progress.2, kept_below p top nodes c.args.pool.now c.args.self.least c.in-Between.tree.cap c.args.self.kept below holds.kept, best.3)

@@ -1,0 +1,12 @@
+-- At the greatest upper bound nothing is known but the lower bounds.
+use Rattle.std.proofs.Common.{◌≡◌, ℕ, List, ◌∙◌, ap}
+use Rattle.path_rows.specs.Problems.{DesignProblem}
+use Rattle.path_rows.specs.Rows.{greatest_cost}
+use Rattle.least_bound.proofs.CapLaws.{progress_starts}
+use Rattle.least_bound.proofs.progress.Progress.start.Goals as goal
+
+pub returns : goal.returns
+returns c = λ top nodes pool holds.
+    let p = c.args.problem.now in
+    let low_is : c.as_slice.result.now ≡ p.low = c.as_slice.ensures ∙ ap (λ (q : DesignProblem). q.low) c.problem.view_is in
+    progress_starts p top nodes pool c.greatest_of-floor.result c.args.most c.args.best (c.greatest_of-floor.ensures ∙ ap greatest_cost low_is) c.requires holds

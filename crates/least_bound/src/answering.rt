@@ -1,0 +1,157 @@
+//! Answers to a problem, by what the decided caps have come to.
+ghost use Rattle.std.specs.Prelude.{◌≡◌, ℕ, ◌≤◌, IfOk, IfSome};
+ghost use Rattle.std.specs.Option.{option_copied};
+ghost use Rattle.path_rows.specs.Rows.{IsFit, greatest_cost};
+ghost use Rattle.path_rows.specs.Answers.{greatest_bound};
+ghost use Rattle.cost_branching.specs.Pools.{IsPool};
+ghost use Rattle.least_bound.specs.Answered.{IsAnswered};
+ghost use Rattle.least_bound.specs.Caps.{IsKeptAt, IsKeptBelow, IsProgress, IsLeastFound, IsRefuted, IsSpent, CostsFound};
+ghost use Rattle.least_bound.specs.Printing.{ArePrintedIfAny, IsFloorFor};
+
+use crate::cost_lines::printed_costs;
+use crate::greatest::floor_of;
+use crate::printing::printed_parts;
+use crate::problem_law::keeps_problem;
+use crate::progress::{Best, Progress};
+use cost_base::OutOfMemory;
+use cost_branching::Pool;
+use path_rows::{Answer, CapTree, CostList, Costs, Floor, Problem, Tree, Verdict};
+use std::alloc::Global;
+
+/// That no costs are fit, with the closed tree at the greatest upper bound.
+pub(crate) fn impossible(
+    alloc: Global,
+    problem: &Problem,
+    pool: &Pool,
+    ceiling: u16,
+    tree: Tree,
+) -> Result<Answer, OutOfMemory>
+    requires pool { IsPool problem.now pool.now }
+    requires ceiling { ceiling ≡ greatest_bound problem.now }
+    requires refuted { (top : ℕ) × (nodes : ℕ) × (nodes ≤ 10000000) × IsRefuted problem.now top nodes pool.now (record { cap = ceiling; tree = tree }) }
+    ensures { (top nodes : ℕ) → IsRefuted problem.now top nodes pool.now (record { cap = ceiling; tree = tree }) → IfOk result (IsAnswered problem.now top nodes) }
+{
+    keeps_problem(problem);
+    let proof = CapTree { cap: ceiling, tree };
+    let printed = printed_parts(alloc, pool.rows(), Some(proof), None)?;
+    Ok(Answer {
+        verdict: Verdict::Impossible,
+        costs: None,
+        floor: Floor::Absent,
+        rows: printed.rows,
+        proof: printed.proof,
+        unfinished: printed.unfinished,
+    })
+}
+
+/// A floor, unless a tree is kept.
+fn floor_without(problem: &Problem, kept: &Option<CapTree>) -> Floor
+    ensures { IsFloorFor problem.now kept.now result }
+{
+    match kept {
+        Some(_) => Floor::Absent,
+        None => floor_of(problem.low.as_slice()),
+    }
+}
+
+/// Costs of the least greatest cost, with the closed tree that is kept at the cap below it; without one with a floor.
+fn optimal(
+    alloc: Global,
+    problem: &Problem,
+    pool: &Pool,
+    costs: &CostList,
+    kept: Option<CapTree>,
+) -> Result<Answer, OutOfMemory>
+    requires pool { IsPool problem.now pool.now }
+    requires fit { IsFit problem.now costs.now }
+    requires kept { (top : ℕ) × (nodes : ℕ) × (nodes ≤ 10000000) × IsKeptAt problem.now top nodes pool.now (greatest_cost costs.now) kept }
+    ensures { (top nodes : ℕ) → IsKeptAt problem.now top nodes pool.now (greatest_cost costs.now) kept → IfOk result (IsAnswered problem.now top nodes) }
+{
+    keeps_problem(problem);
+    let floor = floor_without(problem, &kept);
+    let printed = printed_parts(alloc, pool.rows(), kept, None)?;
+    let costs = printed_costs(alloc, problem, costs.as_slice())?;
+    Ok(Answer {
+        verdict: Verdict::Optimal(costs.greatest),
+        costs: Some(costs),
+        floor,
+        rows: printed.rows,
+        proof: printed.proof,
+        unfinished: printed.unfinished,
+    })
+}
+
+/// The costs as they are printed, if there are some.
+fn printed_if_any(
+    alloc: Global,
+    problem: &Problem,
+    costs: Option<&CostList>,
+) -> Result<Option<Costs>, OutOfMemory>
+    requires { IfSome (option_copied costs) (λ w. IsFit problem.now w) }
+    ensures { IfOk result (ArePrintedIfAny problem.now (option_copied costs.entry)) }
+{
+    match costs {
+        Some(costs) => Ok(Some(printed_costs(alloc, problem, costs.as_slice())?)),
+        None => Ok(None),
+    }
+}
+
+/// The cap of a tree.
+fn cap_of(tree: &CapTree) -> u16
+    ensures { result ≡ tree.now.cap }
+{
+    tree.cap
+}
+
+/// That the budget was used up at the cap of the unfinished tree, with the best costs and the kept tree, where there are
+/// such.
+fn undecided(
+    alloc: Global,
+    problem: &Problem,
+    pool: &Pool,
+    costs: Option<&CostList>,
+    kept: Option<CapTree>,
+    unfinished: CapTree,
+) -> Result<Answer, OutOfMemory>
+    requires pool { IsPool problem.now pool.now }
+    requires from_floor { greatest_cost problem.now.low ≤ unfinished.cap }
+    requires costs { CostsFound problem.now unfinished.cap (option_copied costs) }
+    requires trees { (top : ℕ) × (nodes : ℕ) × (nodes ≤ 10000000) × IsKeptBelow problem.now top nodes pool.now unfinished.cap kept × IsSpent problem.now top nodes pool.now unfinished }
+    ensures { (top nodes : ℕ) → IsKeptBelow problem.now top nodes pool.now unfinished.cap kept → IsSpent problem.now top nodes pool.now unfinished → IfOk result (IsAnswered problem.now top nodes) }
+{
+    keeps_problem(problem);
+    let cap = cap_of(&unfinished);
+    let printed = printed_parts(alloc, pool.rows(), kept, Some(unfinished))?;
+    Ok(Answer {
+        verdict: Verdict::Budget(cap),
+        costs: printed_if_any(alloc, problem, costs)?,
+        floor: Floor::Absent,
+        rows: printed.rows,
+        proof: printed.proof,
+        unfinished: printed.unfinished,
+    })
+}
+
+impl Progress {
+    /// The answer once no cap is left.
+    pub(crate) fn answer(
+        self,
+        alloc: Global,
+        problem: &Problem,
+        pool: &Pool,
+    ) -> Result<Answer, OutOfMemory>
+        requires pool { IsPool problem.now pool.now }
+        requires ended { IsLeastFound self.least self.most self.best }
+        requires progress { (top : ℕ) × (nodes : ℕ) × (nodes ≤ 10000000) × IsProgress problem.now top nodes pool.now self }
+        ensures { (top nodes : ℕ) → IsProgress problem.now top nodes pool.now self → IfOk result (IsAnswered problem.now top nodes) }
+    {
+        let Progress { kept, best, .. } = self;
+        match best {
+            Best::NoCosts(tree) => undecided(alloc, problem, pool, None, kept, tree),
+            Best::Costs(costs) => optimal(alloc, problem, pool, &costs, kept),
+            Best::Between(costs, tree) => {
+                undecided(alloc, problem, pool, Some(&costs), kept, tree)
+            }
+        }
+    }
+}

@@ -1,0 +1,82 @@
+//! The least cap.
+ghost use Rattle.std.specs.Prelude.{◌≡◌, ℕ, ◌≤◌, IfOk};
+ghost use Rattle.form_search.specs.Advised.{AreLeft, IsCalled};
+ghost use Rattle.cost_branching.specs.Pools.{IsPool};
+ghost use Rattle.least_bound.specs.Answered.{IsAnswered};
+ghost use Rattle.least_bound.specs.Caps.{IsProgress};
+
+use crate::answering::impossible;
+use crate::greatest::greatest_of;
+use crate::problem_law::keeps_problem;
+use crate::progress::{Best, Progress};
+use advisor_box::Advisor;
+use cost_base::OutOfMemory;
+use cost_branching::{Found, Pool, decide};
+use path_rows::{Answer, CapTree, Problem};
+use std::alloc::Global;
+use wide_fraction::Limits;
+
+/// Decides caps until none is left, and answers.
+fn narrowed(
+    alloc: Global,
+    problem: &Problem,
+    limits: &Limits,
+    pool: Pool,
+    progress: Progress,
+    advisors: &mut Vec<Box<dyn Advisor>>,
+) -> Result<Answer, OutOfMemory>
+    requires pool { IsPool problem.now pool }
+    requires progress { IsProgress problem.now limits.now.top limits.now.nodes pool progress }
+    ensures answered { IfOk result (IsAnswered problem.now limits.now.top limits.now.nodes) }
+    ensures advisors { AreLeft
+        (IsCalled (λ b c. c.vtable ≡ b.vtable) (λ b. state b) (λ b. (⟦<dyn Advisor as Advisor>⟧ b.vtable).left) (λ b. (⟦<dyn Advisor as Advisor>⟧ b.vtable).after))
+        advisors.old.items advisors.new.items }
+{
+    keeps_problem(problem);
+    let mut pool = pool;
+    let mut progress = progress;
+    while let Some(cap) = progress.next_cap() {
+        let found = decide(alloc, problem, cap, limits, &mut pool, advisors)?;
+        progress = progress.after(cap, found);
+    }
+    progress.answer(alloc, problem, &pool)
+}
+
+/// Looks for fit costs of the least greatest cost, with evidence.
+///
+/// An optimal answer has best costs, with a floor or a closed earnest tree at the cap below; an impossible one a closed
+/// earnest tree at the greatest upper bound. An undecided answer names the cap of its unfinished tree, which has exactly
+/// `limits.nodes` entries; it holds the best costs that were found, and the closed tree of the greatest refuted cap, where
+/// there are such.
+///
+/// # Errors
+///
+/// `OutOfMemory`.
+pub fn least(
+    alloc: Global,
+    problem: &Problem,
+    limits: &Limits,
+    advisors: &mut Vec<Box<dyn Advisor>>,
+) -> Result<Answer, OutOfMemory>
+    ensures answered { IfOk result (IsAnswered problem.now limits.now.top limits.now.nodes) }
+    ensures advisors { AreLeft
+        (IsCalled (λ b c. c.vtable ≡ b.vtable) (λ b. state b) (λ b. (⟦<dyn Advisor as Advisor>⟧ b.vtable).left) (λ b. (⟦<dyn Advisor as Advisor>⟧ b.vtable).after))
+        advisors.old.items advisors.new.items }
+{
+    keeps_problem(problem);
+    let ceiling = greatest_of(problem.high.as_slice());
+    let mut pool = Pool::new(alloc);
+    match decide(alloc, problem, ceiling, limits, &mut pool, advisors)? {
+        Found::Refuted(tree) => impossible(alloc, problem, &pool, ceiling, tree),
+        Found::Costs(costs) => {
+            let most = greatest_of(costs.as_slice());
+            let progress = Progress::start(problem, most, Best::Costs(costs));
+            narrowed(alloc, problem, limits, pool, progress, advisors)
+        }
+        Found::Spent(tree) => {
+            let best = Best::NoCosts(CapTree { cap: ceiling, tree });
+            let progress = Progress::start(problem, ceiling, best);
+            narrowed(alloc, problem, limits, pool, progress, advisors)
+        }
+    }
+}

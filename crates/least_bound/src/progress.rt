@@ -1,0 +1,152 @@
+//! What is known of the least greatest cost while caps are decided.
+ghost use Rattle.std.specs.Prelude.{◌≡◌, ℕ, ◌+◌, ◌<◌, ◌≤◌, IfSome, None};
+ghost use Rattle.path_rows.specs.Problems.{DesignProblem, IsProblem};
+ghost use Rattle.path_rows.specs.Rows.{greatest_cost};
+ghost use Rattle.cost_branching.specs.Pools.{Pooled, IsPool, MoreRows};
+ghost use Rattle.cost_branching.specs.Decisions.{IsDecided};
+ghost use Rattle.least_bound.specs.Caps.{BestHolds, IsLeastFound, IsProgress, IsSpent};
+
+use crate::greatest::greatest_of;
+use cost_branching::Found;
+use path_rows::{CapTree, CostList, Problem, Tree};
+
+/// The best that the caps so far have come to.
+#[derive(Drop)]
+pub(crate) enum Best {
+    /// No costs yet: at the greatest upper bound this tree used the budget up.
+    NoCosts(CapTree),
+    /// Costs, whose greatest cost is the least cap that was decided without a refutation.
+    Costs(CostList),
+    /// Costs, and the tree that used the budget up at a cap below their greatest cost.
+    Between(CostList, CapTree),
+}
+
+/// Where the least greatest cost lies, as far as the decided caps tell.
+#[derive(Drop)]
+pub(crate) struct Progress {
+    /// The greatest lower bound.
+    pub(crate) floor: u16,
+    /// No fit costs have a smaller greatest cost.
+    pub(crate) least: u16,
+    /// The least cap that wasn't refuted; where costs were found there, their greatest cost.
+    pub(crate) most: u16,
+    /// The closed tree at the cap `least - 1`; none is needed where `least` is the greatest lower bound.
+    pub(crate) kept: Option<CapTree>,
+    /// What stands at the cap `most`.
+    pub(crate) best: Best,
+}
+
+/// The cap in the middle, rounded down, of those from `least - 1` to `most`.
+fn middle_cap(least: u16, most: u16) -> Option<u16>
+    ensures within { IfSome result (λ cap. (least ≤ cap) × (cap < most)) }
+    ensures ended { result ≡ None → most ≤ least }
+{
+    if least < most {
+        let sum = u32::from(least) + u32::from(most);
+        Some(((sum - 1) / 2) as u16)
+    } else {
+        None
+    }
+}
+
+/// The next cap of a climb from the floor, whose steps grow twofold: none where the greatest refuted cap, or the floor,
+/// is next to `most`.
+fn climbed_cap(floor: u16, least: u16, most: u16) -> Option<u16>
+    requires { floor ≤ least }
+    ensures { IfSome result (λ cap. (least ≤ cap) × (cap < most)) }
+{
+    let passed = u32::from(least.saturating_sub(1).max(floor));
+    let end = u32::from(most);
+    if passed + 1 < end {
+        let middle = (passed + end) / 2;
+        let twofold = 2 * passed - u32::from(floor) + 1;
+        Some(middle.min(twofold) as u16)
+    } else {
+        None
+    }
+}
+
+impl Best {
+    /// Where the budget was used up at a further cap: with costs this tree stands there.
+    fn stuck_at(self, stuck: CapTree) -> Best
+        ensures { (p : DesignProblem) (top nodes : ℕ) (old new : Pooled) (most : ℕ) →
+            BestHolds p top nodes old most self → MoreRows old new → IsSpent p top nodes new stuck → stuck.cap < most →
+            BestHolds p top nodes new stuck.cap result }
+    {
+        match self {
+            Best::NoCosts(tree) => Best::NoCosts(tree),
+            Best::Costs(costs) => Best::Between(costs, stuck),
+            Best::Between(costs, _) => Best::Between(costs, stuck),
+        }
+    }
+}
+
+impl Progress {
+    /// After the greatest upper bound was decided.
+    pub(crate) fn start(problem: &Problem, most: u16, best: Best) -> Progress
+        requires { greatest_cost problem.now.low ≤ most }
+        ensures { (top nodes : ℕ) (pool : Pooled) → BestHolds problem.now top nodes pool most best → IsProgress problem.now top nodes pool result }
+    {
+        let floor = greatest_of(problem.low.as_slice());
+        Progress {
+            floor,
+            least: floor,
+            most,
+            kept: None,
+            best,
+        }
+    }
+
+    /// The next cap to decide, if one is left.
+    pub(crate) fn next_cap(&self) -> Option<u16>
+        requires { self.now.floor ≤ self.now.least }
+        ensures within { IfSome result (λ cap. (self.now.least ≤ cap) × (cap < self.now.most)) }
+        ensures ended { result ≡ None → IsLeastFound self.now.least self.now.most self.now.best }
+    {
+        match &self.best {
+            Best::NoCosts(_) => climbed_cap(self.floor, self.least, self.most),
+            Best::Costs(_) | Best::Between(_, _) => middle_cap(self.least, self.most),
+        }
+    }
+
+    /// After a further cap was decided.
+    pub(crate) fn after(self, cap: u16, found: Found) -> Progress
+        requires from_least { self.least ≤ cap }
+        requires below_most { cap < self.most }
+        ensures holds { (p : DesignProblem) (top nodes : ℕ) (old new : Pooled) →
+            IsProblem p → IsPool p new → MoreRows old new → IsProgress p top nodes old self → IsDecided p top nodes cap new found →
+            IsProgress p top nodes new result }
+        ensures nearer { (p : DesignProblem) (top nodes : ℕ) (pool : Pooled) → IsDecided p top nodes cap pool found → result.most + self.least < self.most + result.least }
+    {
+        let Progress {
+            floor,
+            least,
+            most,
+            kept,
+            best,
+        } = self;
+        match found {
+            Found::Costs(costs) => Progress {
+                floor,
+                least,
+                most: greatest_of(costs.as_slice()),
+                kept,
+                best: Best::Costs(costs),
+            },
+            Found::Refuted(tree) => Progress {
+                floor,
+                least: cap + 1,
+                most,
+                kept: Some(CapTree { cap, tree }),
+                best,
+            },
+            Found::Spent(tree) => Progress {
+                floor,
+                least,
+                most: cap,
+                kept,
+                best: best.stuck_at(CapTree { cap, tree }),
+            },
+        }
+    }
+}
