@@ -1,6 +1,6 @@
 -- The entries that come next, by one form or by a tableau.
 use Rattle.std.proofs.Common.{◌≡◌, ℕ, zero, suc, ◌^◌, ◌<◌, refl, sym, subst, List, [], ◌∷◌, length, take, drop, arith, take-append-drop}
-use Rattle.std.specs.Prelude.{◌≢◌, pos, ◌<ℤ◌, ◌+◌, ◌≤◌, All, sum_by}
+use Rattle.std.specs.Prelude.{◌≢◌, pos, ◌<ℤ◌, All, sum_by}
 use Rattle.std.proofs.lemmas.Int.{ints}
 use Rattle.std.proofs.lemmas.List.Sums.{get_or-le-sum_by}
 use Rattle.area_graph.specs.declared.Point.{Point}

@@ -17,7 +17,7 @@ use Rattle.path_rows.proofs.OpenPlaces.{closed_count, closed_more, earnest_tree_
 use Rattle.path_rows.proofs.BoxParts.{IsBoxIn, in_part, open_boxes_in}
 use Rattle.path_rows.proofs.Renumbering.{opens_kept}
 use Rattle.path_rows.proofs.TreeShapes.{sound_whole}
-use Rattle.form_search.specs.Sources.{Grows}
+use Rattle.form_search.specs.Sources.{Grows, SameFor}
 use Rattle.form_search.specs.Points.{IsCostsBox}
 use Rattle.form_search.specs.Finds.{IsSearchTree, IsShort}
 use Rattle.form_search.specs.declared.found.Found.{Found}
@@ -25,9 +25,10 @@ use Rattle.form_search.specs.declared.found.Found.TheVariants.{Spent}
 use Rattle.form_search.specs.declared.turn.Next.{Next}
 use Rattle.form_search.specs.declared.turn.Next.TheVariants.{Forms, Costs, Entry as ByEntry}
 use Rattle.form_search.specs.Finds.{IsFound}
-use Rattle.form_search.specs.Turns.{HasNew, IsNext, IsNextEntry, IsSoundNext, turned}
+use Rattle.form_search.specs.Turns.{IsNext, IsNextEntry, IsSoundNext, turned}
 use Rattle.form_search.proofs.Missing.{missing, missing_few}
 use Rattle.form_search.proofs.Relaxing.{new_falls}
+use Rattle.form_search.proofs.Turned.{next_same}
 
 -- a tree over a box that grew by entries that might come next, at most so many
 pub record IsGrowing (accepted : Point → Type 0) (top nodes : ℕ) (forms : List Form) (box : CostBox) (tree : Growing) : Type 0 where
@@ -159,7 +160,7 @@ IsTurned accepted top nodes forms box (Continue tree) = IsGrowing accepted top n
 IsTurned accepted top nodes forms box (Break found) = IsFound accepted top nodes forms box found
 
 -- by what may come next
-pub turned_growing : (IsTrue : Form → Type 0) (accepted : Point → Type 0) (top nodes : ℕ) (old new : List Form) (box : CostBox) (tree : Growing) (next : Next) → IsBox (length box.low) box → Grows IsTrue old new → IsGrowing accepted top nodes old box tree → 0 < length tree.places → IsNext accepted top old new (first_place tree.places) next → IsTurned accepted top nodes new box (turned nodes tree next)
+turned_growing : (IsTrue : Form → Type 0) (accepted : Point → Type 0) (top nodes : ℕ) (old new : List Form) (box : CostBox) (tree : Growing) (next : Next) → IsBox (length box.low) box → Grows IsTrue old new → IsGrowing accepted top nodes old box tree → 0 < length tree.places → IsNext accepted top old new (first_place tree.places) next → IsTurned accepted top nodes new box (turned nodes tree next)
 turned_growing IsTrue accepted top nodes old new box tree Forms kept grows growing some is = growing_kept IsTrue accepted top nodes old new box tree grows growing
 turned_growing IsTrue accepted top nodes old new box tree (Costs w) kept grows growing some is = (first_found accepted top nodes old box tree w kept growing some is.0, is.1)
 turned_growing IsTrue accepted top nodes old new box tree (ByEntry entry) kept grows growing some is = by (length tree.entries == nodes) refl
@@ -170,6 +171,13 @@ turned_growing IsTrue accepted top nodes old new box tree (ByEntry entry) kept g
     by : (full : Bool) → (length tree.entries == nodes) ≡ full → IsTurned accepted top nodes new box (if full then Break (Spent (tree.entries ++ undones (length tree.places))) else Continue (grown tree entry))
     by true full = growing_undone accepted top nodes new box tree after some (eqb-true (length tree.entries) nodes full)
     by false left = growing_more accepted top nodes new box tree entry kept after some (eqb-false (length tree.entries) nodes left) is
+
+-- so does what a turn comes to, where the next thing comes by a source that accepts the same points
+pub turn_shown : (IsTrue : Form → Type 0) (accepted other : Point → Type 0) (top nodes n : ℕ) (old new : List Form) (box : CostBox) (tree : Growing) (next : Next) (turn shown : ControlFlow Found Growing) → IsBox n box → SameFor accepted other → Grows IsTrue old new → IsGrowing accepted top nodes old box tree → 0 < length tree.places → IsNext other top old new (first_place tree.places) next → turn ≡ turned nodes tree next → turn ≡ shown → IsTurned accepted top nodes new box shown
+turn_shown IsTrue accepted other top nodes n old new box tree next turn shown kept same grows growing some is outcome said =
+    let is_box : IsBox (length box.low) box = subst (λ (m : ℕ). IsBox m box) (sym kept.low_count) kept in
+    subst (IsTurned accepted top nodes new box) (sym outcome ∙ said)
+    (turned_growing IsTrue accepted top nodes old new box tree next is_box grows growing some (next_same accepted other top old new (first_place tree.places) next same is))
 
 -- the tree has as many entries as it may have
 pub turned_full : (nodes : ℕ) (tree : Growing) (entry : Entry) (next : Next) (whole : List Entry) → next ≡ ByEntry entry → length tree.entries ≡ nodes → whole ≡ tree.entries ++ undones (length tree.places) → Break (Spent whole) ≡ turned nodes tree next
@@ -194,7 +202,7 @@ same_tree : (t u : Growing) → (let x : ControlFlow Found Growing = Continue u 
 same_tree t u e = cc
 
 -- each turn leaves less
-pub turned_falls : (IsTrue : Form → Type 0) (accepted : Point → Type 0) (top nodes : ℕ) (candidates old new : List Form) (place : Place) (tree longer : Growing) (next : Next) → ((form : Form) → IsTrue form → Contains candidates form) → Grows IsTrue old new → length tree.entries ≤ nodes → IsNext accepted top old new place next → Continue longer ≡ turned nodes tree next → left_of nodes candidates new longer < left_of nodes candidates old tree
+turned_falls : (IsTrue : Form → Type 0) (accepted : Point → Type 0) (top nodes : ℕ) (candidates old new : List Form) (place : Place) (tree longer : Growing) (next : Next) → ((form : Form) → IsTrue form → Contains candidates form) → Grows IsTrue old new → length tree.entries ≤ nodes → IsNext accepted top old new place next → Continue longer ≡ turned nodes tree next → left_of nodes candidates new longer < left_of nodes candidates old tree
 turned_falls IsTrue accepted top nodes candidates old new place tree longer Forms listed grows few is goes =
     subst (λ (t : Growing). left_of nodes candidates new t < left_of nodes candidates old tree) (same_tree tree longer goes)
     (let less = new_falls IsTrue candidates old new listed grows is in omega arith)
@@ -206,3 +214,9 @@ turned_falls IsTrue accepted top nodes candidates old new place tree longer (ByE
     by false left goes_on =
         subst (λ (t : Growing). left_of nodes candidates new t < left_of nodes candidates old tree) (same_tree (grown tree entry) longer goes_on)
         (one_less nodes (length tree.entries) (length (tree.entries ++ entry ∷ [])) (length candidates) (missing candidates new) (missing candidates old) (length-append tree.entries (entry ∷ [])) (let other = eqb-false (length tree.entries) nodes left in omega arith) (missing_few candidates new))
+
+pub turn_falls : (IsTrue : Form → Type 0) (accepted : Point → Type 0) (top nodes : ℕ) (candidates listed old new : List Form) (place : Place) (tree longer : Growing) (next : Next) (turn : ControlFlow Found Growing) → ((form : Form) → IsTrue form → Contains listed form) → listed ≡ candidates → Grows IsTrue old new → length tree.entries ≤ nodes → IsNext accepted top old new place next → turn ≡ turned nodes tree next → turn ≡ Continue longer → left_of nodes candidates new longer < left_of nodes candidates old tree
+turn_falls IsTrue accepted top nodes candidates listed old new place tree longer next turn stands same grows few is outcome said =
+    turned_falls IsTrue accepted top nodes candidates old new place tree longer next
+    (λ form is_true. subst (λ (forms : List Form). Contains forms form) same (stands form is_true))
+    grows few is (sym said ∙ outcome)

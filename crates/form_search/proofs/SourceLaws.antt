@@ -1,5 +1,5 @@
 -- One call of a source after another: what they leave of the source, and of the pool.
-use Rattle.std.proofs.Common.{◌≡◌, ℕ, refl, sym, ◌∙◌, ap, subst, List, [], ◌++◌, append_assoc, append-nil}
+use Rattle.std.proofs.Common.{ℕ, refl, sym, ◌∙◌, ap, subst, List, [], ◌++◌, append_assoc, append-nil}
 use Rattle.std.specs.Prelude.{All}
 use Rattle.std.proofs.lemmas.List.Elements.{All-append, All-nil}
 use Rattle.area_graph.specs.declared.Point.{Point}

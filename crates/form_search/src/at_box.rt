@@ -77,7 +77,8 @@ fn split_there(
     requires fractional { IsWholePoint point.now → ⊥ }
     ensures split { IfOk result (IsSplitAt costs.now point.now) }
     ensures advisors { AreLeft
-        (IsCalled (λ b c. c.vtable ≡ b.vtable) (λ b. state b) (λ b. (⟦<dyn Advisor as Advisor>⟧ b.vtable).left) (λ b. (⟦<dyn Advisor as Advisor>⟧ b.vtable).after))
+        (IsCalled (λ b c. c.vtable ≡ b.vtable) (λ b. state b)
+        (λ b. (⟦<dyn Advisor as Advisor>⟧ b.vtable).left) (λ b. (⟦<dyn Advisor as Advisor>⟧ b.vtable).after))
         advisors.old.items advisors.new.items }
 {
     let candidates = candidates_of(alloc, point, costs, watch)?;
@@ -102,7 +103,8 @@ fn at_least_point<S: RowSource>(
     ensures in_step { SameFor (S.in_step source.old) (S.in_step source.new) }
     ensures same { SameSource S.count S.accepted S.true_form S.candidates source.old source.new }
     ensures advisors { AreLeft
-        (IsCalled (λ b c. c.vtable ≡ b.vtable) (λ b. state b) (λ b. (⟦<dyn Advisor as Advisor>⟧ b.vtable).left) (λ b. (⟦<dyn Advisor as Advisor>⟧ b.vtable).after))
+        (IsCalled (λ b c. c.vtable ≡ b.vtable) (λ b. state b)
+        (λ b. (⟦<dyn Advisor as Advisor>⟧ b.vtable).left) (λ b. (⟦<dyn Advisor as Advisor>⟧ b.vtable).after))
         advisors.old.items advisors.new.items }
 {
     match costs_there(alloc, source, costs, point)? {
@@ -134,7 +136,8 @@ fn at_box<S: RowSource>(
     ensures in_step { OnOk result (S.in_step source.new pool.new) }
     ensures same { SameSource S.count S.accepted S.true_form S.candidates source.old source.new }
     ensures advisors { AreLeft
-        (IsCalled (λ b c. c.vtable ≡ b.vtable) (λ b. state b) (λ b. (⟦<dyn Advisor as Advisor>⟧ b.vtable).left) (λ b. (⟦<dyn Advisor as Advisor>⟧ b.vtable).after))
+        (IsCalled (λ b c. c.vtable ≡ b.vtable) (λ b. state b)
+        (λ b. (⟦<dyn Advisor as Advisor>⟧ b.vtable).left) (λ b. (⟦<dyn Advisor as Advisor>⟧ b.vtable).after))
         advisors.old.items advisors.new.items }
 {
     match relax(
@@ -181,7 +184,8 @@ pub(crate) fn next_at<S: RowSource>(
     ensures in_step { OnOk result (S.in_step source.new pool.new) }
     ensures same { SameSource S.count S.accepted S.true_form S.candidates source.old source.new }
     ensures advisors { AreLeft
-        (IsCalled (λ b c. c.vtable ≡ b.vtable) (λ b. state b) (λ b. (⟦<dyn Advisor as Advisor>⟧ b.vtable).left) (λ b. (⟦<dyn Advisor as Advisor>⟧ b.vtable).after))
+        (IsCalled (λ b c. c.vtable ≡ b.vtable) (λ b. state b)
+        (λ b. (⟦<dyn Advisor as Advisor>⟧ b.vtable).left) (λ b. (⟦<dyn Advisor as Advisor>⟧ b.vtable).after))
         advisors.old.items advisors.new.items }
 {
     if let Some(entry) = propagated(alloc, pool, tree, &mut desk.watch)? {

@@ -63,7 +63,8 @@ fn turn(
     requires whole { IsWholeTree (tree.entries ++ undones (length tree.places)) }
     ensures outcome { IfOk result (λ outcome. outcome ≡ turned nodes tree next) }
     ensures advisors { AreLeft
-        (IsCalled (λ b c. c.vtable ≡ b.vtable) (λ b. state b) (λ b. (⟦<dyn Advisor as Advisor>⟧ b.vtable).left) (λ b. (⟦<dyn Advisor as Advisor>⟧ b.vtable).after))
+        (IsCalled (λ b c. c.vtable ≡ b.vtable) (λ b. state b)
+        (λ b. (⟦<dyn Advisor as Advisor>⟧ b.vtable).left) (λ b. (⟦<dyn Advisor as Advisor>⟧ b.vtable).after))
         advisors.old.items advisors.new.items }
 {
     match next {
@@ -106,7 +107,8 @@ pub fn search<S: RowSource>(
     ensures in_step { OnOk result (S.in_step source.new pool.new) }
     ensures same { SameSource S.count S.accepted S.true_form S.candidates source.old source.new }
     ensures advisors { AreLeft
-        (IsCalled (λ b c. c.vtable ≡ b.vtable) (λ b. state b) (λ b. (⟦<dyn Advisor as Advisor>⟧ b.vtable).left) (λ b. (⟦<dyn Advisor as Advisor>⟧ b.vtable).after))
+        (IsCalled (λ b c. c.vtable ≡ b.vtable) (λ b. state b)
+        (λ b. (⟦<dyn Advisor as Advisor>⟧ b.vtable).left) (λ b. (⟦<dyn Advisor as Advisor>⟧ b.vtable).after))
         advisors.old.items advisors.new.items }
 {
     let mut tree = first_tree(alloc, source.variables(), costs)?;

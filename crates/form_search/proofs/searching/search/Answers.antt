@@ -1,19 +1,14 @@
-use Rattle.std.proofs.Common.{◌≡◌, ℕ, ◌<◌, ◌+◌, ◌-◌, ◌*◌, false, ◌∙◌, refl, sym, subst, List, length, ControlFlow, Continue, Break}
-use Rattle.std.specs.Prelude.{Contains}
+use Rattle.std.proofs.Common.{ℕ, ◌∙◌, refl, sym, subst, List, Continue, Break}
 use Rattle.std.proofs.lemmas.Bool.{false≢true}
 use Rattle.path_rows.specs.declared.tree.Entry.{Entry}
-use Rattle.path_rows.specs.Forms.{Form}
-use Rattle.path_rows.specs.Boxes.{IsBox}
 use Rattle.path_rows.specs.OpenPlaces.{Growing, first_place}
-use Rattle.form_search.specs.declared.found.Found.{Found}
 use Rattle.form_search.specs.declared.found.Found.TheVariants.{Refuted}
 use Rattle.form_search.specs.Finds.{IsFound}
 use Rattle.form_search.specs.Points.{IsCostsBox}
 use Rattle.form_search.specs.Turns.{IsDesk}
 use Rattle.form_search.proofs.AdvisorLaws.{left_alike, left_then}
 use Rattle.form_search.proofs.SourceLaws.{grows_none, grows_then, same_alike, same_then, trues_kept}
-use Rattle.form_search.proofs.Turned.{next_same}
-use Rattle.form_search.proofs.GrowingTrees.{IsGrowing, IsTurned, ended_whole, first_costs, first_in, growing_ends, growing_start, turned_falls, turned_growing, undone_whole}
+use Rattle.form_search.proofs.GrowingTrees.{IsGrowing, ended_whole, first_costs, first_in, growing_ends, growing_start, turn_falls, turn_shown, undone_whole}
 use Rattle.form_search.proofs.searching.search.Goals as goal
 
 pub returns-in_err-tree-clause-advisors : goal.returns-in_err-tree-clause-advisors
@@ -85,14 +80,16 @@ returns-in_err-longer-clause-advisors g c = left_then _ _ _ _ (left_then _ _ _ _
 
 pub boxes-smaller : goal.boxes-smaller
 boxes-smaller g c =
+    let source = c.boxes.source in
     let limits = c.args.limits.now in
     let tree = c.boxes.tree in
     let was = c.boxes.invariant in
-    let listed : (form : Form) → g.S.RowSource.true_form c.boxes.source form → Contains (g.S.RowSource.candidates c.args.source.now) form =
-    λ form is. subst (λ (candidates : List Form). Contains candidates form) was.same.same_candidates (g.met.S.RowSource.true_forms_listed c.boxes.source form is) in
-    turned_falls (g.S.RowSource.true_form c.boxes.source) (g.S.RowSource.accepted c.boxes.source) limits.top limits.nodes (g.S.RowSource.candidates c.args.source.now)
-    c.boxes.pool c.next_at.new.pool (first_place tree.places) tree c.in-Continue.longer c.in_ok-next.next listed c.next_at.ensures.grows was.growing.few c.in_ok-next.ensures.next
-    (sym c.in-Continue.is ∙ c.in_ok-longer.ensures.outcome)
+    let turn = c.in_ok-longer in
+    turn_falls (g.S.RowSource.true_form source) (g.S.RowSource.accepted source) limits.top limits.nodes
+    (g.S.RowSource.candidates c.args.source.now) (g.S.RowSource.candidates source) c.boxes.pool c.next_at.new.pool
+    (first_place tree.places) tree c.in-Continue.longer c.in_ok-next.next turn.field-0
+    (g.met.S.RowSource.true_forms_listed source) was.same.same_candidates c.next_at.ensures.grows was.growing.few
+    c.in_ok-next.ensures.next turn.ensures.outcome c.in-Continue.is
 
 pub boxes-preserved : goal.boxes-preserved
 boxes-preserved g c =
@@ -104,33 +101,37 @@ boxes-preserved g c =
     let Accepted = g.S.RowSource.accepted in
     let IsTrue = g.S.RowSource.true_form in
     let was = c.boxes.invariant in
+    let grows = c.next_at.ensures.grows in
     let next = c.in_ok-next.ensures in
-    let is_box : IsBox (length costs.low) costs = subst (λ (n : ℕ). IsBox n costs) (sym c.requires.ranges.low_count) c.requires.ranges in
+    let turn = c.in_ok-longer in
     record {
       in_step = next.in_step;
       growing =
-          subst (λ (turn : ControlFlow Found Growing). IsTurned (Accepted source) limits.top limits.nodes now.pool costs turn) (sym c.in_ok-longer.ensures.outcome ∙ c.in-Continue.is)
-          (turned_growing (IsTrue c.boxes.source) (Accepted source) limits.top limits.nodes c.boxes.pool now.pool costs tree c.in_ok-next.next is_box c.next_at.ensures.grows was.growing (c.is_open.ensures.0 c.boxes-test.true)
-          (next_same (Accepted source) (Accepted c.boxes.source) limits.top c.boxes.pool now.pool (first_place tree.places) c.in_ok-next.next was.same.same_points next.next));
+          turn_shown (IsTrue c.boxes.source) (Accepted source) (Accepted c.boxes.source) limits.top limits.nodes
+          (g.S.RowSource.count source) c.boxes.pool now.pool costs tree c.in_ok-next.next turn.field-0 (Continue c.in-Continue.longer)
+          c.requires.ranges was.same.same_points grows was.growing (c.is_open.ensures.0 c.boxes-test.true) next.next
+          turn.ensures.outcome c.in-Continue.is;
       desk = subst (λ (n : ℕ). IsDesk limits.top n now.pool now.desk) was.same.same_count next.desk;
-      grows = grows_then (IsTrue source) (IsTrue c.boxes.source) c.args.pool.now c.boxes.pool now.pool was.same.same_forms was.grows c.next_at.ensures.grows;
-      same = same_then g.S.RowSource.count Accepted IsTrue g.S.RowSource.candidates source c.boxes.source now.source was.same c.next_at.ensures.same;
+      grows =
+          grows_then (IsTrue source) (IsTrue c.boxes.source) c.args.pool.now c.boxes.pool now.pool was.same.same_forms
+          was.grows grows;
+      same =
+          same_then g.S.RowSource.count Accepted IsTrue g.S.RowSource.candidates source c.boxes.source now.source was.same
+          c.next_at.ensures.same;
       advisors = left_then _ _ _ _ (left_then _ _ _ _ was.advisors c.next_at.ensures.advisors) c.turn.ensures.advisors;
     }
 
 pub returns-in-Break-clause-found : goal.returns-in-Break-clause-found
 returns-in-Break-clause-found g c =
     let source = c.args.source.now in
-    let pool = c.next_at.new.pool in
     let limits = c.args.limits.now in
-    let costs = c.args.costs.now in
-    let tree = c.boxes.tree in
     let Accepted = g.S.RowSource.accepted in
     let was = c.boxes.invariant in
-    let is_box : IsBox (length costs.low) costs = subst (λ (n : ℕ). IsBox n costs) (sym c.requires.ranges.low_count) c.requires.ranges in
-    subst (λ (turn : ControlFlow Found Growing). IsTurned (Accepted source) limits.top limits.nodes pool costs turn) (sym c.in_ok-longer.ensures.outcome ∙ c.in-Break.is)
-    (turned_growing (g.S.RowSource.true_form c.boxes.source) (Accepted source) limits.top limits.nodes c.boxes.pool pool costs tree c.in_ok-next.next is_box c.next_at.ensures.grows was.growing (c.is_open.ensures.0 c.boxes-test.true)
-    (next_same (Accepted source) (Accepted c.boxes.source) limits.top c.boxes.pool pool (first_place tree.places) c.in_ok-next.next was.same.same_points c.in_ok-next.ensures.next))
+    let turn = c.in_ok-longer in
+    turn_shown (g.S.RowSource.true_form c.boxes.source) (Accepted source) (Accepted c.boxes.source) limits.top limits.nodes
+    (g.S.RowSource.count source) c.boxes.pool c.next_at.new.pool c.args.costs.now c.boxes.tree c.in_ok-next.next
+    turn.field-0 (Break c.in-Break.found) c.requires.ranges was.same.same_points c.next_at.ensures.grows was.growing
+    (c.is_open.ensures.0 c.boxes-test.true) c.in_ok-next.ensures.next turn.ensures.outcome c.in-Break.is
 
 pub returns-in-Break-clause-grows : goal.returns-in-Break-clause-grows
 returns-in-Break-clause-grows g c =

@@ -1,5 +1,4 @@
-use Rattle.std.proofs.Common.{refl, inr, length, ap, ◌∙◌, arith, List}
-use Rattle.path_rows.specs.declared.tree.Entry.{Entry}
+use Rattle.std.proofs.Common.{refl, inr, length, ap, ◌∙◌, arith}
 use Rattle.path_rows.specs.OpenPlaces.{Growing}
 use Rattle.form_search.proofs.AdvisorLaws.{left_alike, left_told}
 use Rattle.form_search.proofs.GrowingTrees.{turned_full}
