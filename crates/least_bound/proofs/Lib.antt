@@ -5,4 +5,5 @@ pub mod RowLines
 pub mod AnswerLines
 pub mod CapLaws
 pub mod ValidAnswers
-pub mod PrintedRows
+pub mod UsedRowLaws
+pub mod NewNumbers

@@ -1,3 +1,4 @@
 pub mod Answered
 pub mod Caps
 pub mod Printing
+pub mod UsedRows

@@ -8,8 +8,10 @@ mod answering;
 mod cost_lines;
 mod greatest;
 mod least_cap;
+mod numbering;
 mod printing;
 mod problem_law;
 mod progress;
+mod used_rows;
 
 pub use least_cap::least;

@@ -1,8 +1,9 @@
 //! The rows and trees that are printed.
-ghost use Rattle.std.specs.Prelude.{◌≡◌, ◌^◌, ◌<◌, length, IfOk};
+ghost use Rattle.std.specs.Prelude.{◌≡◌, ℕ, length, IfOk};
 ghost use Rattle.least_bound.specs.Printing.{ArePrinted, TreeNamesBelow};
 
-use area_graph::Path;
+use crate::numbering::{KeptRows, new_tree, numbered};
+use crate::used_rows::used_rows;
 use cost_base::{Listed, OutOfMemory};
 use path_rows::{CapTree, Row};
 use std::alloc::Global;
@@ -15,31 +16,8 @@ pub(crate) struct Printed {
     pub(crate) unfinished: Option<CapTree>,
 }
 
-/// An equal row.
-fn copied_row(alloc: Global, row: &Row) -> Result<Row, OutOfMemory>
-    ensures { IfOk result (λ copy. copy ≡ row.now) }
-{
-    let edges = row.rival.edges.copy(alloc)?;
-    let start = row.rival.start;
-    Ok(Row {
-        request: row.request,
-        rival: Path { start, edges },
-    })
-}
-
-/// Equal rows, in the same order.
-fn copied_rows(alloc: Global, rows: &[Row]) -> Result<Vec<Row>, OutOfMemory>
-    ensures copies { IfOk result (λ copies. copies.items ≡ rows.now) }
-    ensures few { length rows.now < 2 ^ 64 }
-{
-    let mut copies = Vec::with_capacity(alloc, rows.len())?;
-    for row in rows {
-        copies.push(copied_row(alloc, row)?)?;
-    }
-    Ok(copies)
-}
-
-/// The rows, and the trees over them.
+/// The rows that the trees use, in their order, and the trees with the new numbers of these rows. A row that a Halve's
+/// basis names is used.
 ///
 /// # Errors
 ///
@@ -54,9 +32,12 @@ pub(crate) fn printed_parts(
     requires unfinished { TreeNamesBelow (length rows.now) unfinished }
     ensures { IfOk result (ArePrinted rows.now proof unfinished) }
 {
-    let copies = copied_rows(alloc, rows)?;
+    let used = used_rows(alloc, rows.len(), proof.as_ref(), unfinished.as_ref())?;
+    let KeptRows { numbers, rows } = numbered(alloc, rows, used.as_slice())?;
+    let proof = new_tree(alloc, proof.as_ref(), numbers.as_slice())?;
+    let unfinished = new_tree(alloc, unfinished.as_ref(), numbers.as_slice())?;
     Ok(Printed {
-        rows: Listed::from_items(copies),
+        rows: Listed::from_items(rows),
         proof,
         unfinished,
     })
