@@ -7,3 +7,4 @@ pub mod Files
 pub mod Seen
 pub mod AreaGraphs
 pub mod Vertices
+pub mod Ids

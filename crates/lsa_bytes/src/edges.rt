@@ -97,7 +97,8 @@ fn push_edges_of_kind(
 ) -> Result<u32, OutOfMemory>
     requires { vertex < 2 ^ 32 - 1 }
     ensures next { IfOk result (λ next. next ≡ vertex + (if is_kind kind lsa.now then 1 else 0)) }
-    ensures pushed { OnOk result (edges.new.items ≡ edges.old.items ++ (if is_kind kind lsa.now then edges_from vertices.now vertex lsa.now lsa.now.body else [])) }
+    ensures pushed { OnOk result (edges.new.items ≡ edges.old.items
+        ++ (if is_kind kind lsa.now then edges_from vertices.now vertex lsa.now lsa.now.body else [])) }
 {
     if !is_kind(kind, lsa) {
         return Ok(vertex);

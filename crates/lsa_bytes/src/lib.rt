@@ -86,6 +86,7 @@ mod bodies;
 mod edges;
 mod fields;
 mod graphs;
+mod ids;
 mod reader;
 mod reading;
 mod seen;
@@ -93,5 +94,6 @@ mod stop;
 mod vertices;
 
 pub use graphs::graph_of_lsas;
+pub use ids::{IdFault, check_ids};
 pub use reading::{comes_to_one, read_lsas};
 pub use stop::{LsaFault, LsaStop};
