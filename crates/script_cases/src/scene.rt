@@ -25,7 +25,12 @@ fn copied(alloc: Global, bounds: &[u16]) -> Result<Listed<u16>, AllocError> {
 
 impl Scene {
     /// A tableau over the box, and the box without rows.
-    pub fn new(alloc: Global, tableau: Tableau, top: Top, costs: &CostBox) -> Result<Scene, AllocError> {
+    pub fn new(
+        alloc: Global,
+        tableau: Tableau,
+        top: Top,
+        costs: &CostBox,
+    ) -> Result<Scene, AllocError> {
         let low = costs.low.as_slice();
         let variables = u32::try_from(low.len()).unwrap_or(0);
         Ok(Scene {

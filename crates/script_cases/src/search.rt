@@ -23,7 +23,12 @@ fn is_searchable(costs: &CostBox, variables: u32) -> bool
 }
 
 /// The entries of a tree and the forms that the search knows, each on a line of its own.
-fn tree_text(alloc: Global, word: &str, tree: &Tree, pool: &FormPool) -> Result<String, AllocError> {
+fn tree_text(
+    alloc: Global,
+    word: &str,
+    tree: &Tree,
+    pool: &FormPool,
+) -> Result<String, AllocError> {
     let mut text = format!(in alloc; ": {word}")?;
     for entry in tree.as_slice() {
         let line = format!(in alloc; "\n  {}", Line(entry))?;

@@ -175,9 +175,7 @@ impl RowSource for FormList {
     }
 
     fn accepts(&mut self, point: &Point) -> bool {
-        self.forms
-            .iter()
-            .all(|form| value_of(form, point) >= 0)
+        self.forms.iter().all(|form| value_of(form, point) >= 0)
     }
 
     ghost true_forms_hold = { λ s. true_forms_hold s };

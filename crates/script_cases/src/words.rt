@@ -72,7 +72,11 @@ fn write_parts<W: fmt::Write>(parts: &Parts, f: &mut fmt::Formatter<W>) -> fmt::
 /// A step that is too wide, as it is written in a tree.
 fn write_wide<W: fmt::Write>(wide: &WideAt, f: &mut fmt::Formatter<W>) -> fmt::Result {
     let name = step_word(wide.step);
-    write!(f, "{name} {}/{} ", wide.left.numerator, wide.left.denominator)?;
+    write!(
+        f,
+        "{name} {}/{} ",
+        wide.left.numerator, wide.left.denominator
+    )?;
     write!(f, "{}/{}", wide.right.numerator, wide.right.denominator)?;
     for member in wide.basis.as_slice() {
         match member {
