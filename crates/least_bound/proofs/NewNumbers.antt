@@ -87,25 +87,6 @@ numbered_more used rows numbers next kept more row false k counted within mark i
     (subst (λ (rs : List Row). AreNumbered used rows (numbers ++ length kept ∷ []) rs) (none ∙ sym more_is)
     (row_numbered used rows numbers kept [] so_far (λ used_here. absurd (not_used used_here)) (All-nil (Contains rows)) (omega arith)))
 
-pub numbered_none : (used : List Bool) (rows : List Row) → AreNumbered used rows [] []
-numbered_none used rows = record {
-  fewer = omega arith;
-  most = λ k k_in. absurd (omega arith);
-  known = λ k k_in is. absurd (omega arith);
-  rises = λ j k below k_in is. absurd (omega arith);
-  same = λ k k_in is. absurd (omega arith);
-  taken = All-nil (Contains rows);
-}
-
--- used rows have numbers
-pub members_known : (used : List Bool) (n : ℕ) (basis : List Member) → n ≡ length used → All (MemberUsed used) basis → All (MemberBelow n) basis
-members_known used n basis counted = All-weaker (MemberUsed used) (MemberBelow n) one basis
-  where
-    one : (member : Member) → MemberUsed used member → MemberBelow n member
-    one (ByLow var value) is = tt
-    one (ByHigh var value) is = tt
-    one (ByRow row) is = omega (arith, used_in used row is, counted)
-
 pub parts_known : (used : List Bool) (n : ℕ) (parts : List (ℕ × ℕ)) → n ≡ length used → All (PartUsed used) parts → All (λ part. part.0 < n) parts
 parts_known used n parts counted = All-weaker (PartUsed used) (λ part. part.0 < n) (λ part is. omega (arith, used_in used part.0 is, counted)) parts
 
@@ -236,7 +217,3 @@ parts_are_printed used rows numbers kept proof unfinished new_proof new_unfinish
   proof_is = tree_renumbered used rows numbers kept proof new_proof counted marked are proof_names proof_has;
   unfinished_is = tree_renumbered used rows numbers kept unfinished new_unfinished counted marked are open_names open_has;
 }
-
--- numbers of the used rows, for renumbering
-pub numbers_of : (used : List Bool) (rows : List Row) (numbers : List ℕ) (kept : List Row) → length numbers ≡ length used → AreNumbered used rows numbers kept → AreNumbers used numbers
-numbers_of used rows numbers kept counted are = record { counted = counted; rises = are.rises }

@@ -1,5 +1,5 @@
 -- Marks of the rows that trees use.
-use Rattle.std.proofs.Common.{◌≡◌, ℕ, ◌+◌, ◌<◌, ◌≤◌, refl, sym, ◌∙◌, subst, List, length, get_or, take, Bool, false, inl, inr}
+use Rattle.std.proofs.Common.{◌≡◌, ℕ, ◌+◌, ◌<◌, ◌≤◌, ◌∙◌, subst, List, length, get_or, take, Bool, false, inl, inr}
 use Rattle.std.specs.Prelude.{All}
 use Rattle.std.proofs.lemmas.Bool.{cases_lt}
 use Rattle.std.proofs.lemmas.List.{get_or_past, take_all}
@@ -8,12 +8,7 @@ use Rattle.path_rows.specs.declared.tree.Member.{Member}
 use Rattle.path_rows.specs.declared.tree.Member.TheVariants.{Low as ByLow, High as ByHigh, Row as ByRow}
 use Rattle.path_rows.specs.declared.tree.Entry.{Entry}
 use Rattle.path_rows.specs.declared.tree.Entry.TheVariants.{Tighten, Split, Halve, Refute, Undone}
-use Rattle.path_rows.specs.declared.answer.CapTree.{CapTree}
-use Rattle.std.specs.Prelude.{Option, None, Some}
-use Rattle.least_bound.specs.UsedRows.{IsUsed, KeepsMarks, MemberUsed, PartUsed, NamesUsed, TreeNamesUsed, MarkedSoFar}
-
-pub marks_same : (used : List Bool) → KeepsMarks used used
-marks_same used = record { counted = refl; kept = λ row is. is }
+use Rattle.least_bound.specs.UsedRows.{IsUsed, KeepsMarks, MemberUsed, PartUsed, NamesUsed, MarkedSoFar}
 
 pub marks_after : (a b c : List Bool) → KeepsMarks a b → KeepsMarks b c → KeepsMarks a c
 marks_after a b c first then = record { counted = then.counted ∙ first.counted; kept = λ row is. then.kept row (first.kept row is) }
@@ -40,20 +35,12 @@ entry_stays old new (Halve var value wide) keeps is = All-weaker (MemberUsed old
 entry_stays old new (Refute parts) keeps is = All-weaker (PartUsed old) (PartUsed new) (λ part. part_stays old new part keeps) parts is
 entry_stays old new Undone keeps is = tt
 
-pub tree_stays : (old new : List Bool) (tree : Option CapTree) → KeepsMarks old new → TreeNamesUsed old tree → TreeNamesUsed new tree
-tree_stays old new None keeps is = tt
-tree_stays old new (Some t) keeps is = All-weaker (NamesUsed old) (NamesUsed new) (λ entry. entry_stays old new entry keeps) t.tree is
-
 -- a step of a loop that marks
 pub marked_more : {X : Type 0} (P : List Bool → X → Type 0) → ((old new : List Bool) (x : X) → KeepsMarks old new → P old x → P new x) → (first old new : List Bool) (xs : List X) (i : ℕ) (x : X) → i < length xs → x ≡ get_or xs i x → MarkedSoFar P first old (take i xs) → KeepsMarks old new → P new x → MarkedSoFar P first new (take (i + 1) xs)
 marked_more P stays first old new xs i x within is so_far keeps here = (
   marks_after first old new so_far.0 keeps,
   All-more (P new) xs i x within (All-weaker (P old) (P new) (λ y. stays old new y keeps) (take i xs) so_far.1) (subst (P new) is here),
 )
-
--- what each names is below a count that stays the same
-pub below_at : {X : Type 0} (P : ℕ → X → Type 0) (n m : ℕ) (xs : List X) (i : ℕ) (x : X) → m ≡ n → i < length xs → x ≡ get_or xs i x → All (P n) xs → P m x
-below_at P n m xs i x same within is all = subst (λ k. P k x) (sym same) (subst (P n) (sym is) (all i x within))
 
 -- at the end of such a loop
 pub all_marked : {X : Type 0} (P : X → Type 0) (xs : List X) (i : ℕ) → length xs ≤ i → All P (take i xs) → All P xs
