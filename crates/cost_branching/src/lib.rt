@@ -4,9 +4,9 @@
 //! each that is too cheap becomes a row of the pool.
 #![tactic(auto)]
 
-mod decide;
+mod one_cap;
 mod pool;
 
-pub use decide::decide;
+pub use one_cap::decide;
 pub use form_search::Found;
 pub use pool::Pool;

@@ -1,5 +1,7 @@
 pub mod AdvisorLaws
 pub mod CostPoints
 pub mod Entries
-pub mod Searching
+pub mod GrowingTrees
+pub mod Missing
+pub mod SourceLaws
 pub mod Turned

@@ -1,6 +1,6 @@
 //! The least cap at which a problem has fit costs, with its evidence.
 #![tactic(auto)]
 
-mod least;
+mod least_cap;
 
-pub use least::least;
+pub use least_cap::least;

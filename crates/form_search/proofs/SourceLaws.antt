@@ -1,0 +1,50 @@
+-- One call of a source after another: what they leave of the source, and of the pool.
+use Rattle.std.proofs.Common.{◌≡◌, ℕ, refl, sym, ◌∙◌, ap, subst, List, [], ◌++◌, append_assoc, append-nil}
+use Rattle.std.specs.Prelude.{All}
+use Rattle.std.proofs.lemmas.List.Elements.{All-append, All-nil}
+use Rattle.area_graph.specs.declared.Point.{Point}
+use Rattle.path_rows.specs.Forms.{Form}
+use Rattle.form_search.specs.Sources.{Grows, SameFor, SameSource}
+
+module _ {X : Type 0} where
+  -- the same before and after, three times
+  pub same_for_then : (First Second Third : X → Type 0) → SameFor First Second → SameFor Second Third → SameFor First Third
+  same_for_then First Second Third first second = λ x. (λ is. (second x).0 ((first x).0 is), λ is. (first x).1 ((second x).1 is))
+
+-- true forms, as the source after tells them
+pub all_same : (First Second : Form → Type 0) (forms : List Form) → SameFor First Second → All First forms → All Second forms
+all_same First Second forms same all = λ k d k_in. (same _).0 (all k d k_in)
+
+-- a pool that stays as it is
+pub grows_none : (IsTrue : Form → Type 0) (forms : List Form) → Grows IsTrue forms forms
+grows_none IsTrue forms = record { more = []; same = sym (append-nil forms); more_true = All-nil IsTrue }
+
+-- and then by the source that the first call left
+pub grows_then : (First Second : Form → Type 0) (old mid new : List Form) → SameFor First Second → Grows First old mid → Grows Second mid new → Grows First old new
+grows_then First Second old mid new same first second = record {
+  more = first.more ++ second.more;
+  same = second.same ∙ (ap (λ (fs : List Form). fs ++ second.more) first.same ∙ append_assoc old first.more second.more);
+  more_true = All-append First first.more second.more first.more_true (λ k d k_in. (same _).1 (second.more_true k d k_in));
+}
+
+-- the forms of the pool stay true ones
+pub trues_kept : (First Second : Form → Type 0) (old new : List Form) → SameFor First Second → All First old → Grows First old new → All Second new
+trues_kept First Second old new same all grows =
+    all_same First Second new same (subst (λ (fs : List Form). All First fs) (sym grows.same) (All-append First old grows.more all grows.more_true))
+
+module _ {Source : Type 0} (count : Source → ℕ) (accepted : Source → Point → Type 0) (true_form : Source → Form → Type 0) (candidates : Source → List Form) where
+  pub same_alike : (source : Source) → SameSource count accepted true_form candidates source source
+  same_alike source = record {
+    same_count = refl;
+    same_points = λ x. (λ is. is, λ is. is);
+    same_forms = λ x. (λ is. is, λ is. is);
+    same_candidates = refl;
+  }
+
+  pub same_then : (old mid new : Source) → SameSource count accepted true_form candidates old mid → SameSource count accepted true_form candidates mid new → SameSource count accepted true_form candidates old new
+  same_then old mid new first second = record {
+    same_count = second.same_count ∙ first.same_count;
+    same_points = same_for_then (accepted old) (accepted mid) (accepted new) first.same_points second.same_points;
+    same_forms = same_for_then (true_form old) (true_form mid) (true_form new) first.same_forms second.same_forms;
+    same_candidates = second.same_candidates ∙ first.same_candidates;
+  }
