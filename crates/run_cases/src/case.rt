@@ -1,5 +1,6 @@
 //! What a run of a case is made of.
 
+use crate::advisors::Adviser;
 use cost_base::Name;
 use std::alloc::Global;
 
@@ -10,6 +11,8 @@ pub struct Wanted {
     pub status: u8,
     /// All that is written.
     pub output: Vec<u8>,
+    /// How many advisors are left.
+    pub advisors_left: usize,
 }
 
 /// A run of a case: what goes in, and what is to come out.
@@ -25,6 +28,8 @@ pub struct Case {
     pub failing_puts: Vec<(u64, usize)>,
     /// Whether the run is over a shelf and a sink that never fail.
     pub is_sure: bool,
+    /// The advisors.
+    pub advisers: Vec<Adviser>,
     /// What the run is to come to.
     pub wanted: Wanted,
 }
@@ -38,9 +43,11 @@ impl Case {
             failing_takes: Vec::new(alloc),
             failing_puts: Vec::new(alloc),
             is_sure: false,
+            advisers: Vec::new(alloc),
             wanted: Wanted {
                 status: 0,
                 output: Vec::new(alloc),
+                advisors_left: 0,
             },
         }
     }

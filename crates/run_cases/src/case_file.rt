@@ -1,5 +1,6 @@
 //! The file of a case, line by line.
 
+use crate::advisors::Adviser;
 use crate::case::Case;
 use crate::pieces::{push_lines, push_numbered};
 use anyhow::{Context, Result, anyhow, bail};
@@ -36,6 +37,15 @@ fn name_of(alloc: Global, bytes: &[u8]) -> Result<Name> {
 fn number_and_rest(text: &str) -> Result<(u64, &str)> {
     let (number, rest) = text.split_once(' ').context("a value is missing")?;
     Ok((number.parse::<u64>().context("no number")?, rest))
+}
+
+/// The advisor of a line: `picks POSITION`, or `smallest-number`.
+fn adviser(text: &str) -> Result<Adviser> {
+    if text == "smallest-number" {
+        return Ok(Adviser::SmallestNumber);
+    }
+    let position = text.strip_prefix("picks ").context("no such advisor")?;
+    Ok(Adviser::Picks(position.parse::<u32>().context("no position")?))
 }
 
 impl Draft {
@@ -128,6 +138,11 @@ impl Draft {
                 let (call, kept) = number_and_rest(rest)?;
                 let kept = kept.parse::<usize>().context("no number of bytes")?;
                 self.case.failing_puts.push((call, kept))?;
+            }
+            "advisor" => self.case.advisers.push(adviser(rest)?)?,
+            "advisors-left" => {
+                let left = rest.parse::<usize>().context("no number of advisors")?;
+                self.case.wanted.advisors_left = left;
             }
             "sure" => self.case.is_sure = true,
             _ => bail!("no line of a case begins with `{kind}`"),

@@ -3,6 +3,7 @@
 //! Runs in the folder `data`: `cases.txt` names the cases, and `NAME/case.txt` says what a case is. `docs/cases.md` has the form.
 #![tactic(auto)]
 
+mod advisors;
 mod case;
 mod case_file;
 mod pieces;

@@ -1,5 +1,6 @@
 //! A run of a case, compared with what it is to come to.
 
+use crate::advisors::advisors_of;
 use crate::case::{Case, Wanted};
 use anyhow::{Result, anyhow};
 use cost_base::{MemoryShelf, MemorySink, Status, SureShelf, SureSink};
@@ -53,17 +54,34 @@ fn difference(
     Ok(Some(told))
 }
 
+/// What differs in the number of advisors that are left, or else in what was written.
+fn difference_with(
+    alloc: Global,
+    left: usize,
+    status: Status,
+    got: &[u8],
+    wanted: &Wanted,
+) -> Result<Option<String>, AllocError> {
+    let due = wanted.advisors_left;
+    if left == due {
+        return difference(alloc, status, got, wanted);
+    }
+    Ok(Some(format!(in alloc; "{left} advisors are left, wanted {due}")?))
+}
+
 /// Runs the words of a case over its files, and tells what differs from what is wanted, or None.
 pub fn play(alloc: Global, case: Case) -> Result<Option<String>> {
+    let mut advisors = advisors_of(alloc, &case.advisers)?;
     if case.is_sure {
         let mut shelf = SureShelf::new(case.files);
         let mut sink = SureSink::new(alloc, ROOM).map_err(|_| anyhow!("out of memory"))?;
-        let status = run(alloc, &case.words, &mut shelf, &mut sink);
-        return Ok(difference(alloc, status, sink.got(), &case.wanted)?);
+        let status = run(alloc, &case.words, &mut shelf, &mut sink, &mut advisors);
+        let left = advisors.len();
+        return Ok(difference_with(alloc, left, status, sink.got(), &case.wanted)?);
     }
     let mut shelf = MemoryShelf::new(case.files, case.failing_takes);
     let sink = MemorySink::new(alloc, ROOM, case.failing_puts);
     let mut sink = sink.map_err(|_| anyhow!("out of memory"))?;
-    let status = run(alloc, &case.words, &mut shelf, &mut sink);
-    Ok(difference(alloc, status, sink.got(), &case.wanted)?)
+    let status = run(alloc, &case.words, &mut shelf, &mut sink, &mut advisors);
+    Ok(difference_with(alloc, advisors.len(), status, sink.got(), &case.wanted)?)
 }

@@ -1,0 +1,53 @@
+//! Advisors of a case.
+
+use advisor_box::{Advisor, Candidate, SmallestNumber};
+use path_rows::Entry;
+use std::alloc::{AllocError, Global};
+
+/// An advisor of a case.
+#[derive(Clone, Copy)]
+pub enum Adviser {
+    /// Always picks this position, be there such a candidate or not.
+    Picks(u32),
+    /// Picks the first candidate.
+    SmallestNumber,
+}
+
+/// Always picks one position.
+#[derive(Drop)]
+struct Always {
+    position: u32,
+}
+
+impl Advisor for Always {
+    ghost use Rattle.std.specs.Prelude.{[], ◌∷◌, slice_index};
+
+    ghost state = { λ advisor. advisor.position ∷ [] };
+
+    ghost would = { λ state _. slice_index state 0 };
+
+    ghost left = { λ state _. state };
+
+    ghost after = { λ state _. state };
+
+    fn pick(&mut self, _choices: &[Candidate]) -> u32 {
+        self.position
+    }
+
+    fn told(&mut self, _entry: &Entry) {}
+}
+
+/// The advisors, in order.
+pub fn advisors_of(
+    alloc: Global,
+    advisers: &[Adviser],
+) -> Result<Vec<Box<dyn Advisor>>, AllocError> {
+    let mut advisors: Vec<Box<dyn Advisor>> = Vec::new(alloc);
+    for adviser in advisers {
+        match *adviser {
+            Adviser::Picks(position) => advisors.push(Box::new(alloc, Always { position })?)?,
+            Adviser::SmallestNumber => advisors.push(Box::new(alloc, SmallestNumber)?)?,
+        }
+    }
+    Ok(advisors)
+}
