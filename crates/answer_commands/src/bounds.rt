@@ -187,8 +187,8 @@ fn keeps_tree(tree: &Option<CapTree>)
     }
 }
 
-/// An answer.
-pub(crate) fn keeps_answer(answer: &Answer)
+/// An answer is a value of its type: its numbers are within their bounds, its trees are whole, its text is in the grammar.
+pub fn keeps_answer(answer: &Answer)
     ensures { IsAnswerValue answer.now }
 {
     keeps_verdict(answer.verdict);

@@ -7,6 +7,7 @@ mod own_lines;
 mod rejection;
 mod rewrite;
 
+pub use bounds::keeps_answer;
 pub use check::{Judgement, check_files};
 pub use rejection::Rejection;
 pub use rewrite::{Revised, rewrite_files};

@@ -5,7 +5,6 @@ use Rattle.std.specs.List.{AllZip}
 use Rattle.std.proofs.lemmas.Bool.{false≢true, eqb-true, eqb-false}
 use Rattle.std.proofs.lemmas.List.{take_more}
 use Rattle.std.proofs.lemmas.List.Elements.{All-nil}
-use Rattle.designer_command.proofs.CornerLaws.{zip_push}
 use Rattle.area_graph.specs.Area.{Area}
 use Rattle.area_graph.specs.Paths.{IsPathOf}
 use Rattle.area_graph.specs.Costs.{FitsPoint, IsPriced, IsOnlyCheapest, at_costs, cost}
@@ -15,6 +14,13 @@ use Rattle.path_rows.specs.Problems.{DesignProblem, IsProblem, ends_of}
 use Rattle.designer_command.specs.declared.audit.Standing.TheVariants.{Tied, Beaten}
 use Rattle.designer_command.specs.declared.audit.AuditedPath.{AuditedPath}
 use Rattle.designer_command.specs.Audits.{StandsAs, standing_by, IsAudited, audit_line, audit_lines}
+
+-- one more of both lists
+zip_push : {A B : Type 0} (R : A → B → Type 0) (xs : List A) (ys : List B) (x : A) (y : B) → AllZip R xs ys → R x y → AllZip R (xs ++ x ∷ []) (ys ++ y ∷ [])
+zip_push R [] [] x y zip here = (here, tt)
+zip_push R [] (w ∷ ys) x y zip here = absurd zip
+zip_push R (z ∷ xs) [] x y zip here = absurd zip
+zip_push R (z ∷ xs) (w ∷ ys) x y zip here = (zip.0, zip_push R xs ys x y zip.1 here)
 
 -- fixed costs fit a problem without variables
 pub fixed_fits : (p : DesignProblem) → IsProblem p → p.low ≡ [] → FitsPoint p.graph (at_costs [])

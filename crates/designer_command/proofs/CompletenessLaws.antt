@@ -1,12 +1,44 @@
 -- When a run has to answer.
-use Rattle.std.proofs.Common.{◌≡◌, ℕ, refl, subst, List}
+use Rattle.std.proofs.Common.{◌≡◌, ◌∙◌, ℕ, ◌+◌, ◌<◌, ◌≤◌, refl, sym, ap, subst, arith, List, [], ◌∷◌, ◌++◌, Bool, true, cond, inl, inr}
+use Rattle.std.specs.Prelude.{◌⊎◌, All, Option, None, Some, Result, Ok, Err, bytes_eq}
+use Rattle.std.proofs.lemmas.List.Sums.{sum_by-cons}
+use Rattle.std.proofs.lemmas.Slice.Eq.{bytes_eq-Decides}
+use Rattle.cost_base.specs.declared.ShelfStop.{ShelfStop}
+use Rattle.cost_base.specs.declared.ShelfStop.TheVariants as stop
 use Rattle.cost_base.specs.declared.Status.{Status}
 use Rattle.cost_base.specs.declared.Status.TheVariants as status
-use Rattle.cost_base.specs.Histories.{Taken}
-use Rattle.input_files.specs.Readings.{Reading, Says, Faulty, Failed, EndsAs}
-use Rattle.input_files.proofs.Readings.{one_end, one_said, said_faulty, said_failed}
-use Rattle.designer_command.specs.Runs.{MayAfter, MayAudit, MayCheck}
-use Rattle.designer_command.specs.Completeness.{ValidAnswersAreAccepted, WellFormedInputIsAudited}
+use Rattle.cost_base.specs.Files.{times}
+use Rattle.cost_base.specs.Outside.{Rose}
+use Rattle.cost_base.specs.Histories.{Taken, CountsFailures, failure, failures}
+use Rattle.path_rows.specs.declared.answer.CapTree.{CapTree}
+use Rattle.path_rows.specs.declared.answer.Costs.{Costs}
+use Rattle.path_rows.specs.Problems.{DesignProblem}
+use Rattle.path_rows.specs.Rows.{IsFit, IsBest}
+use Rattle.path_rows.specs.Answers.{AnswerParts}
+use Rattle.path_rows.specs.ProblemLaws.{HasNoFit}
+use Rattle.path_rows.specs.Text.{text}
+use Rattle.answer_lines.specs.Grammar.{AtHead}
+use Rattle.evidence_reader.specs.Refusals.{IsRefused}
+use Rattle.answer_laws.specs.Laws.{IsAnswerValue}
+use Rattle.answer_laws.proofs.OneAnswer.{texts_tell}
+use Rattle.answer_laws.proofs.NoRefusal.{texts_read}
+use Rattle.least_bound.specs.Answered.{UnfinishedAt}
+use Rattle.config_writer.specs.Rewriting.{first_missing}
+use Rattle.command_words.specs.Jobs.{Bounds, JobRead}
+use Rattle.command_words.specs.Jobs as read
+use Rattle.command_words.specs.Commands.{job_of}
+use Rattle.case_maker.specs.Cases.{made_case}
+use Rattle.input_files.specs.declared.problem.View.TheVariants.{AsRequested, AtPresent}
+use Rattle.input_files.specs.Readings.{Reading, Take, Refused, Ready, End, Says, Faulty, Failed, too_long, OnCame, EndsAs}
+use Rattle.input_files.specs.Outcomes.{Input, outcome}
+use Rattle.input_files.proofs.Readings.{faulty_failed, one_end, one_said, said_faulty, said_failed}
+use Rattle.answer_commands.specs.declared.rejection.Rejection.{Rejection}
+use Rattle.answer_commands.specs.Checks.{IsTextOf, claim_read}
+use Rattle.answer_commands.specs.Rewrites.{IsUnfit, new_costs, revision_read}
+use Rattle.designer_command.specs.Designs.{IsDesigned, IsShownImpossible, IsShownUndecided}
+use Rattle.designer_command.specs.Trials.{MayTry, MayTryEnd, case_end, trial_limits}
+use Rattle.designer_command.specs.Runs.{MayAfter, MayAudit, MayCheck, MayDesign, MayRewrite, MayWrite, OnFailure, RunMeets, Writes, files_of}
+use Rattle.designer_command.specs.Completeness.{CannotSpend, DesignsAreAccepted, HeadedCostsAreWritten, IsSettled, MadeCasesAreDesigned, ValidAnswersAreAccepted, WellFormedInputIsAudited, WellFormedInputIsDesigned}
 
 -- where the files say this, a command writes its own text with a status that it may have
 pub says_so : {A : Type 0} (reading : Reading A) (may : A → Status → List ℕ → Type 0) (came : List Taken) (x : A) (end : Status) (bytes : List ℕ) → EndsAs reading came (Says x) → MayAfter reading may came end bytes → may x end bytes
@@ -47,3 +79,177 @@ accepted names answer came claim a end bytes ends value spelled valid h = done e
     done status.OutOfMemory h = absurd h
     done status.WordsRefused h = absurd h
     done status.EvidenceRefused h = absurd (h.1.never a value spelled valid)
+
+-- best costs settle a problem, and so does that there are no fit ones
+best_settles : (p : DesignProblem) (w : List ℕ) → IsBest p w → IsSettled p status.Done
+best_settles p w best = record {
+  either = inl refl;
+  fit = λ other fits. refl;
+  unfit = λ none. absurd (none w best.fit);
+}
+
+none_settles : (p : DesignProblem) → HasNoFit p → IsSettled p status.Impossible
+none_settles p none = record {
+  either = inr refl;
+  fit = λ other fits. absurd (none other fits);
+  unfit = λ same. refl;
+}
+
+-- where the budget can't be used up, no text shows that it was
+never_undecided : (limits : Bounds) (p : DesignProblem) (bytes : List ℕ) → CannotSpend limits p → IsShownUndecided limits p bytes → ⊥
+never_undecided limits p bytes never shown = by_tree shown.answer.unfinished shown.undecided.unfinished
+  where
+    by_tree : (t : Option CapTree) → UnfinishedAt p limits.top limits.nodes shown.answer.rows shown.cap t → ⊥
+    by_tree None h = h
+    by_tree (Some t) h =
+        never t.cap shown.answer.rows t.tree (subst (λ (cap : ℕ). All (λ low. low ≤ cap) p.low) (sym h.0) shown.undecided.no_higher) shown.undecided.rows h.1.printed.earnest h.1.undone h.1.spent
+
+pub designed : WellFormedInputIsDesigned
+designed limits names came d end bytes ends never h = settled end (says_so _ (MayDesign limits) came d end bytes ends h)
+  where
+    settled : (end : Status) → MayDesign limits d end bytes → IsSettled d.problem end
+    settled status.Done h = best_settles d.problem h.costs h.best
+    settled status.Impossible h = none_settles d.problem h.none
+    settled status.Undecided h = absurd (never_undecided limits d.problem bytes never h)
+    settled status.InputRefused h = absurd h
+    settled status.ReadFault h = absurd h
+    settled status.WriteFault h = absurd h
+    settled status.OutOfMemory h = absurd h
+    settled status.WordsRefused h = absurd h
+    settled status.EvidenceRefused h = absurd h
+
+pub cases_designed : MadeCasesAreDesigned
+cases_designed blocks start d end bytes says never h = settled end (subst (λ (e : End Input). MayTryEnd blocks start e end bytes) says h)
+  where
+    settled : (end : Status) → MayTry blocks start d end bytes → IsSettled d.problem end
+    settled status.Done h = best_settles d.problem h.costs h.best
+    settled status.Impossible h = none_settles d.problem h.is_text.none
+    settled status.Undecided h = absurd (never_undecided trial_limits d.problem h.behind never h.is_text)
+    settled status.InputRefused h = absurd h
+    settled status.ReadFault h = absurd h
+    settled status.WriteFault h = absurd h
+    settled status.OutOfMemory h = absurd h
+    settled status.WordsRefused h = absurd h
+    settled status.EvidenceRefused h = absurd h
+
+pub designs_accepted : DesignsAreAccepted
+designs_accepted limits d aim printed (inl is) may names answer came end bytes ends h =
+    let shown : IsDesigned limits d printed = subst (λ (s : Status). MayDesign limits d s printed) is may in
+    accepted names answer came (record { problem = d.problem; bytes = printed }) shown.answer end bytes ends shown.value shown.spelled shown.valid h
+designs_accepted limits d aim printed (inr is) may names answer came end bytes ends h =
+    let shown : IsShownImpossible limits d.problem printed = subst (λ (s : Status). MayDesign limits d s printed) is may in
+    accepted names answer came (record { problem = d.problem; bytes = printed }) shown.answer end bytes ends shown.value shown.spelled shown.valid h
+
+-- answers with one text have the same costs
+same_costs : (bytes : List ℕ) (a b : AnswerParts) → IsAnswerValue a → bytes ≡ text a → IsTextOf bytes b → b.costs ≡ a.costs
+same_costs bytes a b value spelled said = ap (λ (x : AnswerParts). x.costs) (texts_tell b a said.value.fits value.fits (sym said.spelled ∙ spelled))
+
+some_costs : (x y : Costs) → Some x ≡ Some y → x ≡ y
+some_costs x y e = cc
+
+none_some : (x : Costs) → None ≡ Some x → ⊥
+none_some x e = cc
+
+pub written : HeadedCostsAreWritten
+written config answer came r a costs end bytes ends value spelled printed headed h = done end (says_so _ MayRewrite came r end bytes ends h)
+  where
+    fit : (rejection : Rejection) → IsUnfit r rejection → ⊥
+    fit rejection (inl off) = texts_read a off.fault rejection.place value (subst (λ (bs : List ℕ). IsRefused AtHead 0 bs off.fault rejection.place) spelled off.refused)
+    fit rejection (inr (inl without)) = none_some costs (sym without.none ∙ same_costs r.bytes a without.answer value spelled without.said ∙ printed)
+    fit rejection (inr (inr missing)) =
+        missing.missing
+        (subst (λ (cs : Costs). first_missing (new_costs r.config cs.lines) r.config.bytes ≡ None)
+        (some_costs costs missing.costs (sym printed ∙ sym (same_costs r.bytes a missing.answer value spelled missing.said) ∙ missing.printed)) headed)
+
+    done : (end : Status) → MayRewrite r end bytes → end ≡ status.Done
+    done status.Done h = refl
+    done status.Impossible h = absurd h
+    done status.Undecided h = absurd h
+    done status.InputRefused h = absurd h
+    done status.ReadFault h = absurd h
+    done status.WriteFault h = absurd h
+    done status.OutOfMemory h = absurd h
+    done status.WordsRefused h = absurd h
+    done status.EvidenceRefused h = absurd (fit h.0 h.1)
+
+abbrev mark : Bool → ℕ
+mark b = cond b 1 0
+
+-- a file that failed is counted
+one_failed : (name file : List ℕ) (names : List (List ℕ)) → name ≡ file → 0 < times (name ∷ names) file
+one_failed name file names same =
+    let here : bytes_eq name file ≡ true = (bytes_eq-Decides name file).1 same in
+    let counted : times (name ∷ names) file ≡ mark (bytes_eq name file) + times names file = sum_by-cons (λ (x : List ℕ). mark (bytes_eq x file)) name names in
+    let one : mark (bytes_eq name file) ≡ mark true = ap mark here in
+    omega (arith, counted, one)
+
+abbrev failed : (A : Type 0) → List ℕ → End A
+failed A file = Failed file
+
+abbrev failed_as : {A : Type 0} → List ℕ → End A → List ℕ
+failed_as other (Says x) = other
+failed_as other (Faulty r) = other
+failed_as other (Failed file) = file
+
+same_file : {A : Type 0} (e f : End A) (x y : List ℕ) → e ≡ Failed x → f ≡ Failed y → e ≡ f → x ≡ y
+same_file e f x y first second same = sym (ap (λ t. failed_as [] t) first) ∙ ap (λ t. failed_as [] t) same ∙ ap (λ t. failed_as [] t) second
+
+-- what came of a file, and the failed file among it and the others
+failed_here : {A : Type 0} (taken_name name : List ℕ) (next : List ℕ → Reading A) (more : List Taken) (file : List ℕ) (came : Result (List ℕ) ShelfStop) → taken_name ≡ name →
+    OnCame came (λ bytes. EndsAs (next bytes) more (Failed file)) ((more ≡ []) × (failed A file ≡ Faulty (too_long name))) ((more ≡ []) × (failed A file ≡ Failed name)) →
+    ((bytes : List ℕ) → EndsAs (next bytes) more (Failed file) → 0 < times (failures more) file) → 0 < times (failure taken_name came ++ failures more) file
+failed_here taken_name name next more file (Ok bytes) is then rest = rest bytes then
+failed_here {A = A} taken_name name next more file (Err stop.TooLong) is then rest = absurd (faulty_failed {A = A} (too_long name) file (sym then.1))
+failed_here {A = A} taken_name name next more file (Err stop.Failed) is then rest = one_failed taken_name file (failures more) (is ∙ sym (same_file (failed A file) (failed A name) file name refl refl then.1))
+failed_here taken_name name next more file (Err stop.OutOfMemory) is then rest = absurd then
+
+-- the file that failed is among those that failed
+failed_among : {A : Type 0} (reading : Reading A) (came : List Taken) (file : List ℕ) → EndsAs reading came (Failed file) → 0 < times (failures came) file
+failed_among (Ready x) [] file is = absurd (said_failed x file (sym is))
+failed_among (Ready x) (taken ∷ more) file is = absurd is
+failed_among {A = A} (Refused r) [] file is = absurd (faulty_failed {A = A} r file (sym is))
+failed_among (Refused r) (taken ∷ more) file is = absurd is
+failed_among (Take name most next) [] file is = absurd is
+failed_among (Take name most next) (taken ∷ more) file is =
+    failed_here taken.name name next more file taken.came is.0 is.2 (λ bytes ends. failed_among (next bytes) more file ends)
+
+-- no command whose reading fails writes where no count rose
+none_failed : {A : Type 0} (reading : Reading A) (came : List Taken) (bytes : List ℕ) → CountsFailures (λ name. 0) (λ name. 0) came → OnFailure reading came bytes → ⊥
+none_failed reading came bytes counted failed =
+    let rose : 0 < 0 = counted.failed failed.file (failed_among reading came failed.file failed.ends) in
+    omega arith
+
+try_failed : (blocks start : ℕ) (end : End Input) (bytes : List ℕ) → MayTryEnd blocks start end status.ReadFault bytes → ⊥
+try_failed blocks start (Says d) bytes h = h
+try_failed blocks start (Faulty fault) bytes h = h
+try_failed blocks start (Failed file) bytes h = h
+
+no_read_fault : (job : Option JobRead) (came : List Taken) (bytes : List ℕ) → CountsFailures (λ name. 0) (λ name. 0) came → MayWrite job came status.ReadFault bytes → ⊥
+no_read_fault None came bytes counted h = h
+no_read_fault (Some (read.Design request limits configs)) came bytes counted h = none_failed (outcome AsRequested (files_of request configs)) came bytes counted h
+no_read_fault (Some (read.Check request answer configs)) came bytes counted h = none_failed (claim_read (files_of request configs) answer) came bytes counted h
+no_read_fault (Some (read.Audit request configs)) came bytes counted h = none_failed (outcome AtPresent (files_of request configs)) came bytes counted h
+no_read_fault (Some (read.Rewrite answer config)) came bytes counted h = none_failed (revision_read config answer) came bytes counted h
+no_read_fault (Some (read.Trial blocks start)) came bytes counted h = try_failed blocks start (case_end (made_case blocks start)) bytes h.1
+no_read_fault (Some (read.Conflict request limits configs)) came bytes counted h = h
+no_read_fault (Some (read.Spread request sets limits configs)) came bytes counted h = h
+no_read_fault (Some (read.Total request limits configs)) came bytes counted h = h
+no_read_fault (Some (read.Lsas request configs)) came bytes counted h = h
+no_read_fault (Some (read.Route lsas from to)) came bytes counted h = h
+
+-- over counts that stay 0 no run ends with a fault of a shelf
+pub sure_shelf : (words : List (List ℕ)) (gave : List Taken → Type 0) (held : List ℕ → Option (List ℕ)) (handed : List ℕ → Type 0) (got_before got_now : Option (List ℕ)) (count_before count_now : ℕ) (end : Status) →
+    RunMeets words gave held (λ name. 0) (λ name. 0) handed got_before got_now count_before count_now end → end ≡ status.ReadFault → ⊥
+sure_shelf words gave held handed got_before got_now count_before count_now end meets is =
+    let whole = subst (λ (s : Status). Writes (MayWrite (job_of words) meets.came) handed got_before got_now count_before count_now s) is meets.written in
+    no_read_fault (job_of words) meets.came whole.bytes meets.counted whole.allowed
+
+-- nor with one of a sink
+pub sure_sink : (words : List (List ℕ)) (gave : List Taken → Type 0) (held : List ℕ → Option (List ℕ)) (before now : List ℕ → ℕ) (handed : List ℕ → Type 0) (got_before got_now : Option (List ℕ)) (end : Status) →
+    RunMeets words gave held before now handed got_before got_now 0 0 end → end ≡ status.WriteFault → ⊥
+sure_sink words gave held before now handed got_before got_now end meets is =
+    let part = subst (λ (s : Status). Writes (MayWrite (job_of words) meets.came) handed got_before got_now 0 0 s) is meets.written in
+    never_rose part.cause
+  where
+    never_rose : Rose 0 0 → ⊥
+    never_rose rose = omega arith

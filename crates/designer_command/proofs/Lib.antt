@@ -9,9 +9,8 @@ pub mod DesignRuns
 pub mod Runs
 pub mod Audits
 pub mod OnlyCheapest
-pub mod CornerLaws
-pub mod Writing
-pub mod ShortAnswers
-pub mod ShortLines
 mod Examples
+pub mod MadeNames
+pub mod Trials
+pub mod LargeBudgets
 pub mod CompletenessLaws

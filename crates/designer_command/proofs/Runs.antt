@@ -2,6 +2,7 @@
 use Rattle.std.proofs.Common.{◌≡◌, ℕ, refl, sym, subst, List, [], inl, inr}
 use Rattle.std.specs.Prelude.{Option, Result, Ok, Err, Some, None, IfOk, MatchResult, String, Vec, string_bytes, take}
 use Rattle.std.specs.declared.alloc.Global.{Global}
+use Rattle.std.proofs.lemmas.Result.{IfOk-weaker}
 use Rattle.cost_base.specs.declared.OutOfMemory.{OutOfMemory}
 use Rattle.cost_base.specs.declared.Status.{Status}
 use Rattle.cost_base.specs.declared.Status.TheVariants as status
@@ -14,14 +15,16 @@ use Rattle.command_words.specs.Jobs.{JobRead, bounds, seen}
 use Rattle.command_words.specs.Jobs as read
 use Rattle.input_files.specs.declared.stop.Stop.{Stop}
 use Rattle.input_files.specs.declared.stop.Stop.TheVariants as stops
-use Rattle.input_files.specs.Readings.{Reading, Gave}
+use Rattle.input_files.specs.Readings.{Reading, Gave, End, Says, Faulty, Failed}
 use Rattle.input_files.specs.Stops.{StopsAs, IsReadAs, refusal_in}
-use Rattle.designer_command.specs.declared.report.Report.{Report}
-use Rattle.designer_command.specs.Texts.{usage}
-use Rattle.designer_command.specs.Reports.{Reports, ReportsStop, ReportsAny, IsWritten, bytes_in}
+use Rattle.report_writer.specs.declared.report.Report.{Report}
+use Rattle.report_writer.specs.Reports.{Reports, ReportsStop, ReportsAny, IsWritten, bytes_in}
+use Rattle.designer_command.specs.Usage.{usage}
 use Rattle.command_words.specs.Words.{texts}
 use Rattle.input_files.specs.declared.problem.View.TheVariants.{AsRequested, AtPresent}
-use Rattle.input_files.specs.Outcomes.{outcome}
+use Rattle.input_files.specs.Outcomes.{Input, outcome}
+use Rattle.case_maker.specs.Cases.{made_case}
+use Rattle.designer_command.specs.Trials.{MayTrial, MayTryEnd, case_end}
 use Rattle.answer_commands.specs.Checks.{claim_read}
 use Rattle.answer_commands.specs.Rewrites.{revision_read}
 use Rattle.designer_command.specs.Runs.{OnSaid, MayAfter, MayDesign, MayAudit, MayCheck, MayRewrite, MayWrite, WritesNothing, Writes, files_of}
@@ -69,6 +72,16 @@ reported Given reading may made result own a r = record { came = a.came; given =
 abbrev pub WritesNone : (Status → List ℕ → Type 0) → Type 0
 WritesNone may = ((bytes : List ℕ) → may status.WriteFault bytes → ⊥) × ((bytes : List ℕ) → may status.OutOfMemory bytes → ⊥)
 
+try_unwritten : (blocks start : ℕ) (end : End Input) (bytes : List ℕ) → MayTryEnd blocks start end status.WriteFault bytes → ⊥
+try_unwritten blocks start (Says d) bytes h = h
+try_unwritten blocks start (Faulty fault) bytes h = h
+try_unwritten blocks start (Failed file) bytes h = h
+
+try_wanting : (blocks start : ℕ) (end : End Input) (bytes : List ℕ) → MayTryEnd blocks start end status.OutOfMemory bytes → ⊥
+try_wanting blocks start (Says d) bytes h = h
+try_wanting blocks start (Faulty fault) bytes h = h
+try_wanting blocks start (Failed file) bytes h = h
+
 -- no whole text goes with a fault of writing or with want of memory
 pub writes_none : (job : Option JobRead) (came : List Taken) → WritesNone (MayWrite job came)
 writes_none None came = (λ bytes h. h, λ bytes h. h)
@@ -76,7 +89,7 @@ writes_none (Some (read.Design request limits configs)) came = (λ bytes h. h, �
 writes_none (Some (read.Check request answer configs)) came = (λ bytes h. h, λ bytes h. h)
 writes_none (Some (read.Audit request configs)) came = (λ bytes h. h, λ bytes h. h)
 writes_none (Some (read.Rewrite answer config)) came = (λ bytes h. h, λ bytes h. h)
-writes_none (Some (read.Trial blocks start)) came = (λ bytes h. h, λ bytes h. h)
+writes_none (Some (read.Trial blocks start)) came = (λ bytes h. try_unwritten blocks start (case_end (made_case blocks start)) bytes h.1, λ bytes h. try_wanting blocks start (case_end (made_case blocks start)) bytes h.1)
 writes_none (Some (read.Conflict request limits configs)) came = (λ bytes h. h, λ bytes h. h)
 writes_none (Some (read.Spread request sets limits configs)) came = (λ bytes h. h, λ bytes h. h)
 writes_none (Some (read.Total request limits configs)) came = (λ bytes h. h, λ bytes h. h)
@@ -107,17 +120,17 @@ written_meets may handed got_before got_now count_before count_now aim bytes end
     (record { status = aim; bytes = bytes; allowed = allowed; length = h.1.0; written = h.1.1; part = got (take h.1.0 bytes) h.1.1; cause = h.2 })
 
 -- words that are refused, by a command that isn't built: no file is asked for
-pub other_refused : (job : Job) → ((request : String Global) (limits : Limits) (configs : Vec (String Global) Global) → job ≡ jobs.Design request limits configs → ⊥) → ((request answer : String Global) (configs : Vec (String Global) Global) → job ≡ jobs.Check request answer configs → ⊥) → ((request : String Global) (configs : Vec (String Global) Global) → job ≡ jobs.Audit request configs → ⊥) → ((answer config : String Global) → job ≡ jobs.Rewrite answer config → ⊥) → MayWrite (Some (seen job)) [] status.WordsRefused usage
-other_refused (jobs.Design request limits configs) no_design no_check no_audit no_rewrite = absurd (no_design request limits configs refl)
-other_refused (jobs.Check request answer configs) no_design no_check no_audit no_rewrite = absurd (no_check request answer configs refl)
-other_refused (jobs.Audit request configs) no_design no_check no_audit no_rewrite = absurd (no_audit request configs refl)
-other_refused (jobs.Rewrite answer config) no_design no_check no_audit no_rewrite = absurd (no_rewrite answer config refl)
-other_refused (jobs.Trial blocks start) no_design no_check no_audit no_rewrite = (refl, refl)
-other_refused (jobs.Conflict request limits configs) no_design no_check no_audit no_rewrite = (refl, refl)
-other_refused (jobs.Spread request sets limits configs) no_design no_check no_audit no_rewrite = (refl, refl)
-other_refused (jobs.Total request limits configs) no_design no_check no_audit no_rewrite = (refl, refl)
-other_refused (jobs.Lsas request configs) no_design no_check no_audit no_rewrite = (refl, refl)
-other_refused (jobs.Route lsas from to) no_design no_check no_audit no_rewrite = (refl, refl)
+pub other_refused : (job : Job) → ((request : String Global) (limits : Limits) (configs : Vec (String Global) Global) → job ≡ jobs.Design request limits configs → ⊥) → ((request answer : String Global) (configs : Vec (String Global) Global) → job ≡ jobs.Check request answer configs → ⊥) → ((request : String Global) (configs : Vec (String Global) Global) → job ≡ jobs.Audit request configs → ⊥) → ((answer config : String Global) → job ≡ jobs.Rewrite answer config → ⊥) → ((blocks start : ℕ) → job ≡ jobs.Trial blocks start → ⊥) → MayWrite (Some (seen job)) [] status.WordsRefused usage
+other_refused (jobs.Design request limits configs) no_design no_check no_audit no_rewrite no_trial = absurd (no_design request limits configs refl)
+other_refused (jobs.Check request answer configs) no_design no_check no_audit no_rewrite no_trial = absurd (no_check request answer configs refl)
+other_refused (jobs.Audit request configs) no_design no_check no_audit no_rewrite no_trial = absurd (no_audit request configs refl)
+other_refused (jobs.Rewrite answer config) no_design no_check no_audit no_rewrite no_trial = absurd (no_rewrite answer config refl)
+other_refused (jobs.Trial blocks start) no_design no_check no_audit no_rewrite no_trial = absurd (no_trial blocks start refl)
+other_refused (jobs.Conflict request limits configs) no_design no_check no_audit no_rewrite no_trial = (refl, refl)
+other_refused (jobs.Spread request sets limits configs) no_design no_check no_audit no_rewrite no_trial = (refl, refl)
+other_refused (jobs.Total request limits configs) no_design no_check no_audit no_rewrite no_trial = (refl, refl)
+other_refused (jobs.Lsas request configs) no_design no_check no_audit no_rewrite no_trial = (refl, refl)
+other_refused (jobs.Route lsas from to) no_design no_check no_audit no_rewrite no_trial = (refl, refl)
 
 -- a report of this status and text may be written where they may
 pub may_report : (may : Status → List ℕ → Type 0) (aim : Status) (bytes : List ℕ) (report : Report) → Reports aim bytes report → may aim bytes → may report.status (bytes_in report.text)
@@ -139,12 +152,12 @@ Reported Given job result = Gave Given (λ came. IfOk result (λ report. MayWrit
 
 pub design_reported : (Given : List Taken → Type 0) (job : Job) (request : String Global) (limits : Limits) (configs : Vec (String Global) Global) (name : List ℕ) (words : List (String Global)) (made : Result Report Stop) (result : Result Report OutOfMemory) →
     job ≡ jobs.Design request limits configs → name ≡ string_bytes request → words ≡ configs.items →
-    Gave Given (λ came. IsReadAs (outcome AsRequested (files_of name (texts words))) came (λ report d. MayDesign d report.status (bytes_in report.text)) made) → ReportsAny made result → Reported Given (Some (seen job)) result
+    Gave Given (λ came. IsReadAs (outcome AsRequested (files_of name (texts words))) came (λ report d. MayDesign (bounds limits) d report.status (bytes_in report.text)) made) → ReportsAny made result → Reported Given (Some (seen job)) result
 design_reported Given job request limits configs name words made result is named worded a r =
     subst (λ (j : Job). Reported Given (Some (seen j)) result) (sym is)
     (subst (λ (ws : List (String Global)). Reported Given (Some (read.Design (string_bytes request) (bounds limits) (texts ws))) result) worded
     (subst (λ (n : List ℕ). Reported Given (Some (read.Design n (bounds limits) (texts words))) result) named
-    (reported Given (outcome AsRequested (files_of name (texts words))) MayDesign made result (record { refused = λ x bytes h. h; failed = λ x bytes h. h; unwritten = λ x bytes h. h; wanting = λ x bytes h. h }) a r)))
+    (reported Given (outcome AsRequested (files_of name (texts words))) (MayDesign (bounds limits)) made result (record { refused = λ x bytes h. h; failed = λ x bytes h. h; unwritten = λ x bytes h. h; wanting = λ x bytes h. h }) a r)))
 
 pub audit_reported : (Given : List Taken → Type 0) (job : Job) (request : String Global) (configs : Vec (String Global) Global) (name : List ℕ) (words : List (String Global)) (made : Result Report Stop) (result : Result Report OutOfMemory) →
     job ≡ jobs.Audit request configs → name ≡ string_bytes request → words ≡ configs.items →
@@ -173,3 +186,13 @@ rewrite_reported Given job answer config file name made result is answered named
     (subst (λ (n : List ℕ). Reported Given (Some (read.Rewrite (string_bytes answer) n)) result) named
     (subst (λ (f : List ℕ). Reported Given (Some (read.Rewrite f name)) result) answered
     (reported Given (revision_read name file) MayRewrite made result (record { refused = λ x bytes h. h; failed = λ x bytes h. h; unwritten = λ x bytes h. h; wanting = λ x bytes h. h }) a r)))
+
+pub trial_reported : (Given : List Taken → Type 0) (job : Job) (blocks start : ℕ) (result : Result Report OutOfMemory) → Given [] → job ≡ jobs.Trial blocks start →
+    IfOk result (λ report. MayTrial blocks start report.status (bytes_in report.text)) → Reported Given (Some (seen job)) result
+trial_reported Given job blocks start result none is tried =
+    subst (λ (j : Job). Reported Given (Some (seen j)) result) (sym is)
+    (record {
+      came = [];
+      given = none;
+      so = IfOk-weaker result (λ report. MayTrial blocks start report.status (bytes_in report.text)) (λ report. MayWrite (Some (read.Trial blocks start)) [] report.status (bytes_in report.text)) (λ report h. (refl, h)) tried;
+    })

@@ -10,7 +10,7 @@ use Rattle.path_rows.specs.Problems.{DesignProblem, ends_of}
 use Rattle.designer_command.specs.declared.audit.Standing.{Standing}
 use Rattle.designer_command.specs.declared.audit.Standing.TheVariants.{Only, Tied, Beaten}
 use Rattle.designer_command.specs.declared.audit.AuditedPath.{AuditedPath}
-use Rattle.designer_command.specs.Texts.{line_of}
+use Rattle.report_writer.specs.Texts.{line_of}
 
 -- how a requested path of this cost stands among the simple paths of its request, of which none costs less than `least`
 abbrev pub StandsAs : Area → Request → ℕ → ℕ → Standing → Type 0

@@ -1,17 +1,63 @@
 -- When a run has to answer, and may not refuse: laws over what came of its files.
-use Rattle.std.specs.Prelude.{◌≡◌, ℕ, List}
+use Rattle.std.specs.Prelude.{◌≡◌, ◌⊎◌, ℕ, ◌+◌, ◌*◌, ◌≤◌, List, All, Contains, None, Some}
 use Rattle.cost_base.specs.declared.Status.{Status}
 use Rattle.cost_base.specs.declared.Status.TheVariants as status
 use Rattle.cost_base.specs.Histories.{Taken}
-use Rattle.input_files.specs.declared.problem.View.TheVariants.{AtPresent}
+use Rattle.input_files.specs.declared.problem.View.TheVariants.{AsRequested, AtPresent}
 use Rattle.input_files.specs.Inputs.{InputFiles}
 use Rattle.input_files.specs.Readings.{Says, EndsAs}
 use Rattle.input_files.specs.Outcomes.{Input, outcome}
-use Rattle.path_rows.specs.Answers.{AnswerParts, IsValid}
+use Rattle.path_rows.specs.declared.tree.Entry.{Entry}
+use Rattle.path_rows.specs.declared.tree.Entry.TheVariants.{Undone}
+use Rattle.path_rows.specs.declared.answer.Costs.{Costs}
+use Rattle.path_rows.specs.declared.form.Row.{Row}
+use Rattle.path_rows.specs.Problems.{DesignProblem, IsProblem}
+use Rattle.path_rows.specs.Boxes.{capped, points}
+use Rattle.path_rows.specs.Rows.{IsFit, IsRow, box_of}
+use Rattle.path_rows.specs.Trees.{entry_count}
+use Rattle.path_rows.specs.Earnest.{IsEarnestFor}
+use Rattle.path_rows.specs.Answers.{AnswerParts, IsValid, greatest_bound}
+use Rattle.path_rows.specs.ProblemLaws.{HasNoFit}
 use Rattle.path_rows.specs.Text.{text}
 use Rattle.answer_laws.specs.Laws.{IsAnswerValue}
+use Rattle.command_words.specs.Jobs.{Bounds}
+use Rattle.case_maker.specs.Cases.{made_case}
+use Rattle.config_writer.specs.Rewriting.{first_missing}
 use Rattle.answer_commands.specs.Checks.{Claim, claim_read}
-use Rattle.designer_command.specs.Runs.{MayAfter, MayAudit, MayCheck}
+use Rattle.answer_commands.specs.Rewrites.{Revision, new_costs, revision_read}
+use Rattle.designer_command.specs.Trials.{MayTrial, case_end, trial_limits}
+use Rattle.designer_command.specs.Runs.{MayAfter, MayAudit, MayCheck, MayDesign, MayRewrite}
+
+-- The budget can't be used up: over the box at any cap that isn't below a lower bound no earnest tree has an Undone and
+-- just as many entries as the budget.
+abbrev pub CannotSpend : Bounds → DesignProblem → Type 0
+CannotSpend limits p =
+    (cap : ℕ) (rows : List Row) (tree : List Entry) → All (λ low. low ≤ cap) p.low → All (IsRow p) rows →
+    IsEarnestFor p limits.top rows (capped (box_of p) cap) tree → Contains tree Undone → entry_count tree ≡ limits.nodes → ⊥
+
+-- Done where there are fit costs, Impossible where there are none, and nothing else
+pub record IsSettled (p : DesignProblem) (end : Status) : Type 0 where
+  pub either : (end ≡ status.Done) ⊎ (end ≡ status.Impossible)
+  pub fit : (w : List ℕ) → IsFit p w → end ≡ status.Done
+  pub unfit : HasNoFit p → end ≡ status.Impossible
+
+-- A design of well-formed input is settled, where the budget can't be used up.
+abbrev pub WellFormedInputIsDesigned : Type 0
+WellFormedInputIsDesigned =
+    (limits : Bounds) (names : InputFiles) (came : List Taken) (d : Input) (end : Status) (bytes : List ℕ) →
+    EndsAs (outcome AsRequested names) came (Says d) → CannotSpend limits d.problem →
+    MayAfter (outcome AsRequested names) (MayDesign limits) came end bytes → IsSettled d.problem end
+
+-- So is a trial whose texts have no fault.
+abbrev pub MadeCasesAreDesigned : Type 0
+MadeCasesAreDesigned =
+    (blocks start : ℕ) (d : Input) (end : Status) (bytes : List ℕ) →
+    case_end (made_case blocks start) ≡ Says d → CannotSpend trial_limits d.problem → MayTrial blocks start end bytes → IsSettled d.problem end
+
+-- A budget of twice as many entries as the box at the greatest upper bound has points, less one, can't be used up.
+abbrev pub LargeBudgetsSuffice : Type 0
+LargeBudgetsSuffice =
+    (limits : Bounds) (p : DesignProblem) → IsProblem p → 2 * points (capped (box_of p) (greatest_bound p)) ≤ limits.nodes + 1 → CannotSpend limits p
 
 -- Where the files of a check say a problem and the text of a valid answer, nothing may be written but that it is accepted.
 abbrev pub ValidAnswersAreAccepted : Type 0
@@ -20,8 +66,25 @@ ValidAnswersAreAccepted =
     EndsAs (claim_read names answer) came (Says claim) → IsAnswerValue a → claim.bytes ≡ text a → IsValid claim.problem a →
     MayAfter (claim_read names answer) MayCheck came end bytes → end ≡ status.Done
 
+-- A check of what a design printed with status Done or Impossible, after the same input, may write nothing but that it is
+-- accepted.
+abbrev pub DesignsAreAccepted : Type 0
+DesignsAreAccepted =
+    (limits : Bounds) (d : Input) (aim : Status) (printed : List ℕ) → (aim ≡ status.Done) ⊎ (aim ≡ status.Impossible) → MayDesign limits d aim printed →
+    (names : InputFiles) (answer : List ℕ) (came : List Taken) (end : Status) (bytes : List ℕ) →
+    EndsAs (claim_read names answer) came (Says (record { problem = d.problem; bytes = printed })) → MayAfter (claim_read names answer) MayCheck came end bytes → end ≡ status.Done
+
 -- Where the files of an audit say a problem, nothing may be written but its lines.
 abbrev pub WellFormedInputIsAudited : Type 0
 WellFormedInputIsAudited =
     (names : InputFiles) (came : List Taken) (d : Input) (end : Status) (bytes : List ℕ) →
     EndsAs (outcome AtPresent names) came (Says d) → MayAfter (outcome AtPresent names) MayAudit came end bytes → end ≡ status.Done
+
+-- Where the files of a rewrite say a configuration and the text of an answer whose costs of its router are of interfaces
+-- with heads in it, nothing may be written but the configuration with these costs.
+abbrev pub HeadedCostsAreWritten : Type 0
+HeadedCostsAreWritten =
+    (config answer : List ℕ) (came : List Taken) (r : Revision) (a : AnswerParts) (costs : Costs) (end : Status) (bytes : List ℕ) →
+    EndsAs (revision_read config answer) came (Says r) → IsAnswerValue a → r.bytes ≡ text a → a.costs ≡ Some costs →
+    first_missing (new_costs r.config costs.lines) r.config.bytes ≡ None →
+    MayAfter (revision_read config answer) MayRewrite came end bytes → end ≡ status.Done

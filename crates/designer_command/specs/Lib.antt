@@ -1,8 +1,8 @@
-pub mod Texts
+pub mod Usage
 pub mod ReadBack
-pub mod Corners
 pub mod Designs
+pub mod Trials
 pub mod Audits
-pub mod Reports
+pub mod Reported
 pub mod Runs
 pub mod Completeness

@@ -4,9 +4,8 @@ use Rattle.cost_base.specs.declared.Status.{Status}
 use Rattle.cost_base.specs.declared.Status.TheVariants.{Done, Impossible, Undecided, InputRefused, ReadFault, WriteFault, OutOfMemory, WordsRefused, EvidenceRefused}
 use Rattle.cost_base.specs.Outside.{Rose, GotWhole}
 use Rattle.cost_base.specs.Histories.{Taken, AreTold, CountsFailures}
-use Rattle.path_rows.specs.Rows.{IsFit}
 use Rattle.evidence_checker.specs.declared.stop.Accepted.{Accepted}
-use Rattle.command_words.specs.Jobs.{JobRead, Design, Check, Audit, Rewrite}
+use Rattle.command_words.specs.Jobs.{Bounds, JobRead, Design, Check, Audit, Rewrite, Trial}
 use Rattle.command_words.specs.Commands.{job_of}
 use Rattle.input_files.specs.declared.problem.View.TheVariants.{AsRequested, AtPresent}
 use Rattle.input_files.specs.Inputs.{InputFiles}
@@ -15,17 +14,20 @@ use Rattle.input_files.specs.Outcomes.{Input, outcome}
 use Rattle.answer_commands.specs.declared.rejection.Rejection.{Rejection}
 use Rattle.answer_commands.specs.Checks.{Claim, IsAccepted, IsRejected, claim_read}
 use Rattle.answer_commands.specs.Rewrites.{Revision, IsRewritten, IsUnfit, revision_read}
-use Rattle.designer_command.specs.Texts.{refused_line, read_fault_line, accepted_line, rejected_line, corner_line, usage}
-use Rattle.designer_command.specs.Designs.{IsDesigned}
+use Rattle.report_writer.specs.Texts.{refused_line, read_fault_line, accepted_line, rejected_line}
+use Rattle.designer_command.specs.Usage.{usage}
+use Rattle.designer_command.specs.Designs.{IsDesigned, IsShownImpossible, IsShownUndecided}
+use Rattle.designer_command.specs.Trials.{MayTrial}
 use Rattle.designer_command.specs.Audits.{IsAudit}
 
 -- What each command may write of what its files say, with which status.
 
--- `design`: for now it is undecided where the lower bounds themselves aren't fit, and exactly there
-abbrev pub MayDesign : Input → Status → List ℕ → Type 0
-MayDesign d Done bytes = IsDesigned d bytes × IsFit d.problem d.problem.low
-MayDesign d Undecided bytes = (IsFit d.problem d.problem.low → ⊥) × (bytes ≡ corner_line)
-MayDesign d status bytes = ⊥
+-- `design`: best costs; or that there are none; or that the budget was used up
+abbrev pub MayDesign : Bounds → Input → Status → List ℕ → Type 0
+MayDesign limits d Done bytes = IsDesigned limits d bytes
+MayDesign limits d Impossible bytes = IsShownImpossible limits d.problem bytes
+MayDesign limits d Undecided bytes = IsShownUndecided limits d.problem bytes
+MayDesign limits d status bytes = ⊥
 
 -- `audit`, of the problem in which every interface stands at its present cost
 abbrev pub MayAudit : Input → Status → List ℕ → Type 0
@@ -85,10 +87,11 @@ files_of request configs = record { request = request; configs = configs }
 -- The whole text that a run writes with a status, where this came of its files. For now the words of a command that isn't
 -- built are refused.
 abbrev pub MayWrite : Option JobRead → List Taken → Status → List ℕ → Type 0
-MayWrite (Some (Design request limits configs)) came status bytes = MayAfter (outcome AsRequested (files_of request configs)) MayDesign came status bytes
+MayWrite (Some (Design request limits configs)) came status bytes = MayAfter (outcome AsRequested (files_of request configs)) (MayDesign limits) came status bytes
 MayWrite (Some (Check request answer configs)) came status bytes = MayAfter (claim_read (files_of request configs) answer) MayCheck came status bytes
 MayWrite (Some (Audit request configs)) came status bytes = MayAfter (outcome AtPresent (files_of request configs)) MayAudit came status bytes
 MayWrite (Some (Rewrite answer config)) came status bytes = MayAfter (revision_read config answer) MayRewrite came status bytes
+MayWrite (Some (Trial blocks start)) came status bytes = (came ≡ []) × MayTrial blocks start status bytes
 MayWrite _ came status bytes = MayRefuse came status bytes
 
 -- the sink was handed a text that may be written, and no more

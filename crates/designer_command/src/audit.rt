@@ -9,16 +9,15 @@ ghost use Rattle.input_files.specs.Readings.{Gave};
 ghost use Rattle.input_files.specs.Outcomes.{outcome};
 ghost use Rattle.input_files.specs.Stops.{IsReadAs, files_named};
 ghost use Rattle.designer_command.specs.Audits.{IsAudited, audit_line, audit_lines, standing_by, standing_word};
-ghost use Rattle.designer_command.specs.Reports.{bytes_in};
+ghost use Rattle.report_writer.specs.Reports.{bytes_in};
 ghost use Rattle.designer_command.specs.Runs.{MayAudit};
 
-use crate::lines::{push_bytes, push_number};
-use crate::report::Report;
 use crate::rivals::is_only;
 use area_graph::{Graph, Point, path_cost};
 use cost_base::{Listed, OutOfMemory, Shelf, Status};
 use input_files::{FileWords, Stop, View, read_problem};
 use path_rows::{Problem, Request};
+use report_writer::{Report, push_bytes, push_number};
 use spf_ties::Room;
 use std::alloc::Global;
 

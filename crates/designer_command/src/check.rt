@@ -3,14 +3,14 @@ ghost use Rattle.std.specs.Prelude.{◌≡◌, ℕ, List, IfOk};
 ghost use Rattle.input_files.specs.Readings.{Gave};
 ghost use Rattle.input_files.specs.Stops.{IsReadAs, files_named};
 ghost use Rattle.answer_commands.specs.Checks.{claim_read};
-ghost use Rattle.designer_command.specs.Reports.{ReportsJudgement, bytes_in};
+ghost use Rattle.report_writer.specs.Reports.{bytes_in};
+ghost use Rattle.designer_command.specs.Reported.{ReportsJudgement};
 ghost use Rattle.designer_command.specs.Runs.{MayCheck};
 
-use crate::lines::{accepted_line_of, rejected_line_of};
-use crate::report::Report;
 use answer_commands::{Judgement, check_files};
 use cost_base::{OutOfMemory, Shelf, Status};
 use input_files::{FileWords, Stop};
+use report_writer::{Report, accepted_line_of, rejected_line_of};
 use std::alloc::Global;
 
 /// The report of what a check came to.

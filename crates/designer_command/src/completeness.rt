@@ -1,12 +1,58 @@
-//! When a run has to answer: each law is the contract of a function that does nothing.
-ghost use Rattle.designer_command.specs.Completeness.{ValidAnswersAreAccepted, WellFormedInputIsAudited};
+//! When a run has to answer: each law is the contract of a function, most of them of one that does nothing.
+ghost use Rattle.std.specs.Prelude.{◌≢◌};
+ghost use Rattle.designer_command.specs.Completeness.{DesignsAreAccepted, HeadedCostsAreWritten, LargeBudgetsSuffice, MadeCasesAreDesigned, ValidAnswersAreAccepted, WellFormedInputIsAudited, WellFormedInputIsDesigned};
+
+use crate::run;
+use advisor_box::Advisor;
+use cost_base::{Status, SureShelf, SureSink};
+use std::alloc::Global;
+
+/// A design of well-formed input answers that there are fit costs, or that there are none, as it is, where the budget can't
+/// be used up.
+pub fn well_formed_input_is_designed()
+    ensures { WellFormedInputIsDesigned }
+{}
+
+/// So does a trial whose texts have no fault.
+pub fn made_cases_are_designed()
+    ensures { MadeCasesAreDesigned }
+{}
+
+/// A budget of twice as many entries as the box at the greatest upper bound has points, less one, can't be used up.
+pub fn large_budgets_suffice()
+    ensures { LargeBudgetsSuffice }
+{}
 
 /// A check of a valid answer's text after well-formed input may write nothing but that it is accepted.
 pub fn valid_answers_are_accepted()
     ensures { ValidAnswersAreAccepted }
 {}
 
+/// A check of what a design printed may write nothing but that it is accepted, also where that is that no costs are fit.
+pub fn designs_are_accepted()
+    ensures { DesignsAreAccepted }
+{}
+
 /// An audit of well-formed input may write nothing but its lines.
 pub fn well_formed_input_is_audited()
     ensures { WellFormedInputIsAudited }
 {}
+
+/// A rewrite with an answer's costs, whose interfaces of the router have heads, may write nothing but the configuration.
+pub fn headed_costs_are_written()
+    ensures { HeadedCostsAreWritten }
+{}
+
+/// A run over a shelf and a sink that never fail, which ends with no fault of theirs.
+pub fn sure_run(
+    alloc: Global,
+    words: &[String],
+    shelf: &mut SureShelf,
+    out: &mut SureSink,
+    advisors: &mut Vec<Box<dyn Advisor>>,
+) -> Status
+    ensures shelf { result ≢ Status.ReadFault }
+    ensures sink { result ≢ Status.WriteFault }
+{
+    run(alloc, words, shelf, out, advisors)
+}

@@ -1,57 +1,70 @@
 //! `design`: an answer to the files of words.
-ghost use Rattle.std.specs.Prelude.{◌≡◌, ℕ, List, IfOk, MatchOption};
-ghost use Rattle.path_rows.specs.Rows.{IsFit};
+ghost use Rattle.std.specs.Prelude.{◌≡◌, ℕ, List, IfOk};
+ghost use Rattle.command_words.specs.Jobs.{bounds};
+ghost use Rattle.path_rows.specs.Text.{text};
 ghost use Rattle.input_files.specs.Readings.{Gave};
 ghost use Rattle.input_files.specs.Outcomes.{outcome};
 ghost use Rattle.input_files.specs.Stops.{IsReadAs, files_named};
-ghost use Rattle.designer_command.specs.Corners.{AnswersLow};
-ghost use Rattle.designer_command.specs.Reports.{ReportsFound, bytes_in};
+ghost use Rattle.report_writer.specs.Reports.{Reports, bytes_in};
+ghost use Rattle.designer_command.specs.Designs.{IsAnswerTo};
+ghost use Rattle.designer_command.specs.Reported.{status_of};
 ghost use Rattle.designer_command.specs.Runs.{MayDesign};
 
-use crate::corner::corner_is_fit;
-use crate::floor::floor_answer;
-use crate::report::{Report, Text};
-use crate::text_buffer::text_of_answer;
+use advisor_box::Advisor;
+use answer_commands::keeps_answer;
 use cost_base::{OutOfMemory, Shelf, Status};
 use input_files::{FileWords, Stop, View, read_problem};
-use path_rows::{Answer, Problem};
+use least_bound::least;
+use path_rows::{Answer, Problem, Verdict};
+use report_writer::{Report, text_of_answer};
 use std::alloc::Global;
+use wide_fraction::Limits;
 
-/// The answer at the lower bounds; None where they aren't fit.
-fn corner_answer(alloc: Global, problem: &Problem) -> Result<Option<Answer>, OutOfMemory>
-    ensures { IfOk result (λ found. MatchOption found (IsFit problem.now problem.now.low → ⊥) (λ a. AnswersLow problem.now a × IsFit problem.now problem.now.low)) }
+/// The status of a run that prints an answer with this verdict.
+pub(crate) fn status_of(verdict: Verdict) -> Status
+    ensures { result ≡ status_of verdict }
 {
-    if !corner_is_fit(alloc, problem)? {
-        return Ok(None);
+    match verdict {
+        Verdict::Optimal(_) => Status::Done,
+        Verdict::Impossible => Status::Impossible,
+        Verdict::Budget(_) => Status::Undecided,
     }
-    Ok(Some(floor_answer(alloc, problem)?))
 }
 
-/// The report of the answer at the lower bounds, or that they aren't fit.
-fn report_of_found(alloc: Global, found: &Option<Answer>) -> Result<Report, OutOfMemory>
-    ensures { IfOk result (ReportsFound found.now) }
+/// The report of an answer: its text.
+fn report_of_answer(alloc: Global, answer: &Answer) -> Result<Report, OutOfMemory>
+    ensures { IfOk result (Reports (status_of answer.now.verdict) (text answer.now)) }
 {
-    match found {
-        Some(answer) => {
-            let text = text_of_answer(alloc, answer)?;
-            Ok(Report::made(Status::Done, text))
-        }
-        None => Ok(Report {
-            status: Status::Undecided,
-            text: Text::Fixed("lower corner is not fit\n"),
-        }),
-    }
+    let text = text_of_answer(alloc, answer)?;
+    Ok(Report::made(status_of(answer.verdict), text))
+}
+
+/// An answer to a problem.
+pub(crate) fn answer_to(
+    alloc: Global,
+    problem: &Problem,
+    limits: &Limits,
+    advisors: &mut Vec<Box<dyn Advisor>>,
+) -> Result<Answer, OutOfMemory>
+    ensures { IfOk result (IsAnswerTo (bounds limits.now) problem.now) }
+{
+    let _bounds = &problem.low;
+    let answer = least(alloc, problem, limits, advisors)?;
+    keeps_answer(&answer);
+    Ok(answer)
 }
 
 /// The report of a design from the files of words.
 pub(crate) fn design_report<'a, S: Shelf>(
     alloc: Global,
     words: FileWords<'a>,
+    limits: &Limits,
     shelf: &mut S,
+    advisors: &mut Vec<Box<dyn Advisor>>,
 ) -> Result<Report, Stop<'a>>
-    ensures { Gave (S.gave shelf.old shelf.new) (λ came. IsReadAs (outcome View.AsRequested (files_named words.entry)) came (λ report d. MayDesign d report.status (bytes_in report.text)) result) }
+    ensures { Gave (S.gave shelf.old shelf.new) (λ came. IsReadAs (outcome View.AsRequested (files_named words.entry)) came (λ report d. MayDesign (bounds limits.now) d report.status (bytes_in report.text)) result) }
 {
     let problem = read_problem(alloc, View::AsRequested, words, shelf)?;
-    let found = corner_answer(alloc, &problem)?;
-    Ok(report_of_found(alloc, &found)?)
+    let answer = answer_to(alloc, &problem, limits, advisors)?;
+    Ok(report_of_answer(alloc, &answer)?)
 }

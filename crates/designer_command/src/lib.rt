@@ -4,15 +4,13 @@
 mod audit;
 mod check;
 pub mod completeness;
-mod corner;
 mod design;
-mod floor;
-mod lines;
-mod report;
+mod made_files;
 mod rewrite;
 mod rivals;
-mod text_buffer;
+mod summary;
 mod top_call;
-mod writer;
+mod total;
+mod trial;
 
 pub use top_call::run;

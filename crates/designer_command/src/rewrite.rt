@@ -3,14 +3,14 @@ ghost use Rattle.std.specs.Prelude.{◌≡◌, ℕ, List, IfOk};
 ghost use Rattle.input_files.specs.Readings.{Gave};
 ghost use Rattle.input_files.specs.Stops.{IsReadAs};
 ghost use Rattle.answer_commands.specs.Rewrites.{revision_read};
-ghost use Rattle.designer_command.specs.Reports.{ReportsRevised, bytes_in};
+ghost use Rattle.report_writer.specs.Reports.{bytes_in};
+ghost use Rattle.designer_command.specs.Reported.{ReportsRevised};
 ghost use Rattle.designer_command.specs.Runs.{MayRewrite};
 
-use crate::lines::rejected_line_of;
-use crate::report::Report;
 use answer_commands::{Revised, rewrite_files};
 use cost_base::{OutOfMemory, Shelf, Status};
 use input_files::Stop;
+use report_writer::{Report, rejected_line_of};
 use std::alloc::Global;
 
 /// The report of what a rewrite came to.

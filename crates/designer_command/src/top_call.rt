@@ -1,22 +1,24 @@
 //! The top call.
 ghost use Rattle.std.specs.Prelude.{◌≡◌, ℕ, List, IfOk, MatchResult, Some};
 ghost use Rattle.cost_base.specs.Histories.{Taken};
-ghost use Rattle.command_words.specs.Jobs.{seen};
 ghost use Rattle.command_words.specs.Words.{texts};
 ghost use Rattle.input_files.specs.Readings.{Gave};
-ghost use Rattle.designer_command.specs.Reports.{IsWritten, Reports, bytes_in};
+ghost use Rattle.command_words.specs.Jobs.{IsInRange, seen};
+ghost use Rattle.report_writer.specs.Reports.{IsWritten, Reports, bytes_in};
 ghost use Rattle.designer_command.specs.Runs.{MayWrite, RunMeets};
-ghost use Rattle.designer_command.specs.Texts.{usage};
+ghost use Rattle.designer_command.specs.Usage.{usage};
 
 use crate::audit::audit_report;
 use crate::check::check_report;
 use crate::design::design_report;
-use crate::report::{Report, Text, report_of};
 use crate::rewrite::rewrite_report;
-use crate::writer::write_report;
+use crate::summary::Trial;
+use crate::trial::trial_report;
+use advisor_box::Advisor;
 use command_words::{Job, WordsStop, read_words};
 use cost_base::{OutOfMemory, Shelf, Sink, Status};
 use input_files::FileWords;
+use report_writer::{Report, Text, report_of, write_report};
 use std::alloc::Global;
 
 /// The lines that tell how the program is called, each with its LF.
@@ -44,20 +46,26 @@ fn usage_report() -> Report
 }
 
 /// The report of a job. For now the words of a command that isn't built are refused.
-fn job_report<S: Shelf>(alloc: Global, job: &Job, shelf: &mut S) -> Result<Report, OutOfMemory>
+fn job_report<S: Shelf>(
+    alloc: Global,
+    job: &Job,
+    shelf: &mut S,
+    advisors: &mut Vec<Box<dyn Advisor>>,
+) -> Result<Report, OutOfMemory>
+    requires { IsInRange (seen job.now) }
     ensures { Gave (S.gave shelf.old shelf.new) (λ came. IfOk result (λ report. MayWrite (Some (seen job.now)) came report.status (bytes_in report.text))) }
 {
     match job {
         Job::Design {
             request,
+            limits,
             configs,
-            ..
         } => {
             let words = FileWords {
                 request: request.as_str(),
                 configs: configs.as_slice(),
             };
-            report_of(alloc, design_report(alloc, words, shelf))
+            report_of(alloc, design_report(alloc, words, limits, shelf, advisors))
         }
         Job::Check {
             request,
@@ -81,6 +89,13 @@ fn job_report<S: Shelf>(alloc: Global, job: &Job, shelf: &mut S) -> Result<Repor
             alloc,
             rewrite_report(alloc, answer.as_str(), config.as_str(), shelf),
         ),
+        Job::Trial { blocks, start } => {
+            let trial = Trial {
+                blocks: *blocks,
+                start: *start,
+            };
+            trial_report(alloc, trial, advisors)
+        }
         _ => Ok(usage_report()),
     }
 }
@@ -98,9 +113,12 @@ fn write_made<K: Sink>(made: Result<Report, OutOfMemory>, out: &mut K) -> Status
 
 /// Runs the program on the words after its name, and tells how it ended.
 ///
-/// `design --request F CONFIG..` reads the request and the configurations from the shelf and writes the text of an
-/// optimal answer to the sink, with status `Done`. For now costs are found only where the lower bounds themselves are
-/// fit; else, and exactly there, the status is `Undecided`.
+/// `design --request F CONFIG..` reads the request and the configurations from the shelf and writes the text of an answer
+/// to the sink: with status `Done` that of best costs, with `Impossible` that no costs are fit, and with `Undecided` that
+/// the budget of `--nodes` was used up at the cap that it names. Each comes with its evidence.
+///
+/// `trial --blocks T` makes a case and designs it with a budget of 100,000 entries. It writes a summary line and, with
+/// `Impossible` and `Undecided`, the answer's text behind it. No file is read.
 ///
 /// `audit --request F CONFIG..` writes a line for each requested path, with status `Done`.
 ///
@@ -110,6 +128,9 @@ fn write_made<K: Sink>(made: Result<Report, OutOfMemory>, out: &mut K) -> Status
 ///
 /// `rewrite --answer A CONFIG` reads the configuration and then the answer's file. It writes the configuration with the
 /// answer's costs of its router, with status `Done`; else `rejected NUMBER PLACE`, with status `EvidenceRefused`.
+///
+/// The advisors are asked where a box is shared out, and told of each entry of a tree. Whatever they answer, all of this
+/// holds.
 ///
 /// The other commands aren't built yet: their words are refused.
 ///
@@ -121,12 +142,18 @@ fn write_made<K: Sink>(made: Result<Report, OutOfMemory>, out: &mut K) -> Status
 /// `InputRefused` with the first fault; `ReadFault` where a file of the words failed; `WriteFault` where the sink's count
 /// of faults rose, and then a part of a text that this call may write was written; `OutOfMemory`, and then nothing was
 /// written; `WordsRefused` off the words, with the usage text.
-pub fn run<S: Shelf, K: Sink>(alloc: Global, words: &[String], shelf: &mut S, out: &mut K) -> Status
+pub fn run<S: Shelf, K: Sink>(
+    alloc: Global,
+    words: &[String],
+    shelf: &mut S,
+    out: &mut K,
+    advisors: &mut Vec<Box<dyn Advisor>>,
+) -> Status
     ensures meets { RunMeets (texts words.now) (S.gave shelf.old shelf.new) (S.held shelf.old) (S.faults shelf.old) (S.faults shelf.new) (K.handed out.old out.new) (K.got out.old) (K.got out.new) (K.faults out.old) (K.faults out.new) result }
     ensures held { (name : List ℕ) → S.held shelf.new name ≡ S.held shelf.old name }
 {
     match read_words(alloc, words) {
-        Ok(job) => write_made(job_report(alloc, &job, shelf), out),
+        Ok(job) => write_made(job_report(alloc, &job, shelf, advisors), out),
         Err(WordsStop::Refused) => write_report(&usage_report(), out),
         Err(WordsStop::OutOfMemory) => Status::OutOfMemory,
     }

@@ -46,7 +46,11 @@ pub(crate) fn greatest_of(costs: &[u16]) -> u16
 }
 
 /// The costs that the lines give so many variables: each line's is written at its variable.
-pub(crate) fn costs_given(
+///
+/// # Errors
+///
+/// `OutOfMemory`.
+pub fn costs_given(
     alloc: Global,
     count: usize,
     names: &[VarName],

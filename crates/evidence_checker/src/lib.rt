@@ -16,5 +16,6 @@ mod sums;
 mod tree;
 
 pub use checker::check;
+pub use costs::costs_given;
 pub use fault::CheckFault;
 pub use stop::{Accepted, CheckStop};

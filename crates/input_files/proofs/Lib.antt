@@ -4,3 +4,4 @@ pub mod Configs
 pub mod Problems
 pub mod ReadyInputs
 pub mod Present
+pub mod Ends

@@ -3,3 +3,4 @@ pub mod Readings
 pub mod Outcomes
 pub mod Configs
 pub mod Stops
+pub mod Ends

@@ -6,8 +6,8 @@ use Rattle.command_words.specs.declared.job.WordsStop.{WordsStop}
 use Rattle.command_words.specs.Jobs.{JobRead, seen}
 use Rattle.command_words.specs.Commands.{job_of}
 use Rattle.command_words.specs.Words.{texts}
-use Rattle.designer_command.specs.Texts.{usage}
-use Rattle.designer_command.specs.Reports.{bytes_in}
+use Rattle.report_writer.specs.Reports.{bytes_in}
+use Rattle.designer_command.specs.Usage.{usage}
 use Rattle.designer_command.specs.Runs.{MayWrite, Writes}
 use Rattle.designer_command.proofs.Runs.{made_meets, written_meets, writes_none, may_report}
 use Rattle.designer_command.proofs.top_call.run.Goals as goal

@@ -1,0 +1,15 @@
+-- The report of the answer to the problem that was read.
+use Rattle.std.proofs.lemmas.Result.{err_from_is_err_and}
+use Rattle.input_files.specs.Stops.{files_named}
+use Rattle.designer_command.proofs.Trials.{tried_found}
+use Rattle.designer_command.proofs.trial.report_on_texts.Goals as goal
+
+pub returns : goal.returns
+returns g c =
+    tried_found (g.S.Shelf.gave c.args.shelf.now c.read_problem.new.shelf) c.args.trial.blocks c.args.trial.start (files_named c.args.words) c.in_ok-problem.problem c.in_ok-report_of_trial.field-0 c.in_ok-problem.ensures.read c.in_ok-report_of_trial.ensures
+
+pub returns-in_err-report_of_trial : goal.returns-in_err-report_of_trial
+returns-in_err-report_of_trial g c =
+    let read = c.in_ok-problem.ensures.read in
+    let p = err_from_is_err_and c.from_residual-in_err-report_of_trial.result c.from_residual-in_err-report_of_trial.ensures.1 in
+    rw (p.1, p.2) (record { came = read.came; given = read.given; so = tt })

@@ -1,0 +1,28 @@
+-- The texts of the case take the place of files.
+use Rattle.std.proofs.Common.{◌≡◌, ℕ, ◌∙◌, sym, ap, subst, List, [], All, length, Some}
+use Rattle.std.specs.Prelude.{codes}
+use Rattle.std.specs.Str.{IsUtf8}
+use Rattle.cost_base.specs.Histories.{HasGiven}
+use Rattle.case_maker.specs.declared.Case.{Case}
+use Rattle.command_words.specs.Words.{texts}
+use Rattle.input_files.specs.Ends.{text_named}
+use Rattle.designer_command.specs.Trials.{case_texts}
+use Rattle.designer_command.proofs.MadeNames.{names_as_texts, names_utf8}
+use Rattle.designer_command.proofs.Trials.{case_tried, given_texts}
+use Rattle.designer_command.proofs.trial.trial_report.Goals as goal
+
+pub shelf_of-requires : goal.shelf_of-requires
+shelf_of-requires g c = subst (λ (case : Case). length case.names ≡ length case.configs) (sym c.in_ok-case.ensures) (names_as_texts c.args.trial.blocks)
+
+pub words_of-requires : goal.words_of-requires
+words_of-requires g c = subst (λ (names : List (List ℕ)). All IsUtf8 names) (sym (c.as_slice.ensures ∙ ap (λ (case : Case). case.names) c.in_ok-case.ensures)) (names_utf8 c.args.trial.blocks)
+
+pub returns : goal.returns
+returns g c =
+    let before = c.in_ok-shelf.shelf.files.items in
+    let now = c.report_on_texts.new.shelf.files.items in
+    let names : texts c.as_slice-2.result.now ≡ c.in_ok-case.case.names = ap texts c.as_slice-2.ensures.value ∙ c.in_ok-configs.ensures ∙ c.as_slice.ensures in
+    case_tried (λ came. HasGiven (λ name. Some (text_named before name)) (λ name. Some (text_named now name)) [] [] came) c.args.trial.blocks c.args.trial.start c.in_ok-case.case
+    (record { request = codes "request.txt"; configs = texts c.as_slice-2.result.now }) c.report_on_texts.result c.report_of.result
+    (λ came given. given_texts (case_texts c.in_ok-case.case) before now came c.in_ok-shelf.ensures given)
+    (ap (λ (ns : List (List ℕ)). record { request = codes "request.txt"; configs = ns }) names) c.in_ok-case.ensures c.report_on_texts.ensures c.report_of.ensures

@@ -1,0 +1,101 @@
+//! The lines that a run writes beside an answer.
+ghost use Rattle.std.specs.Prelude.{◌≡◌, ◌++◌, IfOk, OnOk};
+ghost use Rattle.cost_base.specs.Decimal.{decimal};
+ghost use Rattle.report_writer.specs.Texts.{refused_line, read_fault_line, accepted_line, rejected_line};
+
+use answer_commands::Rejection;
+use cost_base::OutOfMemory;
+use evidence_checker::Accepted;
+use std::alloc::Global;
+use text_lines::number_bytes;
+
+/// Adds bytes at the end.
+pub fn push_bytes(line: &mut Vec<u8>, bytes: &[u8]) -> Result<(), OutOfMemory>
+    ensures { OnOk result (line.new.items ≡ line.old.items ++ bytes.now) }
+{
+    line.extend_from_slice(bytes)?;
+    Ok(())
+}
+
+/// Adds the decimal digits of a number at the end.
+pub fn push_number(line: &mut Vec<u8>, number: u128) -> Result<(), OutOfMemory>
+    ensures { OnOk result (line.new.items ≡ line.old.items ++ decimal number) }
+{
+    let mut room = [0; 40];
+    let length = number_bytes(number, &mut room);
+    push_bytes(line, &room[..length])
+}
+
+/// The line `refused NUMBER FILE LINE`.
+pub(crate) fn refused_line_of(
+    alloc: Global,
+    number: u8,
+    file: &str,
+    line: u32,
+) -> Result<Vec<u8>, OutOfMemory>
+    ensures { IfOk result (λ text. text.items ≡ refused_line (record { number = number; file = file.now; line = line })) }
+{
+    let mut text = Vec::new(alloc);
+    push_bytes(&mut text, b"refused ")?;
+    push_number(&mut text, u128::from(number))?;
+    push_bytes(&mut text, b" ")?;
+    push_bytes(&mut text, file.as_bytes())?;
+    push_bytes(&mut text, b" ")?;
+    push_number(&mut text, u128::from(line))?;
+    push_bytes(&mut text, b"\n")?;
+    Ok(text)
+}
+
+/// The line `read fault FILE`.
+pub(crate) fn read_fault_line_of(alloc: Global, file: &str) -> Result<Vec<u8>, OutOfMemory>
+    ensures { IfOk result (λ text. text.items ≡ read_fault_line (file.now)) }
+{
+    let mut text = Vec::new(alloc);
+    push_bytes(&mut text, b"read fault ")?;
+    push_bytes(&mut text, file.as_bytes())?;
+    push_bytes(&mut text, b"\n")?;
+    Ok(text)
+}
+
+/// The line `accepted optimal K`.
+fn optimal_line_of(alloc: Global, greatest: u16) -> Result<Vec<u8>, OutOfMemory>
+    ensures { IfOk result (λ text. text.items ≡ accepted_line (Accepted.Optimal greatest)) }
+{
+    let mut text = Vec::new(alloc);
+    push_bytes(&mut text, b"accepted optimal ")?;
+    push_number(&mut text, u128::from(greatest))?;
+    push_bytes(&mut text, b"\n")?;
+    Ok(text)
+}
+
+/// The line `accepted impossible`.
+fn impossible_line_of(alloc: Global) -> Result<Vec<u8>, OutOfMemory>
+    ensures { IfOk result (λ text. text.items ≡ accepted_line Accepted.Impossible) }
+{
+    let mut text = Vec::new(alloc);
+    push_bytes(&mut text, b"accepted impossible\n")?;
+    Ok(text)
+}
+
+/// The line that tells what was accepted.
+pub fn accepted_line_of(alloc: Global, accepted: Accepted) -> Result<Vec<u8>, OutOfMemory>
+    ensures { IfOk result (λ text. text.items ≡ accepted_line accepted) }
+{
+    match accepted {
+        Accepted::Optimal(greatest) => optimal_line_of(alloc, greatest),
+        Accepted::Impossible => impossible_line_of(alloc),
+    }
+}
+
+/// The line `rejected NUMBER PLACE`.
+pub fn rejected_line_of(alloc: Global, rejection: Rejection) -> Result<Vec<u8>, OutOfMemory>
+    ensures { IfOk result (λ text. text.items ≡ rejected_line rejection) }
+{
+    let mut text = Vec::new(alloc);
+    push_bytes(&mut text, b"rejected ")?;
+    push_number(&mut text, u128::from(rejection.number))?;
+    push_bytes(&mut text, b" ")?;
+    push_number(&mut text, u128::from(rejection.place))?;
+    push_bytes(&mut text, b"\n")?;
+    Ok(text)
+}

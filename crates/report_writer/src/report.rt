@@ -1,0 +1,75 @@
+//! What a command reports: a status, and the text that goes with it.
+ghost use Rattle.std.specs.Prelude.{◌≡◌};
+ghost use Rattle.report_writer.specs.Reports.{Reports, ReportsAny, ReportsStop, bytes_in};
+
+use crate::lines::{read_fault_line_of, refused_line_of};
+use cost_base::{OutOfMemory, Status};
+use input_files::Stop;
+use std::alloc::Global;
+
+/// A text that was made, or one that is always the same.
+#[derive(Drop)]
+pub enum Text {
+    /// A text that was made.
+    Made(Vec<u8>),
+    /// A text that takes no memory.
+    Fixed(&'static str),
+}
+
+impl Text {
+    /// The bytes of the text.
+    pub fn as_bytes(&self) -> &[u8]
+        ensures { result.now ≡ bytes_in self.now }
+    {
+        match self {
+            Text::Made(bytes) => bytes.as_slice(),
+            Text::Fixed(text) => text.as_bytes(),
+        }
+    }
+}
+
+/// The status that a run ends with where its whole text is written, and the text.
+#[derive(Drop)]
+pub struct Report {
+    pub status: Status,
+    pub text: Text,
+}
+
+impl Report {
+    /// The report of a text that was made.
+    pub fn made(status: Status, text: Vec<u8>) -> Report
+        ensures { Reports status text.items result }
+    {
+        Report {
+            status,
+            text: Text::Made(text),
+        }
+    }
+}
+
+/// The report of what stopped a command before its own work.
+fn report_of_stop(alloc: Global, stop: Stop<'_>) -> Result<Report, OutOfMemory>
+    ensures { ReportsStop stop.entry result }
+{
+    match stop {
+        Stop::Refused { number, file, line } => {
+            let text = refused_line_of(alloc, number, file, line)?;
+            Ok(Report::made(Status::InputRefused, text))
+        }
+        Stop::ReadFault { file } => {
+            let text = read_fault_line_of(alloc, file)?;
+            Ok(Report::made(Status::ReadFault, text))
+        }
+        Stop::OutOfMemory => Err(OutOfMemory),
+    }
+}
+
+/// A command's report, or that of what stopped it.
+pub fn report_of(alloc: Global, made: Result<Report, Stop<'_>>) -> Result<Report, OutOfMemory>
+    ensures { ReportsAny made.entry result }
+{
+    match made {
+        Ok(report) => Ok(report),
+        Err(stop) => report_of_stop(alloc, stop),
+    }
+}
