@@ -18,7 +18,7 @@ impl Advisor for Turns {
 
     ghost would = { λ state _. if slice_index state 0 == 0 then slice_index state 1 else 0 };
 
-    ghost left = { λ state _. slice_index state 0 - 1 ∷ slice_index state 1 ∷ [] };
+    ghost left = { λ state _. (slice_index state 0 - 1) ∷ slice_index state 1 ∷ [] };
 
     ghost after = { λ state _. state };
 
