@@ -4,7 +4,6 @@
 use advisor_box::{Advisor, SmallestNumber};
 use cost_base::{FileShelf, OutOfMemory, OutSink, Status};
 use designer_command::run;
-use std::alloc::Global;
 use std::env::{self, Env};
 use std::io::{self, ErrorKind};
 use std::process::ExitCode;
@@ -21,24 +20,20 @@ fn words_given(rt: &(impl Env + AllocGlobal)) -> Result<Vec<String>, Status> {
     }
 }
 
-/// Puts the advisor that picks the variable of the smallest number on a list.
-fn add_advisor(alloc: Global, advisors: &mut Vec<Box<dyn Advisor>>) -> Result<(), OutOfMemory> {
-    advisors.push(Box::new(alloc, SmallestNumber)?)?;
-    Ok(())
+/// Runs the words over the machine's files and standard output, with the advisor that picks the first candidate.
+fn run_words(rt: &HostRuntime, words: &[String]) -> Result<Status, OutOfMemory> {
+    let mut advisors: Vec<Box<dyn Advisor>> = Vec::new(rt.alloc());
+    advisors.push(Box::new(rt.alloc(), SmallestNumber)?)?;
+    let mut shelf = FileShelf::new(rt.alloc(), rt);
+    let mut out = OutSink::new(io::writer(rt));
+    Ok(run(rt.alloc(), words, &mut shelf, &mut out, &mut advisors))
 }
 
-/// Runs the words over the machine's files and standard output, and ends with the run's status.
+/// Runs the words that the program was given, and ends with the run's status.
 fn main(rt: HostRuntime) -> ExitCode {
-    let words = match words_given(&rt) {
-        Ok(words) => words,
-        Err(status) => return ExitCode::from(status.number()),
+    let status = match words_given(&rt) {
+        Ok(words) => run_words(&rt, &words).unwrap_or(Status::OutOfMemory),
+        Err(status) => status,
     };
-    let mut advisors: Vec<Box<dyn Advisor>> = Vec::new(rt.alloc());
-    if add_advisor(rt.alloc(), &mut advisors).is_err() {
-        return ExitCode::from(Status::OutOfMemory.number());
-    }
-    let mut shelf = FileShelf::new(rt.alloc(), &rt);
-    let mut out = OutSink::new(io::writer(&rt));
-    let status = run(rt.alloc(), &words, &mut shelf, &mut out, &mut advisors);
     ExitCode::from(status.number())
 }

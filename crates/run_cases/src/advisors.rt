@@ -1,8 +1,7 @@
 //! Advisors of a case.
 
-use advisor_box::{Advisor, Candidate, SmallestNumber};
+use advisor_box::{Advisor, Candidate};
 use path_rows::Entry;
-use std::alloc::{AllocError, Global};
 
 /// An advisor of a case.
 #[derive(Clone, Copy)]
@@ -15,8 +14,8 @@ pub enum Adviser {
 
 /// Always picks one position.
 #[derive(Drop)]
-struct Always {
-    position: u32,
+pub struct Always {
+    pub position: u32,
 }
 
 impl Advisor for Always {
@@ -35,19 +34,4 @@ impl Advisor for Always {
     }
 
     fn told(&mut self, _entry: &Entry) {}
-}
-
-/// The advisors, in order.
-pub fn advisors_of(
-    alloc: Global,
-    advisers: &[Adviser],
-) -> Result<Vec<Box<dyn Advisor>>, AllocError> {
-    let mut advisors: Vec<Box<dyn Advisor>> = Vec::new(alloc);
-    for adviser in advisers {
-        match *adviser {
-            Adviser::Picks(position) => advisors.push(Box::new(alloc, Always { position })?)?,
-            Adviser::SmallestNumber => advisors.push(Box::new(alloc, SmallestNumber)?)?,
-        }
-    }
-    Ok(advisors)
 }

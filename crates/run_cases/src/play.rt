@@ -1,7 +1,8 @@
 //! A run of a case, compared with what it is to come to.
 
-use crate::advisors::advisors_of;
+use crate::advisors::{Adviser, Always};
 use crate::case::{Case, Wanted};
+use advisor_box::{Advisor, SmallestNumber};
 use anyhow::{Result, anyhow};
 use cost_base::{MemoryShelf, MemorySink, Status, SureShelf, SureSink};
 use designer_command::run;
@@ -71,7 +72,13 @@ fn difference_with(
 
 /// Runs the words of a case over its files, and tells what differs from what is wanted, or None.
 pub fn play(alloc: Global, case: Case) -> Result<Option<String>> {
-    let mut advisors = advisors_of(alloc, &case.advisers)?;
+    let mut advisors: Vec<Box<dyn Advisor>> = Vec::new(alloc);
+    for adviser in case.advisers.as_slice() {
+        match *adviser {
+            Adviser::Picks(position) => advisors.push(Box::new(alloc, Always { position })?)?,
+            Adviser::SmallestNumber => advisors.push(Box::new(alloc, SmallestNumber)?)?,
+        }
+    }
     if case.is_sure {
         let mut shelf = SureShelf::new(case.files);
         let mut sink = SureSink::new(alloc, ROOM).map_err(|_| anyhow!("out of memory"))?;

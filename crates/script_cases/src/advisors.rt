@@ -2,11 +2,10 @@
 
 use advisor_box::{Advisor, Candidate};
 use path_rows::Entry;
-use std::alloc::{AllocError, Global};
 
 /// Picks the first candidate in so many calls, and then one position, be there such a candidate or not.
 #[derive(Drop)]
-struct Turns {
+pub struct Turns {
     calls: u32,
     position: u32,
 }
@@ -34,7 +33,7 @@ impl Advisor for Turns {
 }
 
 /// The advisor of a number: it always picks that position; of -N the first candidate in N calls and then position 4000.
-fn advisor_of(number: i64) -> Turns {
+pub fn advisor_of(number: i64) -> Turns {
     match u32::try_from(number) {
         Ok(position) => Turns { calls: 0, position },
         Err(_) => Turns {
@@ -42,13 +41,4 @@ fn advisor_of(number: i64) -> Turns {
             position: 4000,
         },
     }
-}
-
-/// An advisor for each of these numbers.
-pub fn advisors_of(alloc: Global, numbers: &[i64]) -> Result<Vec<Box<dyn Advisor>>, AllocError> {
-    let mut advisors: Vec<Box<dyn Advisor>> = Vec::new(alloc);
-    for number in numbers {
-        advisors.push(Box::new(alloc, advisor_of(*number))?)?;
-    }
-    Ok(advisors)
 }

@@ -2,9 +2,10 @@
 ghost use Rattle.std.specs.Prelude.{◌≤◌, All, IsTrue};
 ghost use Rattle.path_rows.specs.Boxes.{IsBox};
 
-use crate::advisors::advisors_of;
+use crate::advisors::advisor_of;
 use crate::scene::Scene;
 use crate::words::Line;
+use advisor_box::Advisor;
 use exact_simplex::is_box;
 use form_search::{FormPool, Found, RowSource, search};
 use path_rows::{CostBox, Tree};
@@ -75,7 +76,10 @@ pub fn search_text(
         return String::from_str(alloc, ": not searched");
     }
     let mut pool = FormPool::new(alloc);
-    let mut advisors = advisors_of(alloc, picks)?;
+    let mut advisors: Vec<Box<dyn Advisor>> = Vec::new(alloc);
+    for number in picks {
+        advisors.push(Box::new(alloc, advisor_of(*number))?)?;
+    }
     let found = search(
         alloc,
         &mut scene.rows,
