@@ -35,7 +35,7 @@ faultless_push lsas lsa before types few new metric = record {
     by_kind false room count = omega (arith, count, before.routers)
 
 -- the fault of the bytes that say an LSA is the fault of that LSA
-said_fault : (before : List Lsa) (bytes : List ℕ) (lsas : List Lsa) → body_fault bytes ≡ None → lsas ≡ said_by bytes → fault_of before bytes ≡ faults_behind before lsas
+pub said_fault : (before : List Lsa) (bytes : List ℕ) (lsas : List Lsa) → body_fault bytes ≡ None → lsas ≡ said_by bytes → fault_of before bytes ≡ faults_behind before lsas
 said_fault before bytes lsas none said =
     ap (λ (fault : Option LsaFault). option_or fault (faults_behind before (said_by bytes))) none ∙ ap (faults_behind before) (sym said)
 

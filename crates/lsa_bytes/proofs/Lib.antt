@@ -6,3 +6,4 @@ pub mod Underway
 pub mod Spots
 pub mod EdgeSteps
 pub mod GraphFits
+pub mod RoundTrip

@@ -8,3 +8,4 @@ pub mod Seen
 pub mod AreaGraphs
 pub mod Vertices
 pub mod Ids
+pub mod Written

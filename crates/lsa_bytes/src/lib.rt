@@ -95,5 +95,5 @@ mod vertices;
 
 pub use graphs::graph_of_lsas;
 pub use ids::{IdFault, check_ids};
-pub use reading::{comes_to_one, read_lsas};
+pub use reading::{comes_to_one, read_lsas, written_is_read};
 pub use stop::{LsaFault, LsaStop};

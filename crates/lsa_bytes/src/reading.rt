@@ -1,10 +1,12 @@
 //! Reading files of LSAs.
-ghost use Rattle.std.specs.Prelude.{◌≡◌, ◌<◌, ◌≤◌, ◌^◌, ◌-◌, None, Ok, Err, length, List, ℕ, MatchResult, Result};
+ghost use Rattle.std.specs.Prelude.{◌≡◌, ◌<◌, ◌≤◌, ◌^◌, ◌-◌, None, Ok, Err, length, List, ℕ, All, map, MatchResult, Result};
 ghost use Rattle.lsa_bytes.specs.declared.Lsa.{Lsa as OneLsa};
 ghost use Rattle.lsa_bytes.specs.declared.stop.LsaFault.{LsaFault as OneFault};
 ghost use Rattle.lsa_bytes.specs.Grammar.{length_of};
 ghost use Rattle.lsa_bytes.specs.Faults.{Tells, length_fault};
-ghost use Rattle.lsa_bytes.specs.Files.{ComesTo, Refuses};
+ghost use Rattle.lsa_bytes.specs.Databases.{HaveNoFault};
+ghost use Rattle.lsa_bytes.specs.Files.{ComesTo, Refuses, Say};
+ghost use Rattle.lsa_bytes.specs.Written.{IsWritable, Masked, bytes_of_all};
 
 use crate::bodies::HEADER_LENGTH;
 use crate::fields::number_16;
@@ -56,4 +58,9 @@ pub fn read_lsas(alloc: Global, bytes: &[u8]) -> Result<Database, LsaStop>
 /// Bytes come to one thing: to one list of LSAs, or to one fault at one offset. A law, which takes no time.
 pub fn comes_to_one()
     ensures { (bytes : List ℕ) (a b : Result (List OneLsa) (OneFault × ℕ)) → ComesTo bytes a → ComesTo bytes b → a ≡ b }
+{}
+
+/// The bytes of LSAs without a fault, one after the other, say these LSAs. A law, which takes no time.
+pub fn written_is_read()
+    ensures { (lsas : List Masked) → All IsWritable lsas → HaveNoFault (map (λ m. m.lsa) lsas) → Say (bytes_of_all lsas) (map (λ m. m.lsa) lsas) }
 {}
