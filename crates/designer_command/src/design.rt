@@ -46,6 +46,7 @@ pub(crate) fn answer_to(
     limits: &Limits,
     advisors: &mut Vec<Box<dyn Advisor>>,
 ) -> Result<Answer, OutOfMemory>
+    requires itself { problem.now ≡ problem.now }
     ensures { IfOk result (IsAnswerTo (bounds limits.now) problem.now) }
 {
     let _bounds = &problem.low;
