@@ -1,30 +1,27 @@
 -- What each decided cap tells of the least greatest cost.
-use Rattle.std.proofs.Common.{◌≡◌, ℕ, zero, suc, ◌+◌, ◌*◌, ◌<◌, ◌≤◌, refl, sym, ◌∙◌, ap, subst, List, [], ◌∷◌, ◌++◌, map, length, fold, max, min, arith}
-use Rattle.std.specs.Prelude.{All, Contains, Option, None, Some, slice_index}
-use Rattle.std.proofs.lemmas.List.{length-map, map-append, get_or-map, get_or_default}
+use Rattle.std.proofs.Common.{◌≡◌, ℕ, ◌+◌, ◌<◌, ◌≤◌, refl, sym, ◌∙◌, ap, subst, List, [], ◌∷◌, ◌++◌, length, min, arith}
+use Rattle.std.specs.Prelude.{Option, None, Some}
+use Rattle.std.proofs.lemmas.List.{length-map, map-append, get_or-map}
 use Rattle.area_graph.specs.declared.Point.{Point}
 use Rattle.path_rows.specs.declared.form.Form.{Form}
 use Rattle.path_rows.specs.declared.form.CostBox.{CostBox}
 use Rattle.path_rows.specs.declared.tree.Entry.{Entry}
-use Rattle.path_rows.specs.declared.tree.Entry.TheVariants.{Undone}
 use Rattle.path_rows.specs.declared.answer.CapTree.{CapTree}
 use Rattle.path_rows.specs.Problems.{DesignProblem, IsProblem}
 use Rattle.path_rows.specs.Boxes.{IsInBox, capped}
 use Rattle.path_rows.specs.Rows.{IsFit, LeadsEach, box_of, form_of_row, forms_of_rows, greatest_cost}
-use Rattle.path_rows.specs.Trees.{IsClosed, entry_count}
 use Rattle.path_rows.specs.Earnest.{Place, Earnest, IsEarnestTree, subplaces}
 use Rattle.path_rows.specs.OpenPlaces.{Opens}
-use Rattle.path_rows.specs.Answers.{greatest_bound}
 use Rattle.path_rows.proofs.OpenPlaces.{earnest_tree_sound, opens_ends}
 use Rattle.path_rows.proofs.ProblemTrees.{le_greatest, tree_bounds}
 use Rattle.path_rows.proofs.Renumbering.{opens_kept}
 use Rattle.cost_branching.specs.Pools.{Pooled, IsPool, MoreRows}
 use Rattle.cost_branching.specs.Decisions.{IsDecided, IsTreeAt}
-use Rattle.form_search.specs.declared.found.Found.TheVariants.{Costs as FoundCosts, Refuted, Spent}
+use Rattle.form_search.specs.declared.found.Found.TheVariants.{Costs as FoundCosts, Refuted}
 use Rattle.least_bound.specs.declared.progress.Best.{Best}
 use Rattle.least_bound.specs.declared.progress.Best.TheVariants.{NoCosts, Costs, Between}
 use Rattle.least_bound.specs.declared.progress.Progress.{Progress}
-use Rattle.least_bound.proofs.CostLaws.{greatest-le}
+use Rattle.printed_rows.proofs.CostLaws.{greatest-le}
 use Rattle.least_bound.specs.Caps.{BestHolds, IsKeptAt, IsProgress, IsRefuted, IsSpent}
 
 -- costs of the box at a cap are at most the cap
@@ -35,25 +32,11 @@ within_cap box cap w inside = greatest-le w cap (λ k k_in.
     let below = inside.below k k_in in
     omega arith)
 
--- a cap from the greatest lower bound on is below no lower bound
-pub no_low_above : (low : List ℕ) (cap : ℕ) → greatest_cost low ≤ cap → All (λ l. l ≤ cap) low
-no_low_above low cap from k d k_in =
-    let most = le_greatest low k k_in in
-    let same = get_or_default low k 0 d k_in in
-    omega arith
-
 -- fit costs have a greatest cost from the greatest lower bound on
 pub floor_lowest : (p : DesignProblem) (w : List ℕ) → IsFit p w → greatest_cost p.low ≤ greatest_cost w
 floor_lowest p w fit = greatest-le p.low (greatest_cost w) (λ k k_in.
     let low = fit.within.above k (omega (arith, fit.within.low_count)) in
     let most = le_greatest w k (omega (arith, fit.within.low_count)) in
-    omega arith)
-
--- the greatest upper bound is below no lower bound
-pub floor_below_ceiling : (p : DesignProblem) → IsProblem p → greatest_cost p.low ≤ greatest_bound p
-floor_below_ceiling p kept = greatest-le p.low (greatest_bound p) (λ k k_in.
-    let ordered = (kept.ordered k k_in).1 in
-    let most = le_greatest p.high k (omega (arith, kept.low_count)) in
     omega arith)
 
 earnest_opens : (accepts : Point → Type 0) (top : ℕ) (forms : List Form) (places : List Place) (entries : List Entry) → Earnest accepts top forms places entries → Opens accepts top forms places entries []

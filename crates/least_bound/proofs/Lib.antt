@@ -1,9 +1,3 @@
-pub mod CostLaws
-pub mod RenumberedTrees
-pub mod TreeLines
-pub mod RowLines
-pub mod AnswerLines
 pub mod CapLaws
+pub mod CostLaws
 pub mod ValidAnswers
-pub mod UsedRowLaws
-pub mod NewNumbers

@@ -1,6 +1,5 @@
 -- What is answered to a problem: best costs, that there are none, or that the budget was used up.
-use Rattle.std.specs.Prelude.{◌≡◌, ℕ, ◌<◌, ◌≤◌, List, All, Contains, Option, None, Some}
-use Rattle.path_rows.specs.declared.tree.Entry.TheVariants.{Undone}
+use Rattle.std.specs.Prelude.{◌≡◌, ℕ, ◌<◌, ◌≤◌, List, All, Option, None, Some}
 use Rattle.path_rows.specs.declared.answer.CapTree.{CapTree}
 use Rattle.path_rows.specs.declared.answer.Costs.{Costs}
 use Rattle.path_rows.specs.declared.answer.Floor.TheVariants.{Absent}
@@ -8,30 +7,16 @@ use Rattle.path_rows.specs.declared.answer.Verdict.{Verdict}
 use Rattle.path_rows.specs.declared.answer.Verdict.TheVariants.{Optimal, Impossible, Budget}
 use Rattle.path_rows.specs.declared.form.Row.{Row}
 use Rattle.path_rows.specs.Problems.{DesignProblem}
-use Rattle.path_rows.specs.Boxes.{capped}
-use Rattle.path_rows.specs.Rows.{IsRow, box_of}
-use Rattle.path_rows.specs.Trees.{entry_count}
-use Rattle.path_rows.specs.Earnest.{IsEarnestFor}
-use Rattle.path_rows.specs.OpenPlaces.{UndoneLast}
+use Rattle.path_rows.specs.Rows.{IsRow}
 use Rattle.path_rows.specs.Answers.{AnswerParts, IsValid, GivesCosts, Proves, greatest_bound}
+use Rattle.printed_rows.specs.PrintedTrees.{IsPrintedTree, IsSpentTree}
 
--- a tree that is printed: earnest over the box at its cap, no other entry after an Undone, and at most N entries
-pub record IsPrintedTree (p : DesignProblem) (top nodes : ℕ) (rows : List Row) (t : CapTree) : Type 0 where
-  pub earnest : IsEarnestFor p top rows (capped (box_of p) t.cap) t.tree
-  pub last : UndoneLast t.tree
-  pub few : entry_count t.tree ≤ nodes
-
--- so is a proof that stands
+-- a proof that stands is printed as an earnest tree
 abbrev pub ProofIsPrinted : DesignProblem → ℕ → ℕ → List Row → Option CapTree → Type 0
 ProofIsPrinted p top nodes rows None = Unit {0}
 ProofIsPrinted p top nodes rows (Some proof) = IsPrintedTree p top nodes rows proof
 
--- Spent budget: the tree has an Undone and exactly N entries
-pub record IsSpentTree (p : DesignProblem) (top nodes : ℕ) (rows : List Row) (t : CapTree) : Type 0 where
-  pub printed : IsPrintedTree p top nodes rows t
-  pub undone : Contains t.tree Undone
-  pub spent : entry_count t.tree ≡ nodes
-
+-- the tree of spent budget, which is at the cap
 abbrev pub UnfinishedAt : DesignProblem → ℕ → ℕ → List Row → ℕ → Option CapTree → Type 0
 UnfinishedAt p top nodes rows cap None = ⊥
 UnfinishedAt p top nodes rows cap (Some t) = (t.cap ≡ cap) × IsSpentTree p top nodes rows t

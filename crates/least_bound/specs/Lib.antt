@@ -1,4 +1,3 @@
 pub mod Answered
 pub mod Caps
 pub mod Printing
-pub mod UsedRows

@@ -3,37 +3,37 @@ ghost use Rattle.std.specs.Prelude.{◌≡◌, ℕ, ◌≤◌, IfOk, IfSome};
 ghost use Rattle.std.specs.Option.{option_copied};
 ghost use Rattle.path_rows.specs.Rows.{IsFit, greatest_cost};
 ghost use Rattle.path_rows.specs.Answers.{greatest_bound};
+ghost use Rattle.printed_rows.specs.PrintedCosts.{ArePrintedCosts};
 ghost use Rattle.cost_branching.specs.Pools.{IsPool};
 ghost use Rattle.least_bound.specs.Answered.{IsAnswered};
 ghost use Rattle.least_bound.specs.Caps.{IsKeptAt, IsKeptBelow, IsProgress, IsLeastFound, IsRefuted, IsSpent, CostsFound};
 ghost use Rattle.least_bound.specs.Printing.{ArePrintedIfAny, IsFloorFor};
 
-use crate::cost_lines::printed_costs;
 use crate::greatest::floor_of;
-use crate::printing::printed_parts;
 use crate::problem_law::keeps_problem;
 use crate::progress::{Best, Progress};
 use cost_base::OutOfMemory;
 use cost_branching::Pool;
 use path_rows::{Answer, CapTree, CostList, Costs, Floor, Problem, Tree, Verdict};
+use printed_rows::{printed_both, printed_costs};
 use std::alloc::Global;
 
 /// That no costs are fit, with the closed tree at the greatest upper bound.
 pub(crate) fn impossible(
     alloc: Global,
     problem: &Problem,
-    pool: &Pool,
+    pool: Pool,
     ceiling: u16,
     tree: Tree,
 ) -> Result<Answer, OutOfMemory>
-    requires pool { IsPool problem.now pool.now }
+    requires pool { IsPool problem.now pool }
     requires ceiling { ceiling ≡ greatest_bound problem.now }
-    requires refuted { (top : ℕ) × (nodes : ℕ) × (nodes ≤ 10000000) × IsRefuted problem.now top nodes pool.now (record { cap = ceiling; tree = tree }) }
-    ensures { (top nodes : ℕ) → IsRefuted problem.now top nodes pool.now (record { cap = ceiling; tree = tree }) → IfOk result (IsAnswered problem.now top nodes) }
+    requires refuted { (top : ℕ) × (nodes : ℕ) × (nodes ≤ 10000000) × IsRefuted problem.now top nodes pool (record { cap = ceiling; tree = tree }) }
+    ensures { (top nodes : ℕ) → IsRefuted problem.now top nodes pool (record { cap = ceiling; tree = tree }) → IfOk result (IsAnswered problem.now top nodes) }
 {
     keeps_problem(problem);
     let proof = CapTree { cap: ceiling, tree };
-    let printed = printed_parts(alloc, pool.rows(), Some(proof), None)?;
+    let printed = printed_both(alloc, pool.into_rows(), Some(&proof), None)?;
     Ok(Answer {
         verdict: Verdict::Impossible,
         costs: None,
@@ -58,19 +58,19 @@ fn floor_without(problem: &Problem, kept: &Option<CapTree>) -> Floor
 fn optimal(
     alloc: Global,
     problem: &Problem,
-    pool: &Pool,
+    pool: Pool,
     costs: &CostList,
     kept: Option<CapTree>,
 ) -> Result<Answer, OutOfMemory>
-    requires pool { IsPool problem.now pool.now }
+    requires pool { IsPool problem.now pool }
     requires fit { IsFit problem.now costs.now }
-    requires kept { (top : ℕ) × (nodes : ℕ) × (nodes ≤ 10000000) × IsKeptAt problem.now top nodes pool.now (greatest_cost costs.now) kept }
-    ensures { (top nodes : ℕ) → IsKeptAt problem.now top nodes pool.now (greatest_cost costs.now) kept → IfOk result (IsAnswered problem.now top nodes) }
+    requires kept { (top : ℕ) × (nodes : ℕ) × (nodes ≤ 10000000) × IsKeptAt problem.now top nodes pool (greatest_cost costs.now) kept }
+    ensures { (top nodes : ℕ) → IsKeptAt problem.now top nodes pool (greatest_cost costs.now) kept → IfOk result (IsAnswered problem.now top nodes) }
 {
     keeps_problem(problem);
     let floor = floor_without(problem, &kept);
-    let printed = printed_parts(alloc, pool.rows(), kept, None)?;
-    let costs = printed_costs(alloc, problem, costs.as_slice())?;
+    let printed = printed_both(alloc, pool.into_rows(), kept.as_ref(), None)?;
+    let costs = printed_fit(alloc, problem, costs)?;
     Ok(Answer {
         verdict: Verdict::Optimal(costs.greatest),
         costs: Some(costs),
@@ -79,6 +79,15 @@ fn optimal(
         proof: printed.proof,
         unfinished: printed.unfinished,
     })
+}
+
+/// Fit costs as they are printed.
+fn printed_fit(alloc: Global, problem: &Problem, costs: &CostList) -> Result<Costs, OutOfMemory>
+    requires { IsFit problem.now costs.now }
+    ensures { IfOk result (ArePrintedCosts problem.now costs.now) }
+{
+    keeps_problem(problem);
+    printed_costs(alloc, problem, costs.as_slice())
 }
 
 /// The costs as they are printed, if there are some.
@@ -91,7 +100,7 @@ fn printed_if_any(
     ensures { IfOk result (ArePrintedIfAny problem.now (option_copied costs.entry)) }
 {
     match costs {
-        Some(costs) => Ok(Some(printed_costs(alloc, problem, costs.as_slice())?)),
+        Some(costs) => Ok(Some(printed_fit(alloc, problem, costs)?)),
         None => Ok(None),
     }
 }
@@ -108,20 +117,20 @@ fn cap_of(tree: &CapTree) -> u16
 fn undecided(
     alloc: Global,
     problem: &Problem,
-    pool: &Pool,
+    pool: Pool,
     costs: Option<&CostList>,
     kept: Option<CapTree>,
     unfinished: CapTree,
 ) -> Result<Answer, OutOfMemory>
-    requires pool { IsPool problem.now pool.now }
+    requires pool { IsPool problem.now pool }
     requires from_floor { greatest_cost problem.now.low ≤ unfinished.cap }
     requires costs { CostsFound problem.now unfinished.cap (option_copied costs) }
-    requires trees { (top : ℕ) × (nodes : ℕ) × (nodes ≤ 10000000) × IsKeptBelow problem.now top nodes pool.now unfinished.cap kept × IsSpent problem.now top nodes pool.now unfinished }
-    ensures { (top nodes : ℕ) → IsKeptBelow problem.now top nodes pool.now unfinished.cap kept → IsSpent problem.now top nodes pool.now unfinished → IfOk result (IsAnswered problem.now top nodes) }
+    requires trees { (top : ℕ) × (nodes : ℕ) × (nodes ≤ 10000000) × IsKeptBelow problem.now top nodes pool unfinished.cap kept × IsSpent problem.now top nodes pool unfinished }
+    ensures { (top nodes : ℕ) → IsKeptBelow problem.now top nodes pool unfinished.cap kept → IsSpent problem.now top nodes pool unfinished → IfOk result (IsAnswered problem.now top nodes) }
 {
     keeps_problem(problem);
     let cap = cap_of(&unfinished);
-    let printed = printed_parts(alloc, pool.rows(), kept, Some(unfinished))?;
+    let printed = printed_both(alloc, pool.into_rows(), kept.as_ref(), Some(&unfinished))?;
     Ok(Answer {
         verdict: Verdict::Budget(cap),
         costs: printed_if_any(alloc, problem, costs)?,
@@ -138,12 +147,12 @@ impl Progress {
         self,
         alloc: Global,
         problem: &Problem,
-        pool: &Pool,
+        pool: Pool,
     ) -> Result<Answer, OutOfMemory>
-        requires pool { IsPool problem.now pool.now }
+        requires pool { IsPool problem.now pool }
         requires ended { IsLeastFound self.least self.most self.best }
-        requires progress { (top : ℕ) × (nodes : ℕ) × (nodes ≤ 10000000) × IsProgress problem.now top nodes pool.now self }
-        ensures { (top nodes : ℕ) → IsProgress problem.now top nodes pool.now self → IfOk result (IsAnswered problem.now top nodes) }
+        requires progress { (top : ℕ) × (nodes : ℕ) × (nodes ≤ 10000000) × IsProgress problem.now top nodes pool self }
+        ensures { (top nodes : ℕ) → IsProgress problem.now top nodes pool self → IfOk result (IsAnswered problem.now top nodes) }
     {
         let Progress { kept, best, .. } = self;
         match best {

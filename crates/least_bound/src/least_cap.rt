@@ -6,13 +6,13 @@ ghost use Rattle.least_bound.specs.Answered.{IsAnswered};
 ghost use Rattle.least_bound.specs.Caps.{IsProgress};
 
 use crate::answering::impossible;
-use crate::greatest::greatest_of;
 use crate::problem_law::keeps_problem;
 use crate::progress::{Best, Progress};
 use advisor_box::Advisor;
 use cost_base::OutOfMemory;
 use cost_branching::{Found, Pool, decide};
 use path_rows::{Answer, CapTree, Problem};
+use printed_rows::greatest_of;
 use std::alloc::Global;
 use wide_fraction::Limits;
 
@@ -39,7 +39,7 @@ fn narrowed(
         let found = decide(alloc, problem, cap, limits, &mut pool, advisors)?;
         progress = progress.after(cap, found);
     }
-    progress.answer(alloc, problem, &pool)
+    progress.answer(alloc, problem, pool)
 }
 
 /// Looks for fit costs of the least greatest cost, with evidence.
@@ -67,7 +67,7 @@ pub fn least(
     let ceiling = greatest_of(problem.high.as_slice());
     let mut pool = Pool::new(alloc);
     match decide(alloc, problem, ceiling, limits, &mut pool, advisors)? {
-        Found::Refuted(tree) => impossible(alloc, problem, &pool, ceiling, tree),
+        Found::Refuted(tree) => impossible(alloc, problem, pool, ceiling, tree),
         Found::Costs(costs) => {
             let most = greatest_of(costs.as_slice());
             let progress = Progress::start(problem, most, Best::Costs(costs));

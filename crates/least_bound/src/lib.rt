@@ -5,13 +5,9 @@
 #![tactic(auto)]
 
 mod answering;
-mod cost_lines;
 mod greatest;
 mod least_cap;
-mod numbering;
-mod printing;
 mod problem_law;
 mod progress;
-mod used_rows;
 
 pub use least_cap::least;

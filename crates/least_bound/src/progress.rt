@@ -6,9 +6,9 @@ ghost use Rattle.cost_branching.specs.Pools.{Pooled, IsPool, MoreRows};
 ghost use Rattle.cost_branching.specs.Decisions.{IsDecided};
 ghost use Rattle.least_bound.specs.Caps.{BestHolds, IsLeastFound, IsProgress, IsSpent};
 
-use crate::greatest::greatest_of;
 use cost_branching::Found;
 use path_rows::{CapTree, CostList, Problem, Tree};
+use printed_rows::greatest_of;
 
 /// The best that the caps so far have come to.
 #[derive(Drop)]

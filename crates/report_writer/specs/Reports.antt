@@ -10,13 +10,14 @@ use Rattle.input_files.specs.declared.stop.Stop.TheVariants.{Refused, ReadFault,
 use Rattle.input_files.specs.Stops.{refusal_in}
 use Rattle.report_writer.specs.declared.report.Report.{Report}
 use Rattle.report_writer.specs.declared.report.Text.{Text}
-use Rattle.report_writer.specs.declared.report.Text.TheVariants.{Made, Fixed}
+use Rattle.report_writer.specs.declared.report.Text.TheVariants.{Made, Fixed, Lsas}
 use Rattle.report_writer.specs.Texts.{refused_line, read_fault_line}
 
 -- the bytes of a text
 abbrev pub bytes_in : Text → List ℕ
 bytes_in (Made bytes) = bytes.items
 bytes_in (Fixed text) = text.now
+bytes_in (Lsas bytes) = bytes.items
 
 -- a report of this status and text
 pub record Reports (aim : Status) (bytes : List ℕ) (report : Report) : Type 0 where

@@ -3,10 +3,8 @@
 
 mod lines;
 mod report;
-mod text_buffer;
 mod writer;
 
-pub use lines::{accepted_line_of, push_bytes, push_number, rejected_line_of};
+pub use lines::{accepted_line_of, rejected_line_of};
 pub use report::{Report, Text, report_of};
-pub use text_buffer::text_of_answer;
 pub use writer::write_report;

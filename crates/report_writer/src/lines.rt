@@ -1,30 +1,12 @@
 //! The lines that a run writes beside an answer.
-ghost use Rattle.std.specs.Prelude.{◌≡◌, ◌++◌, IfOk, OnOk};
-ghost use Rattle.cost_base.specs.Decimal.{decimal};
+ghost use Rattle.std.specs.Prelude.{◌≡◌, IfOk};
 ghost use Rattle.report_writer.specs.Texts.{refused_line, read_fault_line, accepted_line, rejected_line};
 
 use answer_commands::Rejection;
 use cost_base::OutOfMemory;
 use evidence_checker::Accepted;
 use std::alloc::Global;
-use text_lines::number_bytes;
-
-/// Adds bytes at the end.
-pub fn push_bytes(line: &mut Vec<u8>, bytes: &[u8]) -> Result<(), OutOfMemory>
-    ensures { OnOk result (line.new.items ≡ line.old.items ++ bytes.now) }
-{
-    line.extend_from_slice(bytes)?;
-    Ok(())
-}
-
-/// Adds the decimal digits of a number at the end.
-pub fn push_number(line: &mut Vec<u8>, number: u128) -> Result<(), OutOfMemory>
-    ensures { OnOk result (line.new.items ≡ line.old.items ++ decimal number) }
-{
-    let mut room = [0; 40];
-    let length = number_bytes(number, &mut room);
-    push_bytes(line, &room[..length])
-}
+use text_parts::{push_bytes, push_number};
 
 /// The line `refused NUMBER FILE LINE`.
 pub(crate) fn refused_line_of(

@@ -14,6 +14,17 @@ pub enum Text {
     Made(Vec<u8>),
     /// A text that takes no memory.
     Fixed(&'static str),
+    /// Link state advertisements one after another, which were made (RFC 2328, A.4).
+    Lsas(Vec<u8>),
+}
+
+/// The pieces of a text, each of which is put by itself.
+#[derive(Clone, Copy)]
+pub(crate) enum Pieces {
+    /// Lines, each with its LF.
+    Lines,
+    /// Link state advertisements.
+    Lsas,
 }
 
 impl Text {
@@ -24,6 +35,16 @@ impl Text {
         match self {
             Text::Made(bytes) => bytes.as_slice(),
             Text::Fixed(text) => text.as_bytes(),
+            Text::Lsas(bytes) => bytes.as_slice(),
+        }
+    }
+
+    /// What pieces the text is put in.
+    pub(crate) fn pieces(&self) -> Pieces {
+        match self {
+            Text::Made(_) => Pieces::Lines,
+            Text::Fixed(_) => Pieces::Lines,
+            Text::Lsas(_) => Pieces::Lsas,
         }
     }
 }
@@ -43,6 +64,16 @@ impl Report {
         Report {
             status,
             text: Text::Made(text),
+        }
+    }
+
+    /// The report of link state advertisements that were made.
+    pub fn lsas(status: Status, bytes: Vec<u8>) -> Report
+        ensures { Reports status bytes.items result }
+    {
+        Report {
+            status,
+            text: Text::Lsas(bytes),
         }
     }
 }

@@ -1,5 +1,5 @@
 -- At the greatest upper bound no costs are fit, costs are found, or the budget is used up.
-use Rattle.std.proofs.Common.{◌≡◌, ◌≤◌, List, ℕ, sym, ◌∙◌, ap, subst, arith}
+use Rattle.std.proofs.Common.{◌≡◌, ◌≤◌, ℕ, sym, ◌∙◌, ap, subst, arith}
 use Rattle.path_rows.specs.Problems.{DesignProblem}
 use Rattle.path_rows.specs.Rows.{greatest_cost}
 use Rattle.path_rows.specs.Answers.{greatest_bound}
@@ -7,7 +7,8 @@ use Rattle.form_search.specs.declared.found.Found.{Found}
 use Rattle.form_search.specs.declared.found.Found.TheVariants.{Costs, Refuted, Spent}
 use Rattle.form_search.proofs.AdvisorLaws.{left_then}
 use Rattle.cost_branching.specs.Decisions.{IsDecided}
-use Rattle.least_bound.proofs.CapLaws.{floor_below_ceiling, floor_lowest, no_low_above}
+use Rattle.printed_rows.proofs.CapBoxes.{floor_below_ceiling, no_low_above}
+use Rattle.least_bound.proofs.CapLaws.{floor_lowest}
 use Rattle.least_bound.proofs.least_cap.least.Goals as goal
 
 pub decide-requires-clause-cap : goal.decide-requires-clause-cap

@@ -2,7 +2,7 @@
 use Rattle.std.proofs.Common.{◌≤◌, refl, arith}
 use Rattle.path_rows.specs.Rows.{greatest_cost}
 use Rattle.form_search.proofs.AdvisorLaws.{left_alike, left_then}
-use Rattle.least_bound.proofs.CapLaws.{no_low_above}
+use Rattle.printed_rows.proofs.CapBoxes.{no_low_above}
 use Rattle.least_bound.proofs.least_cap.narrowed.Goals as goal
 
 pub loop-cap-init : goal.loop-cap-init

@@ -1,7 +1,6 @@
 -- Without costs the tree at the greatest upper bound stays.
-use Rattle.std.proofs.Common.{subst, arith}
+use Rattle.std.proofs.Common.{subst}
 use Rattle.least_bound.specs.declared.progress.Best.{Best}
-use Rattle.least_bound.specs.declared.progress.Best.TheVariants.{NoCosts}
 use Rattle.least_bound.specs.Caps.{BestHolds}
 use Rattle.least_bound.proofs.CapLaws.{still_none}
 use Rattle.least_bound.proofs.progress.Best.stuck_at.Goals as goal

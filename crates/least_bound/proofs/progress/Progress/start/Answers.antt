@@ -1,5 +1,5 @@
 -- At the greatest upper bound nothing is known but the lower bounds.
-use Rattle.std.proofs.Common.{◌≡◌, ℕ, List, ◌∙◌, ap}
+use Rattle.std.proofs.Common.{◌≡◌, ◌∙◌, ap}
 use Rattle.path_rows.specs.Problems.{DesignProblem}
 use Rattle.path_rows.specs.Rows.{greatest_cost}
 use Rattle.least_bound.proofs.CapLaws.{progress_starts}

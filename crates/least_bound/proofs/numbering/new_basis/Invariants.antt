@@ -1,7 +1,0 @@
-use Rattle.std.proofs.Common.{◌≡◌, map, take}
-use Rattle.path_rows.specs.Renumbering.{renumbered_member}
-use Rattle.least_bound.specs.UsedRows.{number_in}
-use Rattle.least_bound.proofs.numbering.new_basis.Given as goal
-
-abbrev pub invariant-loop-member : goal.invariant-loop-member
-invariant-loop-member l = l.members.items ≡ map (renumbered_member (number_in l.numbers)) (take l.member-index l.basis)

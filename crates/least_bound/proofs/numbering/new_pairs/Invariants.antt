@@ -1,7 +1,0 @@
-use Rattle.std.proofs.Common.{◌≡◌, map, take}
-use Rattle.path_rows.specs.Renumbering.{renumbered_part}
-use Rattle.least_bound.specs.UsedRows.{number_in}
-use Rattle.least_bound.proofs.numbering.new_pairs.Given as goal
-
-abbrev pub invariant-loop-row : goal.invariant-loop-row
-invariant-loop-row l = l.pairs.items ≡ map (renumbered_part (number_in l.numbers)) (take l.row-index l.parts)

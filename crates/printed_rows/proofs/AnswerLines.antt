@@ -1,0 +1,142 @@
+-- The text of an answer is in the grammar, and its lines are short enough.
+use Rattle.std.proofs.Common.{ℕ, ◌^◌, ◌<◌, ◌≤◌, List, [], ◌∷◌, ◌++◌, map, length, true, false, arith, Bool}
+use Rattle.std.specs.Prelude.{codes, All, Option, None, Some, if◌then◌else◌}
+use Rattle.std.proofs.lemmas.List.Elements.{All-nil, All-cons, All-head, All-tail, All-append, All-map}
+use Rattle.cost_base.specs.Decimal.{decimal}
+use Rattle.cost_base.specs.Lists.{same_bytes}
+use Rattle.path_rows.specs.declared.answer.Verdict.{Verdict}
+use Rattle.path_rows.specs.declared.answer.Verdict.TheVariants.{Optimal, Impossible, Budget}
+use Rattle.path_rows.specs.declared.answer.Costs.{Costs}
+use Rattle.path_rows.specs.declared.answer.CostLine.{CostLine}
+use Rattle.path_rows.specs.declared.answer.Floor.{Floor}
+use Rattle.path_rows.specs.declared.answer.Floor.TheVariants.{Absent, Empty, Var}
+use Rattle.path_rows.specs.declared.answer.CapTree.{CapTree}
+use Rattle.path_rows.specs.declared.form.Row.{Row}
+use Rattle.path_rows.specs.Answers.{AnswerParts}
+use Rattle.path_rows.specs.Text.{spaced, verdict_words, router_lines, cost_lines, costs_lines, floor_word, row_line, entry_line, tree_lines, answer_lines, FitsCosts, FitsTree, IsAnswer}
+use Rattle.printed_rows.specs.PrintedCosts.{IsNamedCost}
+use Rattle.printed_rows.proofs.TreeLines.{IsLine, IsPrintable, spaced-le, thing_digits, cost_digits, row_digits}
+
+-- the number of a verdict is a cost
+abbrev pub FitsVerdict : Verdict → Type 0
+FitsVerdict (Optimal k) = k ≤ 65535
+FitsVerdict Impossible = Unit {0}
+FitsVerdict (Budget cap) = cap ≤ 65535
+
+-- the variable of a floor is below 2 ^ 32
+abbrev pub FitsFloor : Floor → Type 0
+FitsFloor Absent = Unit {0}
+FitsFloor Empty = Unit {0}
+FitsFloor (Var v) = v < 2 ^ 32
+
+-- costs that can be printed
+abbrev pub CanPrintCosts : Option Costs → Type 0
+CanPrintCosts None = Unit {0}
+CanPrintCosts (Some costs) = All IsNamedCost costs.lines × (costs.greatest ≤ 65535)
+
+abbrev pub CanPrintTree : Option CapTree → Type 0
+CanPrintTree None = Unit {0}
+CanPrintTree (Some t) = IsPrintable t
+
+-- two words, the first of at most 20 bytes and the second of at most 4,096
+pub two_words : (word next : List ℕ) → length word ≤ 20 → length next ≤ 4096 → IsLine (spaced (word ∷ next ∷ []))
+two_words word next small more = let words = spaced-le (word ∷ next ∷ []) in omega arith
+
+cost_short : (cost : ℕ) → cost ≤ 65535 → IsLine (spaced (codes " ip" ∷ codes "ospf" ∷ codes "cost" ∷ decimal cost ∷ []))
+cost_short cost most = let words = spaced-le (codes " ip" ∷ codes "ospf" ∷ codes "cost" ∷ decimal cost ∷ []) in omega (arith, cost_digits cost most)
+
+verdict_short : (verdict : Verdict) → FitsVerdict verdict → IsLine (spaced (codes "verdict" ∷ verdict_words verdict))
+verdict_short (Optimal k) fits = let words = spaced-le (codes "verdict" ∷ codes "optimal" ∷ decimal k ∷ []) in omega (arith, cost_digits k fits)
+verdict_short Impossible fits = omega arith
+verdict_short (Budget cap) fits = let words = spaced-le (codes "verdict" ∷ codes "undecided" ∷ codes "budget" ∷ decimal cap ∷ []) in omega (arith, cost_digits cap fits)
+
+floor_short : (floor : Floor) → FitsFloor floor → IsLine (spaced (codes "floor" ∷ floor_word floor ∷ []))
+floor_short Absent fits = omega arith
+floor_short Empty fits = omega arith
+floor_short (Var v) fits = two_words (codes "floor") (decimal v) (omega arith) (omega (arith, thing_digits v fits))
+
+-- the line of a router, or none
+router_short : (before : Option (List ℕ)) (router : List ℕ) → length router ≤ 4096 → All IsLine (router_lines before router)
+router_short None router few = All-cons IsLine (spaced (codes "router" ∷ router ∷ [])) [] (two_words (codes "router") router (omega arith) few) (All-nil IsLine)
+router_short (Some before) router few = unless (same_bytes before router)
+  where
+    unless : (same : Bool) → All IsLine (if same then [] else spaced (codes "router" ∷ router ∷ []) ∷ [])
+    unless true = All-nil IsLine
+    unless false = All-cons IsLine (spaced (codes "router" ∷ router ∷ [])) [] (two_words (codes "router") router (omega arith) few) (All-nil IsLine)
+
+-- the lines of the costs
+cost_lines_short : (before : Option (List ℕ)) (lines : List CostLine) → All IsNamedCost lines → All IsLine (cost_lines before lines)
+cost_lines_short before [] named = All-nil IsLine
+cost_lines_short before (line ∷ lines) named =
+    let here : IsNamedCost line = All-head IsNamedCost line lines named in
+    let name = spaced (codes "interface" ∷ line.interface ∷ []) in
+    let cost = spaced (codes " ip" ∷ codes "ospf" ∷ codes "cost" ∷ decimal line.cost ∷ []) in
+    let more = cost_lines (Some line.router) lines in
+    All-append IsLine (router_lines before line.router) (name ∷ cost ∷ codes "exit" ∷ more) (router_short before line.router here.0.short)
+    (All-cons IsLine name (cost ∷ codes "exit" ∷ more) (two_words (codes "interface") line.interface (omega arith) here.1.short)
+    (All-cons IsLine cost (codes "exit" ∷ more) (cost_short line.cost here.3)
+    (All-cons IsLine (codes "exit") more (omega arith) (cost_lines_short (Some line.router) lines (All-tail IsNamedCost line lines named)))))
+
+pub costs_short : (costs : Option Costs) → CanPrintCosts costs → All IsLine (costs_lines costs)
+costs_short None can = All-cons IsLine (codes "costs none") [] (omega arith) (All-nil IsLine)
+costs_short (Some costs) can =
+    All-cons IsLine (spaced (codes "costs" ∷ decimal costs.greatest ∷ [])) (cost_lines None costs.lines) (two_words (codes "costs") (decimal costs.greatest) (omega arith) (omega (arith, cost_digits costs.greatest can.1)))
+    (cost_lines_short None costs.lines can.0)
+
+-- such costs are in the grammar
+pub costs_fit : (costs : Option Costs) → CanPrintCosts costs → FitsCosts costs
+costs_fit None can = tt
+costs_fit (Some costs) can = λ k d k_in. let here = can.0 k d k_in in record { router = here.0.word; interface = here.1.word; cost = here.2 }
+
+pub trees_short : (word : List ℕ) (t : Option CapTree) → length word ≤ 20 → CanPrintTree t → All IsLine (tree_lines word t)
+trees_short word None small can = All-cons IsLine (spaced (word ∷ codes "none" ∷ [])) [] (two_words word (codes "none") small (omega arith)) (All-nil IsLine)
+trees_short word (Some t) small can =
+    let words = spaced-le (word ∷ decimal t.cap ∷ decimal (length t.tree) ∷ []) in
+    All-cons IsLine (spaced (word ∷ decimal t.cap ∷ decimal (length t.tree) ∷ [])) (map entry_line t.tree) (omega (arith, cost_digits t.cap can.cap, thing_digits (length t.tree) can.count))
+    (All-map IsLine entry_line t.tree can.lines)
+
+pub tree_fits : (t : Option CapTree) → CanPrintTree t → FitsTree t
+tree_fits None can = tt
+tree_fits (Some t) can = record { count = can.count; entries = can.entries }
+
+-- the lines of the rows
+pub rows_lines_short : (rows : List Row) → length rows < 2 ^ 64 → All (λ row. IsLine (row_line row)) rows → All IsLine (spaced (codes "rows" ∷ decimal (length rows) ∷ []) ∷ map row_line rows)
+rows_lines_short rows few short =
+    All-cons IsLine (spaced (codes "rows" ∷ decimal (length rows) ∷ [])) (map row_line rows) (two_words (codes "rows") (decimal (length rows)) (omega arith) (omega (arith, row_digits (length rows) few)))
+    (All-map IsLine row_line rows short)
+
+pub rows_part : (floor : Floor) (rows : List Row) → FitsFloor floor → length rows < 2 ^ 64 → All (λ row. IsLine (row_line row)) rows →
+    All IsLine (spaced (codes "floor" ∷ floor_word floor ∷ []) ∷ spaced (codes "rows" ∷ decimal (length rows) ∷ []) ∷ map row_line rows)
+rows_part floor rows fits few short =
+    All-cons IsLine (spaced (codes "floor" ∷ floor_word floor ∷ [])) (spaced (codes "rows" ∷ decimal (length rows) ∷ []) ∷ map row_line rows) (floor_short floor fits)
+    (rows_lines_short rows few short)
+
+lines_short : (a : AnswerParts) → FitsVerdict a.verdict → CanPrintCosts a.costs → FitsFloor a.floor → length a.rows < 2 ^ 64 → All (λ row. IsLine (row_line row)) a.rows → CanPrintTree a.proof → CanPrintTree a.unfinished → All IsLine (answer_lines a)
+lines_short a verdict costs floor few rows proof unfinished =
+    let first = codes "ospfcost answer 1" ∷ spaced (codes "verdict" ∷ verdict_words a.verdict) ∷ [] in
+    let second = costs_lines a.costs in
+    let third = spaced (codes "floor" ∷ floor_word a.floor ∷ []) ∷ spaced (codes "rows" ∷ decimal (length a.rows) ∷ []) ∷ map row_line a.rows in
+    let fourth = tree_lines (codes "proof") a.proof in
+    let fifth = tree_lines (codes "open") a.unfinished in
+    let last = codes "wide none" ∷ codes "end" ∷ [] in
+    All-append IsLine (first ++ second ++ third ++ fourth ++ fifth) last
+    (All-append IsLine (first ++ second ++ third ++ fourth) fifth
+    (All-append IsLine (first ++ second ++ third) fourth
+    (All-append IsLine (first ++ second) third
+    (All-append IsLine first second
+    (All-cons IsLine (codes "ospfcost answer 1") (spaced (codes "verdict" ∷ verdict_words a.verdict) ∷ []) (omega arith)
+    (All-cons IsLine (spaced (codes "verdict" ∷ verdict_words a.verdict)) [] (verdict_short a.verdict verdict) (All-nil IsLine)))
+    (costs_short a.costs costs))
+    (rows_part a.floor a.rows floor few rows))
+    (trees_short (codes "proof") a.proof (omega arith) proof))
+    (trees_short (codes "open") a.unfinished (omega arith) unfinished))
+    (All-cons IsLine (codes "wide none") (codes "end" ∷ []) (omega arith) (All-cons IsLine (codes "end") [] (omega arith) (All-nil IsLine)))
+
+-- an answer of parts that can be printed keeps what every answer keeps
+pub answer_kept : (a : AnswerParts) → FitsVerdict a.verdict → CanPrintCosts a.costs → FitsFloor a.floor → length a.rows < 2 ^ 64 → All (λ row. IsLine (row_line row)) a.rows → CanPrintTree a.proof → CanPrintTree a.unfinished → IsAnswer a
+answer_kept a verdict costs floor few rows proof unfinished = record {
+  costs = costs_fit a.costs costs;
+  proof = tree_fits a.proof proof;
+  unfinished = tree_fits a.unfinished unfinished;
+  lines = lines_short a verdict costs floor few rows proof unfinished;
+}

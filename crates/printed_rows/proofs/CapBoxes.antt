@@ -1,0 +1,43 @@
+-- The box of a problem at a cap.
+use Rattle.std.proofs.Common.{ℕ, ◌≤◌, refl, sym, ◌∙◌, List, length, min, arith}
+use Rattle.std.specs.Prelude.{All}
+use Rattle.std.proofs.lemmas.List.{length-map, get_or-map, get_or_default}
+use Rattle.path_rows.specs.Problems.{DesignProblem, IsProblem}
+use Rattle.path_rows.specs.Boxes.{capped}
+use Rattle.path_rows.specs.Rows.{box_of, greatest_cost}
+use Rattle.path_rows.specs.Answers.{greatest_bound}
+use Rattle.path_rows.proofs.ProblemTrees.{le_greatest}
+use Rattle.printed_rows.proofs.CostLaws.{greatest-le}
+use Rattle.printed_rows.proofs.TreeLines.{IsCostBounds}
+
+-- a cap from the greatest lower bound on is below no lower bound
+pub no_low_above : (low : List ℕ) (cap : ℕ) → greatest_cost low ≤ cap → All (λ l. l ≤ cap) low
+no_low_above low cap from k d k_in =
+    let most = le_greatest low k k_in in
+    let same = get_or_default low k 0 d k_in in
+    omega arith
+
+-- the greatest upper bound is below no lower bound
+pub floor_below_ceiling : (p : DesignProblem) → IsProblem p → greatest_cost p.low ≤ greatest_bound p
+floor_below_ceiling p kept = greatest-le p.low (greatest_bound p) (λ k k_in.
+    let ordered = (kept.ordered k k_in).1 in
+    let most = le_greatest p.high k (omega (arith, kept.low_count)) in
+    omega arith)
+
+-- the box at a cap has bounds of costs
+pub cost_bounds : (p : DesignProblem) (cap : ℕ) → IsProblem p → greatest_cost p.low ≤ cap → cap ≤ 65535 → IsCostBounds (length p.low) (capped (box_of p) cap)
+cost_bounds p cap kept from small = record {
+  few = kept.var_count;
+  is_box = record {
+    low_count = refl;
+    high_count = length-map p.high (λ h. min h cap) ∙ sym kept.low_count;
+    ordered = λ k k_in.
+        let cut = get_or-map (λ h. min h cap) p.high k 0 0 (omega (arith, kept.low_count)) in
+        let low = no_low_above p.low cap from k 0 k_in in
+        let ordered = (kept.ordered k k_in).1 in
+        omega arith;
+  };
+  most = λ k k_in.
+      let cut = get_or-map (λ h. min h cap) p.high k 0 0 (omega (arith, length-map p.high (λ h. min h cap))) in
+      omega arith;
+}

@@ -1,0 +1,12 @@
+pub mod AnswerLines
+pub mod CapBoxes
+pub mod CostLaws
+pub mod KeptRows
+pub mod MarkLaws
+pub mod NamedLaws
+pub mod NumberLaws
+pub mod PrintLaws
+pub mod RenumberedTrees
+pub mod RowLines
+pub mod TreeCopies
+pub mod TreeLines

@@ -1,0 +1,67 @@
+-- The rows and trees that are printed.
+use Rattle.std.proofs.Common.{◌≡◌, ℕ, refl, sym, ◌∙◌, ap, subst, List, map, length, Bool, true, false, ◌||◌}
+use Rattle.std.specs.Prelude.{All, Option, None, Some}
+use Rattle.cost_base.specs.Lists.{numbers_from}
+use Rattle.path_rows.specs.declared.answer.CapTree.{CapTree}
+use Rattle.path_rows.specs.declared.tree.Entry.{Entry}
+use Rattle.path_rows.specs.Renumbering.{renumbered}
+use Rattle.printed_rows.specs.NamedRows.{IsKnown, NamesBelow, NamesKnown, TreeNamesBelow, TreeNamesKnown, entries_in, is_named}
+use Rattle.printed_rows.specs.NewNumbers.{AreMarked, AreNumbers, HasNumbers, is_marked, named_in, new_number, number_in, with_new_numbers}
+use Rattle.printed_rows.proofs.NamedLaws.{entries_agree, names_known}
+use Rattle.printed_rows.proofs.NumberLaws.{number_at, numbers_counted}
+
+-- the marks of a test, where nothing was marked before
+pub marks_are : (test : ℕ → Bool) (none marks : List Bool) → ((row : ℕ) → is_marked none row ≡ false) → AreMarked test none marks → is_marked marks ≡ test
+marks_are test none marks empty are = λ i row. (are.marked row ∙ ap (λ (x : Bool). x || test row) (empty row)) i
+
+-- and of one test after the other
+pub both_marks_are : (first second : ℕ → Bool) (none middle marks : List Bool) → ((row : ℕ) → is_marked none row ≡ false) → AreMarked first none middle → AreMarked second middle marks → is_marked marks ≡ (λ row. first row || second row)
+both_marks_are first second none middle marks empty one two =
+    λ i row. (two.marked row ∙ ap (λ (x : Bool). x || second row) (one.marked row ∙ ap (λ (x : Bool). x || first row) (empty row))) i
+
+-- the numbers of a list are the new numbers
+pub numbers_agree : (test named : ℕ → Bool) (n : ℕ) (numbers : List ℕ) (entries : List Entry) → test ≡ named → AreNumbers test n numbers → All (NamesKnown test n) entries → map (renumbered (number_in numbers)) entries ≡ with_new_numbers named entries
+numbers_agree test named n numbers entries same are known =
+    entries_agree (number_in numbers) (new_number test) (IsKnown test n) entries (λ row is. number_at test n numbers row are is.0) known
+    ∙ ap (λ (t : ℕ → Bool). with_new_numbers t entries) same
+
+pub tree_agrees : (test named : ℕ → Bool) (n : ℕ) (numbers : List ℕ) (tree new : Option CapTree) → test ≡ named → AreNumbers test n numbers → TreeNamesKnown test n tree → HasNumbers (number_in numbers) tree new → HasNumbers (new_number named) tree new
+tree_agrees test named n numbers None None same are known has = tt
+tree_agrees test named n numbers None (Some u) same are known has = absurd has
+tree_agrees test named n numbers (Some t) None same are known has = absurd has
+tree_agrees test named n numbers (Some t) (Some u) same are known has = (has.0, has.1 ∙ numbers_agree test named n numbers t.tree same are known)
+
+-- the numbers of so many rows, of which those are marked that pass the test
+pub record AreNumbered (test : ℕ → Bool) (n : ℕ) (marks : List Bool) (numbers : List ℕ) : Type 0 where
+  pub same : is_marked marks ≡ test
+  pub counted : length numbers ≡ n
+  pub are : AreNumbers (is_marked marks) (length numbers) numbers
+
+pub are_numbered : (test : ℕ → Bool) (n : ℕ) (made marks : List Bool) (all numbers : List ℕ) → is_marked made ≡ test → length made ≡ n → marks ≡ made → AreNumbers (is_marked marks) (length marks) all → numbers ≡ all → AreNumbered test n marks numbers
+are_numbered test n made marks all numbers same made_count marks_is are numbers_is =
+    let counted : length numbers ≡ length marks = ap length numbers_is ∙ numbers_counted (is_marked marks) (length marks) all are in
+    record {
+      same = ap is_marked marks_is ∙ same;
+      counted = counted ∙ ap length marks_is ∙ made_count;
+      are = numbers_is ∙ are ∙ ap (λ (k : ℕ). map (new_number (is_marked marks)) (numbers_from 0 k)) (sym counted);
+    }
+
+-- what a tree names is known to the numbers
+pub tree_known : (test : ℕ → Bool) (n : ℕ) (marks : List Bool) (numbers : List ℕ) (tree : List Entry) → AreNumbered test n marks numbers → ((row : ℕ) → is_named tree row ≡ true → test row ≡ true) → All (NamesBelow n) tree → All (NamesKnown (is_marked marks) (length numbers)) tree
+tree_known test n marks numbers tree are passes below =
+    names_known (is_marked marks) (length numbers) tree (λ row is. ap (λ (t : ℕ → Bool). t row) are.same ∙ passes row is) (subst (λ (k : ℕ). All (NamesBelow k) tree) (sym are.counted) below)
+
+pub if_any_known : (test : ℕ → Bool) (n : ℕ) (marks : List Bool) (numbers : List ℕ) (tree : Option CapTree) → AreNumbered test n marks numbers → ((row : ℕ) → is_named (entries_in tree) row ≡ true → test row ≡ true) → TreeNamesBelow n tree → TreeNamesKnown (is_marked marks) (length numbers) tree
+if_any_known test n marks numbers None are passes below = tt
+if_any_known test n marks numbers (Some t) are passes below = tree_known test n marks numbers t.tree are passes below
+
+-- what one of two trees names is named
+pub first_named : (proof unfinished : Option CapTree) (row : ℕ) → is_named (entries_in proof) row ≡ true → named_in proof unfinished row ≡ true
+first_named proof unfinished row is = ap (λ (x : Bool). x || is_named (entries_in unfinished) row) is
+
+pub second_named : (proof unfinished : Option CapTree) (row : ℕ) → is_named (entries_in unfinished) row ≡ true → named_in proof unfinished row ≡ true
+second_named proof unfinished row is = ap (λ (x : Bool). is_named (entries_in proof) row || x) is ∙ or_true (is_named (entries_in proof) row)
+  where
+    or_true : (b : Bool) → (b || true) ≡ true
+    or_true true = refl
+    or_true false = refl

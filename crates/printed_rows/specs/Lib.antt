@@ -1,0 +1,4 @@
+pub mod NamedRows
+pub mod NewNumbers
+pub mod PrintedCosts
+pub mod PrintedTrees

@@ -1,0 +1,73 @@
+-- The rows that are printed, and trees that name them by their new numbers.
+use Rattle.std.specs.Prelude.{◌≡◌, ℕ, zero, suc, ◌+◌, ◌^◌, ◌<◌, ◌||◌, List, [], ◌∷◌, Bool, false, if◌then◌else◌, map, length, slice_get, slice_index, slice_index_or, All, Contains, Option, None, Some}
+use Rattle.cost_base.specs.Lists.{numbers_from}
+use Rattle.path_rows.specs.declared.answer.CapTree.{CapTree}
+use Rattle.path_rows.specs.declared.tree.Entry.{Entry}
+use Rattle.path_rows.specs.Renumbering.{renumbered}
+use Rattle.printed_rows.specs.NamedRows.{entries_in, is_named}
+
+-- whether the row has a mark
+abbrev pub is_marked : List Bool → ℕ → Bool
+is_marked marks row = slice_index_or marks row false
+
+-- as many marks, and besides the old ones those of the rows that pass the test
+pub record AreMarked (test : ℕ → Bool) (old new : List Bool) : Type 0 where
+  pub counted : length new ≡ length old
+  pub marked : (row : ℕ) → is_marked new row ≡ (is_marked old row || test row)
+
+-- the rows that pass the test, in their order, where the first row has this number
+abbrev pub kept_from : {R : Type 0} → (ℕ → Bool) → ℕ → List R → List R
+kept_from named first [] = []
+kept_from named first (row ∷ rows) = if named first then row ∷ kept_from named (suc first) rows else kept_from named (suc first) rows
+
+abbrev pub kept_rows : {R : Type 0} → (ℕ → Bool) → List R → List R
+kept_rows named rows = kept_from named 0 rows
+
+-- the new number of a row: how many rows before it are kept
+abbrev pub new_number : (ℕ → Bool) → ℕ → ℕ
+new_number named zero = 0
+new_number named (suc row) = new_number named row + (if named row then 1 else 0)
+
+-- the new numbers of so many rows
+abbrev pub AreNumbers : (ℕ → Bool) → ℕ → List ℕ → Type 0
+AreNumbers named n numbers = numbers ≡ map (new_number named) (numbers_from 0 n)
+
+abbrev pub number_in : List ℕ → ℕ → ℕ
+number_in numbers row = slice_index numbers row
+
+-- the entries with the new numbers of the rows that are kept
+abbrev pub with_new_numbers : (ℕ → Bool) → List Entry → List Entry
+with_new_numbers named entries = map (renumbered (new_number named)) entries
+
+-- the tree at the same cap with these numbers, if there is one
+abbrev pub HasNumbers : (ℕ → ℕ) → Option CapTree → Option CapTree → Type 0
+HasNumbers number None None = Unit {0}
+HasNumbers number (Some t) (Some u) = (u.cap ≡ t.cap) × (u.tree ≡ map (renumbered number) t.tree)
+HasNumbers number None (Some u) = ⊥
+HasNumbers number (Some t) None = ⊥
+
+-- of the rows those are kept that pass the test, in their order
+pub record AreKept {R : Type 0} (named : ℕ → Bool) (old rows : List R) : Type 0 where
+  pub same : rows ≡ kept_rows named old
+  pub few : length rows < 2 ^ 64
+
+-- the rows that the tree names, in their order, and the tree with their new numbers
+pub record IsPrinted {R : Type 0} (old : List R) (tree : List Entry) (rows : List R) (new_tree : List Entry) : Type 0 where
+  pub kept : AreKept (is_named tree) old rows
+  pub tree_is : new_tree ≡ with_new_numbers (is_named tree) tree
+
+-- whether one of the two trees names the row
+abbrev pub named_in : Option CapTree → Option CapTree → ℕ → Bool
+named_in proof unfinished row = is_named (entries_in proof) row || is_named (entries_in unfinished) row
+
+-- the rows that one of the trees names, in their order, and the trees at the same caps with their new numbers
+pub record ArePrinted {R : Type 0} (old : List R) (proof unfinished : Option CapTree) (rows : List R) (new_proof new_unfinished : Option CapTree) : Type 0 where
+  pub kept : AreKept (named_in proof unfinished) old rows
+  pub proof_is : HasNumbers (new_number (named_in proof unfinished)) proof new_proof
+  pub unfinished_is : HasNumbers (new_number (named_in proof unfinished)) unfinished new_unfinished
+
+-- each number of an old row is given a number of a new one, which is the same row; and each new row is an old one
+pub record KeepsRows {R : Type 0} (number : ℕ → ℕ) (old new : List R) : Type 0 where
+  pub known : (k : ℕ) → k < length old → number k < length new
+  pub same : (k : ℕ) → k < length old → slice_get new (number k) ≡ slice_get old k
+  pub taken : All (Contains old) new

@@ -1,0 +1,62 @@
+//! The printed lines of costs.
+ghost use Rattle.std.specs.Prelude.{◌≡◌, ℕ, ◌<◌, ◌≤◌, length, slice_index, All, IfOk};
+ghost use Rattle.path_rows.specs.Rows.{greatest_cost};
+ghost use Rattle.printed_rows.specs.PrintedCosts.{ArePrintedCosts, CostLinesOf};
+
+use cost_base::{Listed, Name, OutOfMemory};
+use path_rows::{CostLine, Costs, Problem, VarName};
+use std::alloc::Global;
+
+/// The greatest of some costs, and 0 where there is none.
+pub fn greatest_of(costs: &[u16]) -> u16
+    ensures { result ≡ greatest_cost costs.now }
+{
+    let mut greatest = 0;
+    for cost in costs {
+        greatest = greatest.max(*cost);
+    }
+    greatest
+}
+
+/// The line that gives an interface the cost of its variable.
+fn cost_line(alloc: Global, name: &VarName, costs: &[u16]) -> Result<CostLine, OutOfMemory>
+    requires { name.now.var < length costs.now }
+    ensures { IfOk result (λ line. line ≡ record { router = name.now.router; interface = name.now.interface; cost = slice_index costs.now name.now.var }) }
+{
+    Ok(CostLine {
+        router: Name::from_bytes(alloc, name.router.as_bytes())?,
+        interface: Name::from_bytes(alloc, name.interface.as_bytes())?,
+        cost: costs[name.var as usize],
+    })
+}
+
+/// The lines that give each free interface the cost of its variable, in order.
+fn cost_lines(alloc: Global, names: &[VarName], costs: &[u16]) -> Result<Vec<CostLine>, OutOfMemory>
+    requires { All (λ name. name.var < length costs.now) names.now }
+    ensures lines { IfOk result (λ lines. CostLinesOf costs.now names.now lines.items) }
+    ensures most { (k : ℕ) → k < length costs.now → slice_index costs.now k ≤ 65535 }
+{
+    let mut lines = Vec::new(alloc);
+    for name in names {
+        lines.push(cost_line(alloc, name, costs)?)?;
+    }
+    Ok(lines)
+}
+
+/// Costs of a problem's variables, from 1, as they are printed: a line for each free interface, with the cost of its
+/// variable, and the greatest of the costs.
+///
+/// # Errors
+///
+/// `OutOfMemory`.
+pub fn printed_costs(alloc: Global, problem: &Problem, costs: &[u16]) -> Result<Costs, OutOfMemory>
+    requires counted { length costs.now ≡ length problem.now.low }
+    requires positive { All (λ cost. 1 ≤ cost) costs.now }
+    ensures { IfOk result (ArePrintedCosts problem.now costs.now) }
+{
+    let lines = cost_lines(alloc, problem.vars.as_slice(), costs)?;
+    Ok(Costs {
+        greatest: greatest_of(costs),
+        lines: Listed::from_items(lines),
+    })
+}

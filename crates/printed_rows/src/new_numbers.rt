@@ -1,0 +1,203 @@
+//! New numbers for the rows that are named.
+ghost use Rattle.std.specs.Prelude.{◌≡◌, ℕ, ◌<◌, ◌++◌, ◌∷◌, [], length, map, cond, Bool, All, IfOk, OnOk};
+ghost use Rattle.std.specs.Option.{option_copied};
+ghost use Rattle.path_rows.specs.Renumbering.{renumbered, renumbered_member, renumbered_part, renumbered_wide};
+ghost use Rattle.printed_rows.specs.NamedRows.{MemberBelow, NamesKnown, TreeNamesKnown, PartKnown};
+ghost use Rattle.printed_rows.specs.NewNumbers.{AreNumbers, HasNumbers, kept_rows, is_marked, new_number, number_in};
+
+use cost_base::{Listed, OutOfMemory};
+use path_rows::{CapTree, Entry, Member, Parts, Tree, WideAt};
+use std::alloc::Global;
+
+/// For each row how many marked ones stand before it.
+///
+/// # Errors
+///
+/// `OutOfMemory`.
+pub(crate) fn new_numbers(alloc: Global, marks: &[bool]) -> Result<Vec<u64>, OutOfMemory>
+    ensures { IfOk result (λ numbers. AreNumbers (is_marked marks.now) (length marks.now) numbers.items) }
+{
+    let mut numbers = Vec::new(alloc);
+    let mut next = 0;
+    for is_marked in marks {
+        numbers.push(next)?;
+        if *is_marked {
+            next += 1;
+        }
+    }
+    Ok(numbers)
+}
+
+/// Puts a row at the end, if it is kept.
+fn push_if_kept<R: Drop>(kept: &mut Vec<R>, row: R, is_kept: bool) -> Result<(), OutOfMemory>
+    ensures { OnOk result (kept.new.items ≡ cond is_kept (kept.old.items ++ row ∷ []) kept.old.items) }
+{
+    if is_kept {
+        kept.push(row)?;
+    }
+    Ok(())
+}
+
+/// The marked rows, in their order.
+///
+/// # Errors
+///
+/// `OutOfMemory`.
+pub(crate) fn marked_rows<R: Drop>(
+    alloc: Global,
+    rows: Vec<R>,
+    marks: &[bool],
+) -> Result<Vec<R>, OutOfMemory>
+    requires { length marks.now ≡ length rows.items }
+    ensures { IfOk result (λ kept. kept.items ≡ kept_rows (is_marked marks.now) rows.items) }
+{
+    let mut kept = Vec::new(alloc);
+    let mut place = 0;
+    for row in rows {
+        push_if_kept(&mut kept, row, marks[place])?;
+        place += 1;
+    }
+    Ok(kept)
+}
+
+/// The form of a basis with the new number of its row.
+fn new_member(member: &Member, numbers: &[u64]) -> Member
+    requires { MemberBelow (length numbers.now) member.now }
+    ensures { result ≡ renumbered_member (number_in numbers.now) member.now }
+{
+    match member {
+        Member::Row(row) => Member::Row(numbers[*row as usize]),
+        Member::Low(..) | Member::High(..) => *member,
+    }
+}
+
+/// The basis with the new numbers of its rows.
+fn new_basis(alloc: Global, basis: &[Member], numbers: &[u64]) -> Result<Vec<Member>, OutOfMemory>
+    requires { All (MemberBelow (length numbers.now)) basis.now }
+    ensures { IfOk result (λ members. members.items ≡ map (renumbered_member (number_in numbers.now)) basis.now) }
+{
+    let mut members = Vec::new(alloc);
+    for member in basis {
+        members.push(new_member(member, numbers))?;
+    }
+    Ok(members)
+}
+
+/// The pairs with the new numbers of their rows.
+fn new_pairs(
+    alloc: Global,
+    parts: &[(u64, u128)],
+    numbers: &[u64],
+) -> Result<Vec<(u64, u128)>, OutOfMemory>
+    requires { All (λ part. part.0 < length numbers.now) parts.now }
+    ensures { IfOk result (λ pairs. pairs.items ≡ map (renumbered_part (number_in numbers.now)) parts.now) }
+{
+    let mut pairs = Vec::new(alloc);
+    for (row, multiplier) in parts {
+        pairs.push((numbers[*row as usize], *multiplier))?;
+    }
+    Ok(pairs)
+}
+
+/// The Refute's rows with their new numbers.
+fn new_parts(alloc: Global, parts: &Parts, numbers: &[u64]) -> Result<Parts, OutOfMemory>
+    requires { (named : ℕ → Bool) × AreNumbers named (length numbers.now) numbers.now × All (PartKnown named (length numbers.now)) parts.now }
+    ensures { IfOk result (λ new. new ≡ map (renumbered_part (number_in numbers.now)) parts.now) }
+{
+    let pairs = new_pairs(alloc, parts.as_slice(), numbers)?;
+    Ok(Parts::from_items(pairs))
+}
+
+/// The entry with the new numbers of its rows.
+fn new_entry(alloc: Global, entry: &Entry, numbers: &[u64]) -> Result<Entry, OutOfMemory>
+    requires { (named : ℕ → Bool) × AreNumbers named (length numbers.now) numbers.now × NamesKnown named (length numbers.now) entry.now }
+    ensures { IfOk result (λ new. new ≡ renumbered (number_in numbers.now) entry.now) }
+{
+    match entry {
+        Entry::Tighten {
+            var,
+            side,
+            value,
+            row,
+        } => Ok(Entry::Tighten {
+            var: *var,
+            side: *side,
+            value: *value,
+            row: numbers[*row as usize],
+        }),
+        Entry::Split { var, value } => Ok(Entry::Split {
+            var: *var,
+            value: *value,
+        }),
+        Entry::Halve { var, value, wide } => Ok(Entry::Halve {
+            var: *var,
+            value: *value,
+            wide: new_wide(alloc, wide, numbers)?,
+        }),
+        Entry::Refute { parts } => Ok(Entry::Refute {
+            parts: new_parts(alloc, parts, numbers)?,
+        }),
+        Entry::Undone => Ok(Entry::Undone),
+    }
+}
+
+/// The step with the new numbers of its basis.
+fn new_wide(alloc: Global, wide: &WideAt, numbers: &[u64]) -> Result<WideAt, OutOfMemory>
+    requires { All (MemberBelow (length numbers.now)) wide.now.basis }
+    ensures { IfOk result (λ new. new ≡ renumbered_wide (number_in numbers.now) wide.now) }
+{
+    let basis = new_basis(alloc, wide.basis.as_slice(), numbers)?;
+    Ok(WideAt {
+        step: wide.step,
+        left: wide.left,
+        right: wide.right,
+        basis: Listed::from_items(basis),
+    })
+}
+
+/// The entries with the new numbers of their rows.
+fn new_entries(alloc: Global, entries: &[Entry], numbers: &[u64]) -> Result<Vec<Entry>, OutOfMemory>
+    requires { (named : ℕ → Bool) × AreNumbers named (length numbers.now) numbers.now × All (NamesKnown named (length numbers.now)) entries.now }
+    ensures { IfOk result (λ new. new.items ≡ map (renumbered (number_in numbers.now)) entries.now) }
+{
+    let mut new = Vec::new(alloc);
+    for entry in entries {
+        new.push(new_entry(alloc, entry, numbers)?)?;
+    }
+    Ok(new)
+}
+
+/// The tree with the new numbers of its rows.
+///
+/// # Errors
+///
+/// `OutOfMemory`.
+pub(crate) fn new_tree(alloc: Global, tree: &Tree, numbers: &[u64]) -> Result<Tree, OutOfMemory>
+    requires { (named : ℕ → Bool) × AreNumbers named (length numbers.now) numbers.now × All (NamesKnown named (length numbers.now)) tree.now }
+    ensures { IfOk result (λ new. new ≡ map (renumbered (number_in numbers.now)) tree.now) }
+{
+    let entries = new_entries(alloc, tree.as_slice(), numbers)?;
+    Ok(Tree::from_items(entries))
+}
+
+/// The tree at the same cap with the new numbers of its rows, if there is one.
+///
+/// # Errors
+///
+/// `OutOfMemory`.
+pub(crate) fn new_if_any(
+    alloc: Global,
+    tree: Option<&CapTree>,
+    numbers: &[u64],
+) -> Result<Option<CapTree>, OutOfMemory>
+    requires { (named : ℕ → Bool) × AreNumbers named (length numbers.now) numbers.now × TreeNamesKnown named (length numbers.now) (option_copied tree) }
+    ensures { IfOk result (HasNumbers (number_in numbers.now) (option_copied tree.entry)) }
+{
+    match tree {
+        Some(tree) => Ok(Some(CapTree {
+            cap: tree.cap,
+            tree: new_tree(alloc, &tree.tree, numbers)?,
+        })),
+        None => Ok(None),
+    }
+}

@@ -1,0 +1,78 @@
+//! The rows and trees that are printed.
+ghost use Rattle.std.specs.Prelude.{◌≡◌, ℕ, length, All, IfOk};
+ghost use Rattle.std.specs.Option.{option_copied};
+ghost use Rattle.printed_rows.specs.NamedRows.{NamesBelow, TreeNamesBelow};
+ghost use Rattle.printed_rows.specs.NewNumbers.{IsPrinted, ArePrinted};
+
+use crate::new_numbers::{marked_rows, new_if_any, new_numbers, new_tree};
+use crate::row_marks::{mark_if_any, mark_tree, no_marks};
+use cost_base::{Listed, OutOfMemory};
+use path_rows::{CapTree, Tree};
+use std::alloc::Global;
+
+/// Rows, and a tree over them.
+#[derive(Drop)]
+pub struct PrintedTree<R> {
+    pub rows: Vec<R>,
+    pub tree: Tree,
+}
+
+/// Rows, and the trees over them.
+#[derive(Drop)]
+pub struct PrintedTrees<R> {
+    pub rows: Listed<R>,
+    pub proof: Option<CapTree>,
+    pub unfinished: Option<CapTree>,
+}
+
+/// The rows that the tree names, in their order, and the tree with the new numbers of these rows. An entry names the row
+/// of a Tighten, those of a Refute, and those of a Halve's basis.
+///
+/// # Errors
+///
+/// `OutOfMemory`.
+pub fn printed<R: Drop>(
+    alloc: Global,
+    rows: Vec<R>,
+    tree: &Tree,
+) -> Result<PrintedTree<R>, OutOfMemory>
+    requires { All (NamesBelow (length rows.items)) tree.now }
+    ensures { IfOk result (λ sheet. IsPrinted rows.items tree.now sheet.rows.items sheet.tree) }
+{
+    let mut marks = no_marks(alloc, rows.len())?;
+    mark_tree(&mut marks, tree);
+    let numbers = new_numbers(alloc, marks.as_slice())?;
+    let tree = new_tree(alloc, tree, numbers.as_slice())?;
+    let rows = marked_rows(alloc, rows, marks.as_slice())?;
+    Ok(PrintedTree { rows, tree })
+}
+
+/// The rows that one of the trees names, in their order, and the trees with the new numbers of these rows.
+///
+/// # Errors
+///
+/// `OutOfMemory`.
+pub fn printed_both<R: Drop>(
+    alloc: Global,
+    rows: Vec<R>,
+    proof: Option<&CapTree>,
+    unfinished: Option<&CapTree>,
+) -> Result<PrintedTrees<R>, OutOfMemory>
+    requires proof { TreeNamesBelow (length rows.items) (option_copied proof) }
+    requires unfinished { TreeNamesBelow (length rows.items) (option_copied unfinished) }
+    ensures { IfOk result (λ sheet.
+        ArePrinted rows.items (option_copied proof.entry) (option_copied unfinished.entry) sheet.rows sheet.proof sheet.unfinished) }
+{
+    let mut marks = no_marks(alloc, rows.len())?;
+    mark_if_any(&mut marks, proof);
+    mark_if_any(&mut marks, unfinished);
+    let numbers = new_numbers(alloc, marks.as_slice())?;
+    let proof = new_if_any(alloc, proof, numbers.as_slice())?;
+    let unfinished = new_if_any(alloc, unfinished, numbers.as_slice())?;
+    let rows = marked_rows(alloc, rows, marks.as_slice())?;
+    Ok(PrintedTrees {
+        rows: Listed::from_items(rows),
+        proof,
+        unfinished,
+    })
+}

@@ -1,0 +1,102 @@
+//! Marks of the rows that trees name.
+ghost use Rattle.std.specs.Prelude.{◌≡◌, ℕ, ◌<◌, ◌==◌, false, length, slice_index_or, All, IfOk};
+ghost use Rattle.std.specs.List.{list_any};
+ghost use Rattle.std.specs.Option.{option_copied};
+ghost use Rattle.printed_rows.specs.NamedRows.{MemberBelow, NamesBelow, TreeNamesBelow, entries_in, is_named, member_names, names, part_names};
+ghost use Rattle.printed_rows.specs.NewNumbers.{AreMarked};
+
+use cost_base::OutOfMemory;
+use path_rows::{CapTree, Entry, Member, Tree};
+use std::alloc::Global;
+
+/// No mark for each of so many rows.
+///
+/// # Errors
+///
+/// `OutOfMemory`.
+pub(crate) fn no_marks(alloc: Global, count: usize) -> Result<Vec<bool>, OutOfMemory>
+    ensures counted { IfOk result (λ marks. length marks.items ≡ count) }
+    ensures none { IfOk result (λ marks. (row : ℕ) → slice_index_or marks.items row false ≡ false) }
+{
+    Ok(vec![in alloc; false; count]?)
+}
+
+/// Marks a row.
+fn mark(marks: &mut Vec<bool>, row: u64)
+    requires { row < length marks.old.items }
+    ensures { AreMarked (λ k. row == k) marks.old.items marks.new.items }
+{
+    marks[row as usize] = true;
+}
+
+/// Marks the row of a form of a basis, where it is a row's.
+fn mark_member(marks: &mut Vec<bool>, member: &Member)
+    requires { MemberBelow (length marks.old.items) member.now }
+    ensures { AreMarked (λ k. member_names k member.now) marks.old.items marks.new.items }
+{
+    match member {
+        Member::Row(row) => mark(marks, *row),
+        Member::Low(..) | Member::High(..) => {}
+    }
+}
+
+/// Marks the rows of a basis.
+fn mark_basis(marks: &mut Vec<bool>, basis: &[Member])
+    requires { All (MemberBelow (length marks.old.items)) basis.now }
+    ensures { AreMarked (λ k. list_any (member_names k) basis.now) marks.old.items marks.new.items }
+{
+    for member in basis {
+        mark_member(marks, member);
+    }
+}
+
+/// Marks the rows of a Refute.
+fn mark_parts(marks: &mut Vec<bool>, parts: &[(u64, u128)])
+    requires { All (λ part. part.0 < length marks.old.items) parts.now }
+    ensures { AreMarked (λ k. list_any (part_names k) parts.now) marks.old.items marks.new.items }
+{
+    for (row, _) in parts {
+        mark(marks, *row);
+    }
+}
+
+/// Marks the rows that an entry names.
+fn mark_entry(marks: &mut Vec<bool>, entry: &Entry)
+    requires { NamesBelow (length marks.old.items) entry.now }
+    ensures { AreMarked (λ k. names k entry.now) marks.old.items marks.new.items }
+{
+    match entry {
+        Entry::Tighten { row, .. } => mark(marks, *row),
+        Entry::Halve { wide, .. } => mark_basis(marks, wide.basis.as_slice()),
+        Entry::Refute { parts } => mark_parts(marks, parts.as_slice()),
+        Entry::Split { .. } | Entry::Undone => {}
+    }
+}
+
+/// Marks the rows that entries name.
+fn mark_entries(marks: &mut Vec<bool>, entries: &[Entry])
+    requires { All (NamesBelow (length marks.old.items)) entries.now }
+    ensures { AreMarked (is_named entries.now) marks.old.items marks.new.items }
+{
+    for entry in entries {
+        mark_entry(marks, entry);
+    }
+}
+
+/// Marks the rows that a tree names.
+pub(crate) fn mark_tree(marks: &mut Vec<bool>, tree: &Tree)
+    requires { All (NamesBelow (length marks.old.items)) tree.now }
+    ensures { AreMarked (is_named tree.now) marks.old.items marks.new.items }
+{
+    mark_entries(marks, tree.as_slice());
+}
+
+/// Marks the rows that a tree names, if there is one.
+pub(crate) fn mark_if_any(marks: &mut Vec<bool>, tree: Option<&CapTree>)
+    requires { TreeNamesBelow (length marks.old.items) (option_copied tree) }
+    ensures { AreMarked (is_named (entries_in (option_copied tree.entry))) marks.old.items marks.new.items }
+{
+    if let Some(tree) = tree {
+        mark_tree(marks, &tree.tree);
+    }
+}
