@@ -16,9 +16,9 @@ use Rattle.path_rows.specs.Rows.{IsRow, LeadsEach, form_of_row, forms_of_rows, p
 use Rattle.form_search.specs.Sources.{AreMet, Grows, IsAnswered}
 use Rattle.form_search.specs.declared.source.Asked.{Asked}
 use Rattle.form_search.specs.declared.source.Asked.TheVariants.{Nothing, Added}
-use Rattle.cost_branching.specs.Pools.{Differ, IsPool}
+use Rattle.cost_branching.specs.Pools.{AreRows, Differ, IsPool}
 use Rattle.cost_branching.specs.Rivals.{IsKept, IsTooCheap, IsTrueOf, KnownRows, LeadsAt}
-use Rattle.cost_branching.specs.Asking.{AnswersBelow, AreAsked, NoRow, OneRow}
+use Rattle.cost_branching.specs.Asking.{AnswersBelow, AreAllAsked, AreAsked, AreAskedAmong, NoRow, OneRow}
 use Rattle.cost_branching.specs.SourceLaws.{row_met, value_between}
 
 -- where the forms of rows are at least 0, each of them is
@@ -148,3 +148,57 @@ all_asked point requests old old_forms new new_forms asked all are = by_answer a
     by_answer : (asked : Asked) → AnswersBelow old.problem point requests old_forms new_forms asked → IsAnswered (LeadsEach old.problem) point old_forms new_forms asked
     by_answer Nothing answer = (all_lead old.problem point requests all answer.1, answer.0)
     by_answer Added answer = answer
+
+-- Requests that are asked where the pool may hold other forms besides those of the rows.
+
+-- the rows, with their own forms
+pub pool_of_rows : (p : DesignProblem) (rows : List Row) → AreRows p rows → IsPool p (record { rows = rows; forms = forms_of_rows p rows })
+pool_of_rows p rows are = record { rows = are.0; once = are.1; forms = refl }
+
+pub none_asked_among : (point : Point) (old : KnownRows) (forms : List Form) → AreRows old.problem old.rows → AreMet (forms_of_rows old.problem old.rows) point → AreAskedAmong point 0 old forms old forms Nothing
+none_asked_among point old forms are met = record {
+  own = none_asked point old (forms_of_rows old.problem old.rows) (pool_of_rows old.problem old.rows are) met;
+  more = [];
+  rows = sym (append-nil (forms_of_rows old.problem old.rows));
+  forms = sym (append-nil forms);
+  grows = record { more = []; same = sym (append-nil forms); more_true = All-nil (IsTrueOf old.problem) };
+}
+
+pub more_lead_among : (point : Point) (requests : ℕ) (old : KnownRows) (old_forms : List Form) (now : KnownRows) (forms : List Form) (new : KnownRows) (new_forms : List Form) (asked : Asked) → AreAskedAmong point requests old old_forms now forms asked → NoRow point requests now forms new new_forms → AreAskedAmong point (requests + 1) old old_forms new new_forms asked
+more_lead_among point requests old old_forms now forms new new_forms asked are one =
+    let own = forms_of_rows old.problem now.rows in
+    let same : forms_of_rows old.problem new.rows ≡ own = ap (λ (s : KnownRows). forms_of_rows old.problem s.rows) one.rows in
+    record {
+      own = more_lead point requests old (forms_of_rows old.problem old.rows) now own new (forms_of_rows old.problem new.rows) asked are.own (record { leads = one.leads; rows = one.rows; forms = same });
+      more = are.more;
+      rows = same ∙ are.rows;
+      forms = one.forms ∙ are.forms;
+      grows = subst (λ (fs : List Form). Grows (IsTrueOf old.problem) old_forms fs) (sym one.forms) are.grows;
+    }
+
+pub one_added_among : (point : Point) (requests : ℕ) (old : KnownRows) (old_forms : List Form) (now : KnownRows) (forms : List Form) (new : KnownRows) (new_forms : List Form) (asked : Asked) → AreAskedAmong point requests old old_forms now forms asked → AreMet (forms_of_rows old.problem old.rows) point → length point.values ≡ length old.problem.low → OneRow point requests now forms new new_forms → AreAskedAmong point (requests + 1) old old_forms new new_forms Added
+one_added_among point requests old old_forms now forms new new_forms asked are met count one =
+    let p = old.problem in
+    let own = forms_of_rows p now.rows in
+    let form = form_of_row p one.row in
+    let row_form : form_of_row now.problem one.row ≡ form = ap (λ (q : DesignProblem). form_of_row q one.row) are.own.problem in
+    let grown : forms_of_rows p new.rows ≡ own ++ form ∷ [] = ap (λ (s : KnownRows). forms_of_rows p s.rows) one.rows ∙ map-append (form_of_row p) now.rows (one.row ∷ []) in
+    record {
+      own = one_added point requests old (forms_of_rows p old.rows) now own new (forms_of_rows p new.rows) asked are.own met count
+          (record { kept = one.kept; row = one.row; request_is = one.request_is; cheap = one.cheap; rows = one.rows; forms = grown ∙ ap (λ (f : Form). own ++ f ∷ []) (sym row_form) });
+      more = are.more ++ form ∷ [];
+      rows = grown ∙ ap (λ (fs : List Form). fs ++ form ∷ []) are.rows ∙ append_assoc (forms_of_rows p old.rows) are.more (form ∷ []);
+      forms = one.forms ∙ ap (λ (f : Form). forms ++ f ∷ []) row_form ∙ ap (λ (fs : List Form). fs ++ form ∷ []) are.forms ∙ append_assoc old_forms are.more (form ∷ []);
+      grows = subst (λ (fs : List Form). Grows (IsTrueOf p) old_forms fs) (sym (one.forms ∙ ap (λ (f : Form). forms ++ f ∷ []) row_form))
+          (grows_more p old_forms forms form are.grows (record { kept = subst IsKept are.own.problem one.kept; of_row = record { row = one.row; is_row = (subst (λ (q : DesignProblem). IsTooCheap q point one.row.request one.row.rival.edges) are.own.problem one.cheap).rival; same = refl } }));
+    }
+
+pub all_asked_among : (point : Point) (requests : ℕ) (old : KnownRows) (old_forms : List Form) (new : KnownRows) (new_forms : List Form) (asked : Asked) → length old.problem.paths ≤ requests → AreAskedAmong point requests old old_forms new new_forms asked → AreAllAsked point old old_forms new new_forms asked
+all_asked_among point requests old old_forms new new_forms asked all are = record {
+  problem = are.own.problem;
+  are_rows = (are.own.in_step.rows, are.own.in_step.once);
+  more = are.more;
+  rows = are.rows;
+  forms = are.forms;
+  answer = all_asked point requests old (forms_of_rows old.problem old.rows) new (forms_of_rows old.problem new.rows) asked all are.own;
+}

@@ -5,11 +5,11 @@ use Rattle.path_rows.specs.Forms.{Form}
 use Rattle.path_rows.specs.Forms.{value_at}
 use Rattle.path_rows.specs.declared.form.Row.{Row}
 use Rattle.path_rows.specs.Problems.{DesignProblem}
-use Rattle.path_rows.specs.Rows.{LeadsEach, form_of_row}
-use Rattle.form_search.specs.Sources.{Grows, HasNewRival}
+use Rattle.path_rows.specs.Rows.{LeadsEach, form_of_row, forms_of_rows}
+use Rattle.form_search.specs.Sources.{Grows, HasNewRival, IsAnswered}
 use Rattle.form_search.specs.declared.source.Asked.{Asked}
 use Rattle.form_search.specs.declared.source.Asked.TheVariants.{Nothing, Added}
-use Rattle.cost_branching.specs.Pools.{IsPool}
+use Rattle.cost_branching.specs.Pools.{AreRows, IsPool}
 use Rattle.cost_branching.specs.Rivals.{IsKept, IsTooCheap, IsTrueOf, KnownRows, LeadsAt}
 
 -- the path of the request leads, and nothing came
@@ -45,3 +45,22 @@ pub record AreAsked (point : Point) (requests : ℕ) (old : KnownRows) (old_form
   pub grows : Grows (IsTrueOf old.problem) old_forms new_forms
   pub apart : All (λ row. (row.request < requests) ⊎ (pos 0 ≤ℤ value_at (form_of_row old.problem row) point)) new.rows
   pub answer : AnswersBelow old.problem point requests old_forms new_forms asked
+
+-- The first requests were asked, where the pool may hold other forms besides those of the rows: it got the forms of the rows
+-- that came, and no other.
+pub record AreAskedAmong (point : Point) (requests : ℕ) (old : KnownRows) (old_forms : List Form) (new : KnownRows) (new_forms : List Form) (asked : Asked) : Type 0 where
+  pub own : AreAsked point requests old (forms_of_rows old.problem old.rows) new (forms_of_rows old.problem new.rows) asked
+  pub more : List Form
+  pub rows : forms_of_rows old.problem new.rows ≡ forms_of_rows old.problem old.rows ++ more
+  pub forms : new_forms ≡ old_forms ++ more
+  pub grows : Grows (IsTrueOf old.problem) old_forms new_forms
+
+-- All requests were asked, where the pool may hold other forms besides those of the rows: it got the forms of the rows that
+-- came, and no other. The rows' own forms tell whether each path leads.
+pub record AreAllAsked (point : Point) (old : KnownRows) (old_forms : List Form) (new : KnownRows) (new_forms : List Form) (asked : Asked) : Type 0 where
+  pub problem : new.problem ≡ old.problem
+  pub are_rows : AreRows old.problem new.rows
+  pub more : List Form
+  pub rows : forms_of_rows old.problem new.rows ≡ forms_of_rows old.problem old.rows ++ more
+  pub forms : new_forms ≡ old_forms ++ more
+  pub answer : IsAnswered (LeadsEach old.problem) point (forms_of_rows old.problem old.rows) (forms_of_rows old.problem new.rows) asked

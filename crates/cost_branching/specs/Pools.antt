@@ -14,6 +14,10 @@ pub record Pooled : Type 0 where
 abbrev pub Differ : Row → Row → Type 0
 Differ a b = a.request ≡ b.request → a.rival.edges ≡ b.rival.edges → ⊥
 
+-- rows of a problem, none twice
+abbrev pub AreRows : DesignProblem → List Row → Type 0
+AreRows p rows = All (IsRow p) rows × AllPairs Differ rows
+
 -- a pool of a problem: each row is a row of the problem, none comes twice, and the forms are theirs, in order
 pub record IsPool (p : DesignProblem) (pool : Pooled) : Type 0 where
   pub rows : All (IsRow p) pool.rows

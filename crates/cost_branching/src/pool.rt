@@ -48,4 +48,11 @@ impl Pool {
     {
         self.rows.as_slice()
     }
+
+    /// The rows, in order, taken out. It takes no memory.
+    pub fn into_rows(self) -> Vec<Row>
+        ensures { result.items ≡ self.rows }
+    {
+        self.rows
+    }
 }

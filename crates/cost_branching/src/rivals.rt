@@ -1,10 +1,11 @@
 //! The rivals of a problem's wanted paths, as the source of a search.
-ghost use Rattle.std.specs.Prelude.{◌≡◌, ◌<◌, ◌++◌, ◌∷◌, [], length, IfOk, MatchBool, OnErr, OnOk};
-ghost use Rattle.path_rows.specs.Rows.{IsRow, form_of_row};
+ghost use Rattle.std.specs.Prelude.{◌≡◌, ◌<◌, ◌++◌, ◌∷◌, [], length, IfOk, IsTrue, MatchBool, OnErr, OnOk, ◌↔◌};
+ghost use Rattle.path_rows.specs.Rows.{IsRow, LeadsEach, form_of_row, forms_of_rows};
 ghost use Rattle.spf_ties.specs.Distances.{IsRoomFor};
-ghost use Rattle.form_search.specs.Sources.{IsCostPoint};
-ghost use Rattle.cost_branching.specs.Rivals.{BeginWith, IsKept, IsTooCheap, LeadsAt};
-ghost use Rattle.cost_branching.specs.Asking.{IsAskedOf};
+ghost use Rattle.form_search.specs.Sources.{AreMet, Grows, IsCostPoint};
+ghost use Rattle.cost_branching.specs.Pools.{AreRows};
+ghost use Rattle.cost_branching.specs.Rivals.{BeginWith, IsKept, IsTooCheap, IsTrueOf, LeadsAt};
+ghost use Rattle.cost_branching.specs.Asking.{AreAllAsked, IsAskedOf};
 
 use area_graph::{Path, Point};
 use cost_base::{Listed, OutOfMemory};
@@ -16,7 +17,7 @@ use std::alloc::Global;
 use std::marker::{Brand, Model, PhantomData};
 
 /// The problem of a search, and the rows with which it begins, for proofs alone: each call of a search picks its own.
-pub(crate) trait Begun {
+pub trait Begun {
     ghost use Rattle.std.specs.Prelude.{List};
     ghost use Rattle.path_rows.specs.declared.form.Row.{Row};
     ghost use Rattle.path_rows.specs.Problems.{DesignProblem};
@@ -41,7 +42,7 @@ impl Begun for Brand {
 /// It keeps room for distances, and the rows of the pool's forms, in the same order: those with which the search began,
 /// and behind them those that came since.
 #[derive(Drop)]
-pub(crate) struct Rivals<'a, B: Begun> {
+pub struct Rivals<'a, B: Begun> {
     problem: &'a Problem,
     room: Room,
     rows: Vec<Row>,
@@ -65,7 +66,7 @@ impl<'a, B: Begun> Model for Rivals<'a, B> {
 }
 
 /// A problem keeps its conditions, and so does its graph.
-pub(crate) fn keeps_conditions(problem: &Problem)
+pub fn keeps_conditions(problem: &Problem)
     ensures { IsKept problem.now }
 {
     problem.graph.keeps_conditions();
@@ -107,7 +108,7 @@ fn row_of(alloc: Global, request: u32, edges: &[u32]) -> Result<Row, OutOfMemory
 
 impl<'a, B: Begun> Rivals<'a, B> {
     /// The rivals of a problem's paths, where a search begins with these rows.
-    pub(crate) fn new(problem: &'a Problem, room: Room, rows: Vec<Row>) -> Rivals<'a, B>
+    pub fn new(problem: &'a Problem, room: Room, rows: Vec<Row>) -> Rivals<'a, B>
         requires problem { problem.now ≡ B.problem }
         requires room { IsRoomFor problem.now.graph room }
         requires begun { rows.items ≡ B.rows }
@@ -122,7 +123,7 @@ impl<'a, B: Begun> Rivals<'a, B> {
     }
 
     /// The rows that are known. Those with which the search began come first.
-    pub(crate) fn into_rows(self) -> Vec<Row>
+    pub fn into_rows(self) -> Vec<Row>
         ensures rows { result.items ≡ self.entry.rows }
         ensures begun { BeginWith B.rows result.items }
         ensures problem { self.entry.problem ≡ B.problem }
@@ -134,6 +135,20 @@ impl<'a, B: Begun> Rivals<'a, B> {
             begun: _,
         } = self;
         rows
+    }
+
+    /// The problem.
+    pub fn problem(&self) -> &Problem
+        ensures { result.now ≡ self.now.problem }
+    {
+        self.problem
+    }
+
+    /// The rows that are known, in order.
+    pub fn rows(&self) -> &[Row]
+        ensures { result.now ≡ self.now.rows }
+    {
+        self.rows.as_slice()
     }
 
     /// How many requests the problem has.
@@ -193,6 +208,48 @@ impl<'a, B: Begun> Rivals<'a, B> {
         self.push_row(alloc, row, pool)?;
         Ok(true)
     }
+
+    /// Whether each wanted path leads at the point by the scale. It takes no memory.
+    pub fn each_leads(&mut self, point: &Point) -> bool
+        requires { IsCostPoint (length self.old.problem.low) point.now }
+        ensures same { self.new ≡ self.old }
+        ensures answer { IsTrue result ↔ LeadsEach self.old.problem point.now }
+    {
+        for request in 0..self.requests() {
+            if self.has_rival(request, point) {
+                return false;
+            }
+        }
+        true
+    }
+
+    /// Asks each request in order for its cheapest rival. Each that costs less than its path and the scale becomes a row, and
+    /// its form comes at the end of the pool, which may hold other forms besides those of the rows.
+    ///
+    /// # Errors
+    ///
+    /// `OutOfMemory`. Then too only true forms came into the pool.
+    pub fn ask_all(
+        &mut self,
+        alloc: Global,
+        point: &Point,
+        pool: &mut FormPool,
+    ) -> Result<Asked, OutOfMemory>
+        requires rows { AreRows self.old.problem self.old.rows }
+        requires point { IsCostPoint (length self.old.problem.low) point.now }
+        requires met { AreMet (forms_of_rows self.old.problem self.old.rows) point.now }
+        ensures asked { IfOk result (AreAllAsked point.now self.old pool.old self.new pool.new) }
+        ensures problem { self.new.problem ≡ self.old.problem }
+        ensures grows { Grows (IsTrueOf self.old.problem) pool.old pool.new }
+    {
+        let mut asked = Asked::Nothing;
+        for request in 0..self.requests() {
+            if self.ask_one(alloc, request, point, pool)? {
+                asked = Asked::Added;
+            }
+        }
+        Ok(asked)
+    }
 }
 
 impl<'a, B: Begun> RowSource for Rivals<'a, B> {
@@ -224,22 +281,11 @@ impl<'a, B: Begun> RowSource for Rivals<'a, B> {
         point: &Point,
         pool: &mut FormPool,
     ) -> Result<Asked, OutOfMemory> {
-        let mut asked = Asked::Nothing;
-        for request in 0..self.requests() {
-            if self.ask_one(alloc, request, point, pool)? {
-                asked = Asked::Added;
-            }
-        }
-        Ok(asked)
+        self.ask_all(alloc, point, pool)
     }
 
     fn accepts(&mut self, point: &Point) -> bool {
-        for request in 0..self.requests() {
-            if self.has_rival(request, point) {
-                return false;
-            }
-        }
-        true
+        self.each_leads(point)
     }
 
     ghost true_forms_hold = { λ s. true_forms_hold s.problem };

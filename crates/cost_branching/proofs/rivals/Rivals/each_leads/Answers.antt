@@ -1,6 +1,6 @@
 use Rattle.std.proofs.Common.{◌≤◌, length, arith, rules}
 use Rattle.cost_branching.proofs.Asked.{all_lead}
-use Rattle.cost_branching.proofs.rivals.RivalsRowSource.accepts.Goals as goal
+use Rattle.cost_branching.proofs.rivals.Rivals.each_leads.Goals as goal
 
 pub returns-clause-answer : goal.returns-clause-answer
 returns-clause-answer g c =

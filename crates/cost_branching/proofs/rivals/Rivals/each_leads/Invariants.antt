@@ -1,6 +1,6 @@
 use Rattle.std.proofs.Common.{◌≡◌, ◌<◌, ℕ}
 use Rattle.cost_branching.specs.Rivals.{LeadsAt}
-use Rattle.cost_branching.proofs.rivals.RivalsRowSource.accepts.Given as goal
+use Rattle.cost_branching.proofs.rivals.Rivals.each_leads.Given as goal
 
 abbrev pub invariant-loop-request : goal.invariant-loop-request
 invariant-loop-request g l = record {
