@@ -14,7 +14,7 @@ use Rattle.area_graph.proofs.Numbers.{out_all}
 use Rattle.area_graph.proofs.Bounds.{cost_below}
 use Rattle.spf_ties.specs.Distances.{AreTight, Findings, IsLeast, IsLeastCost, adds_up, distance_at, is_tight}
 use Rattle.path_rows.proofs.PathBounds.{simple-short}
-use Rattle.rival_separation.specs.Rivals.{Completes, IsCheapest, IsFound}
+use Rattle.rival_separation.specs.Rivals.{Completes, HasWay, IsCheapest, IsFollowed, IsFound, ends_from}
 use Rattle.rival_separation.specs.Offers.{Offers}
 use Rattle.std.proofs.lemmas.Option.{same_Some}
 
@@ -28,16 +28,16 @@ length_seam [] y ys = omega arith
 length_seam (x ∷ xs) y ys = let more = length_seam xs y ys in omega arith
 
 -- what is least where some path costs so much
-record SomeLeast (g : Area) (p : Point) (ends : Ends) (d : Option ℕ) (most : ℕ) : Type 0 where
-  least : ℕ
-  is : d ≡ Some least
-  within : least ≤ most
+pub record SomeLeast (g : Area) (p : Point) (ends : Ends) (d : Option ℕ) (most : ℕ) : Type 0 where
+  pub least : ℕ
+  pub is : d ≡ Some least
+  pub within : least ≤ most
 
-some_least : (g : Area) (p : Point) (ends : Ends) (d : Option ℕ) → IsLeastCost g p ends d → (es : List ℕ) → IsPathOf g ends es → SomeLeast g p ends d (cost g p es)
+pub some_least : (g : Area) (p : Point) (ends : Ends) (d : Option ℕ) → IsLeastCost g p ends d → (es : List ℕ) → IsPathOf g ends es → SomeLeast g p ends d (cost g p es)
 some_least g p ends (Some x) least es path = record { least = x; is = refl; within = least.none_less es path }
 some_least g p ends None least es path = absurd (least es path)
 
-is_least : (g : Area) (p : Point) (ends : Ends) (d : Option ℕ) (x : ℕ) → IsLeastCost g p ends d → d ≡ Some x → IsLeast g p ends x
+pub is_least : (g : Area) (p : Point) (ends : Ends) (d : Option ℕ) (x : ℕ) → IsLeastCost g p ends d → d ≡ Some x → IsLeast g p ends x
 is_least g p ends d x least is = let at_some : IsLeastCost g p ends (Some x) = subst (λ (o : Option ℕ). IsLeastCost g p ends o) is least in at_some
 
 -- a least cost is below 2^26 times the scale
@@ -118,39 +118,53 @@ rival_above g p ends room wanted most graph found path above other is_path diffe
 pub leads_by : (g : Area) (p : Point) (ends : Ends) (room : Findings) (wanted : List ℕ) → FitsGraph g → IsFound g p ends room → IsPathOf g ends wanted → ((place e total : ℕ) → Offers g p ends.gone room wanted place e total → cost g p wanted + p.scale ≤ total) → LeadsBy p.scale g p ends wanted
 leads_by g p ends room wanted graph found path above = λ other is_path differs. rival_above g p ends room wanted (cost g p wanted + p.scale) graph found path above other is_path differs
 
--- the best offer, where it is cheap, is completed to a cheapest rival by any path of least cost
-pub completes : (g : Area) (p : Point) (ends : Ends) (room : Findings) (wanted : List ℕ) (place e total : ℕ) → FitsGraph g → FitsPoint g p → IsFound g p ends room → IsPathOf g ends wanted → Offers g p ends.gone room wanted place e total → ((k i other : ℕ) → Offers g p ends.gone room wanted k i other → total ≤ other) → total < cost g p wanted + p.scale → Completes g p ends room wanted (take place wanted ++ e ∷ []) (edge_at g e).to
-completes g p ends room wanted place e total graph fits found path offer best cheap = record {
+-- the best offer, where it is cheap, makes with any path of least cost a cheapest rival
+pub cheapest_by : (g : Area) (p : Point) (ends : Ends) (room : Findings) (wanted : List ℕ) (place e total : ℕ) → FitsGraph g → FitsPoint g p → IsFound g p ends room → IsPathOf g ends wanted → (offer : Offers g p ends.gone room wanted place e total) → ((k i other : ℕ) → Offers g p ends.gone room wanted k i other → total ≤ other) → total < cost g p wanted + p.scale → (rest : List ℕ) → IsPathOf g (ends_from ends (edge_at g e).to) rest → cost g p rest ≡ offer.rest → IsCheapest g p ends wanted (take place wanted ++ e ∷ rest)
+cheapest_by g p ends room wanted place e total graph fits found path offer best cheap rest is_path costs =
+    let walk : List ℕ = take place wanted ++ e ∷ rest in
+    let deviates = deviates_at g ends.gone ends.end ends.start wanted place e rest path.simple.joins offer.within offer.known offer.from offer.other offer.left is_path.simple.joins is_path.simple.none_twice is_path.kept in
+    let split = sum_by-append (λ i. price_at p (edge_at g i).price) (take place wanted) (e ∷ rest) in
+    let longer = sum_by-cons (λ i. price_at p (edge_at g i).price) e rest in
+    let sums = offer.sums in
+    let whole : cost g p (take place wanted ++ e ∷ rest) ≡ total = omega arith in
+    let least : (other : List ℕ) → Deviates g ends.gone ends.end ends.start wanted other → cost g p (take place wanted ++ e ∷ rest) ≤ cost g p other =
+    λ other off. (let taken = offered g p ends room graph found path.simple.end ends.start [] wanted other path.simple.joins off in
+    let above = best taken.place taken.edge taken.total taken.offer in let within = taken.within in omega arith) in
+    let once = least_deviation_simple g p ends.gone ends.end ends.start wanted (take place wanted ++ e ∷ rest) graph fits path.simple.joins path.simple.none_twice path.kept deviates (omega (arith, whole, cheap)) least in
+    let joins = deviation_joins g ends.gone ends.end ends.start wanted (take place wanted ++ e ∷ rest) path.simple.joins path.kept deviates in
+    record {
+      rival = record {
+        path = record { simple = record { start = path.simple.start; end = path.simple.end; joins = joins.0; none_twice = once }; kept = joins.1 };
+        other = deviation_differs g ends.gone ends.end ends.start wanted (take place wanted ++ e ∷ rest) deviates;
+      };
+      cheap = omega (arith, whole, cheap);
+      none_less = λ other rival. (let above = rival_above g p ends room wanted total graph found path best other rival.path rival.other in omega (arith, whole));
+    }
+
+-- so there is a way on from the offer's edge, behind the front of the path and that edge
+pub way_from : (g : Area) (p : Point) (ends : Ends) (room : Findings) (wanted front : List ℕ) (place e total : ℕ) → FitsGraph g → FitsPoint g p → IsFound g p ends room → IsPathOf g ends wanted → (offer : Offers g p ends.gone room wanted place e total) → ((k i other : ℕ) → Offers g p ends.gone room wanted k i other → total ≤ other) → total < cost g p wanted + p.scale → front ≡ take place wanted ++ e ∷ [] → HasWay g p ends (record room { path = front }) (edge_at g e).to
+way_from g p ends room wanted front place e total graph fits found path offer best cheap is_front = record {
   known = edge.to;
   least = offer.rest;
   distance = offer.distance;
-  cheapest = λ rest is_path costs. subst (λ (es : List ℕ). IsCheapest g p ends wanted es) (sym (append_assoc (take place wanted) (e ∷ []) rest)) (cheapest rest is_path costs);
+  short = λ rest is_path costs.
+      let whole = cheapest_by g p ends room wanted place e total graph fits found path offer best cheap rest is_path costs in
+      let short = simple-short g ends.start (take place wanted ++ e ∷ rest) ends.end graph whole.rival.path.simple in
+      let count = length-append (take place wanted) (e ∷ rest) in
+      let front_count = ap length is_front ∙ length-append (take place wanted) (e ∷ []) in
+      omega arith;
 }
   where
     edge : FitsEdge g (edge_at g e)
     edge = graph.edges e no_edge offer.known
 
-    cheapest : (rest : List ℕ) → IsPathOf g (record { start = (edge_at g e).to; end = ends.end; gone = ends.gone }) rest → cost g p rest ≡ offer.rest → IsCheapest g p ends wanted (take place wanted ++ e ∷ rest)
-    cheapest rest is_path costs =
-        let walk : List ℕ = take place wanted ++ e ∷ rest in
-        let deviates = deviates_at g ends.gone ends.end ends.start wanted place e rest path.simple.joins offer.within offer.known offer.from offer.other offer.left is_path.simple.joins is_path.simple.none_twice is_path.kept in
-        let split = sum_by-append (λ i. price_at p (edge_at g i).price) (take place wanted) (e ∷ rest) in
-        let longer = sum_by-cons (λ i. price_at p (edge_at g i).price) e rest in
-        let sums = offer.sums in
-        let whole : cost g p (take place wanted ++ e ∷ rest) ≡ total = omega arith in
-        let least : (other : List ℕ) → Deviates g ends.gone ends.end ends.start wanted other → cost g p (take place wanted ++ e ∷ rest) ≤ cost g p other =
-        λ other off. (let taken = offered g p ends room graph found path.simple.end ends.start [] wanted other path.simple.joins off in
-        let above = best taken.place taken.edge taken.total taken.offer in let within = taken.within in omega arith) in
-        let once = least_deviation_simple g p ends.gone ends.end ends.start wanted (take place wanted ++ e ∷ rest) graph fits path.simple.joins path.simple.none_twice path.kept deviates (omega (arith, whole, cheap)) least in
-        let joins = deviation_joins g ends.gone ends.end ends.start wanted (take place wanted ++ e ∷ rest) path.simple.joins path.kept deviates in
-        record {
-          rival = record {
-            path = record { simple = record { start = path.simple.start; end = path.simple.end; joins = joins.0; none_twice = once }; kept = joins.1 };
-            other = deviation_differs g ends.gone ends.end ends.start wanted (take place wanted ++ e ∷ rest) deviates;
-          };
-          cheap = omega (arith, whole, cheap);
-          none_less = λ other rival. (let above = rival_above g p ends room wanted total graph found path best other rival.path rival.other in omega (arith, whole));
-        }
+-- with the way that was followed the front is a cheapest rival
+pub followed_cheapest : (g : Area) (p : Point) (ends : Ends) (room : Findings) (wanted front walk : List ℕ) (place e total : ℕ) → FitsGraph g → FitsPoint g p → IsFound g p ends room → IsPathOf g ends wanted → Offers g p ends.gone room wanted place e total → ((k i other : ℕ) → Offers g p ends.gone room wanted k i other → total ≤ other) → total < cost g p wanted + p.scale → front ≡ take place wanted ++ e ∷ [] → IsFollowed g p ends (record room { path = front }) (edge_at g e).to walk → IsCheapest g p ends wanted walk
+followed_cheapest g p ends room wanted front walk place e total graph fits found path offer best cheap is_front followed =
+    let costs = same_Some (cost g p followed.rest) offer.rest (sym followed.costs ∙ offer.distance) in
+    let whole = cheapest_by g p ends room wanted place e total graph fits found path offer best cheap followed.rest followed.path costs in
+    let same = followed.same ∙ ap (λ (es : List ℕ). es ++ followed.rest) is_front ∙ append_assoc (take place wanted) (e ∷ []) followed.rest in
+    subst (λ (es : List ℕ). IsCheapest g p ends wanted es) (sym same) whole
 
 -- numbers that add up
 record Sums (from to : Option ℕ) (price : ℕ) : Type 0 where
@@ -172,7 +186,7 @@ sums_of (Some x) None price h = absurd (clash h)
 sums_of (Some x) (Some y) price h = record { x = x; y = y; from_is = refl; to_is = refl; adds = eqb-true x (price + y) h }
 
 -- a tight edge and a path of least cost from its end are a path
-along_tight : (g : Area) (p : Point) (ends : Ends) (room : Findings) (v f x y : ℕ) (rest : List ℕ) → FitsGraph g → FitsPoint g p → IsFound g p ends room → v < length g.vertices → f < length g.edges → (edge_at g f).from ≡ v → Lacks ends.gone f → distance_at room v ≡ Some x → x ≡ price_at p (edge_at g f).price + y → IsPathOf g (record { start = (edge_at g f).to; end = ends.end; gone = ends.gone }) rest → cost g p rest ≡ y → IsPathOf g (record { start = v; end = ends.end; gone = ends.gone }) (f ∷ rest)
+pub along_tight : (g : Area) (p : Point) (ends : Ends) (room : Findings) (v f x y : ℕ) (rest : List ℕ) → FitsGraph g → FitsPoint g p → IsFound g p ends room → v < length g.vertices → f < length g.edges → (edge_at g f).from ≡ v → Lacks ends.gone f → distance_at room v ≡ Some x → x ≡ price_at p (edge_at g f).price + y → IsPathOf g (record { start = (edge_at g f).to; end = ends.end; gone = ends.gone }) rest → cost g p rest ≡ y → IsPathOf g (record { start = v; end = ends.end; gone = ends.gone }) (f ∷ rest)
 along_tight g p ends room v f x y rest graph fits found inside known from left distance adds path costs =
     let joins : Joins g v (f ∷ rest) ends.end = (known, from, path.simple.joins) in
     let kept : Avoids ends.gone (f ∷ rest) = (left, path.kept) in
@@ -195,9 +209,25 @@ along_tight g p ends room v f x y rest graph fits found inside known from left d
       kept = kept;
     }
 
+-- what a way that is followed comes to
+abbrev pub IsWay : Area → Point → Ends → Findings → ℕ → List ℕ → Type 0
+IsWay g p ends room v walk = IsFollowed g p ends room v walk × (length walk < length g.vertices)
+
+-- where there is a way, the room's path is completed to it by any path of least cost
+pub way_completes : (g : Area) (p : Point) (ends : Ends) (room : Findings) (v : ℕ) → HasWay g p ends room v → Completes g p ends room (IsWay g p ends room v) room.path v
+way_completes g p ends room v way = record {
+  known = way.known;
+  least = way.least;
+  distance = way.distance;
+  whole = λ rest path costs. (
+    record { rest = rest; path = path; costs = way.distance ∙ ap (λ n. Some n) (sym costs); same = refl },
+    let short = way.short rest path costs in let count = length-append room.path rest in omega arith,
+  );
+}
+
 -- one more tight edge
-pub completes_more : (g : Area) (p : Point) (ends : Ends) (room : Findings) (wanted walk : List ℕ) (v f : ℕ) → FitsGraph g → FitsPoint g p → IsFound g p ends room → Completes g p ends room wanted walk v → f < length g.edges → (edge_at g f).from ≡ v → is_tight g p room f ≡ true → Lacks ends.gone f → Completes g p ends room wanted (walk ++ f ∷ []) (edge_at g f).to
-completes_more g p ends room wanted walk v f graph fits found so_far known from tight left =
+pub completes_more : (g : Area) (p : Point) (ends : Ends) (room : Findings) (Whole : List ℕ → Type 0) (walk : List ℕ) (v f : ℕ) → FitsGraph g → FitsPoint g p → IsFound g p ends room → Completes g p ends room Whole walk v → f < length g.edges → (edge_at g f).from ≡ v → is_tight g p room f ≡ true → Lacks ends.gone f → Completes g p ends room Whole (walk ++ f ∷ []) (edge_at g f).to
+completes_more g p ends room Whole walk v f graph fits found so_far known from tight left =
     let edge : FitsEdge g (edge_at g f) = graph.edges f no_edge known in
     let sums = sums_of (distance_at room (edge_at g f).from) (distance_at room (edge_at g f).to) (price_at p (edge_at g f).price) tight in
     let here : so_far.least ≡ sums.x = same_Some so_far.least sums.x (sym so_far.distance ∙ ap (distance_at room) (sym from) ∙ sums.from_is) in
@@ -206,50 +236,49 @@ completes_more g p ends room wanted walk v f graph fits found so_far known from 
       known = edge.to;
       least = sums.y;
       distance = sums.to_is;
-      cheapest = λ rest path costs. (
-          let whole = along_tight g p ends room v f so_far.least sums.y rest graph fits found so_far.known known from left so_far.distance (here ∙ adds) path costs in
+      whole = λ rest path costs. (
+          let longer_path = along_tight g p ends room v f so_far.least sums.y rest graph fits found so_far.known known from left so_far.distance (here ∙ adds) path costs in
           let longer = sum_by-cons (λ i. price_at p (edge_at g i).price) f rest in
-          subst (λ (es : List ℕ). IsCheapest g p ends wanted es) (sym (append_assoc walk (f ∷ []) rest))
-          (so_far.cheapest (f ∷ rest) whole (omega (arith, here, adds, costs, longer))));
+          subst Whole (sym (append_assoc walk (f ∷ []) rest))
+          (so_far.whole (f ∷ rest) longer_path (omega (arith, here, adds, costs, longer))));
     }
 
--- at the end the walk is a cheapest rival
-pub completed : (g : Area) (p : Point) (ends : Ends) (room : Findings) (wanted walk : List ℕ) (v : ℕ) → IsFound g p ends room → Completes g p ends room wanted walk v → v ≡ ends.end → IsCheapest g p ends wanted walk
-completed g p ends room wanted walk v found so_far arrived =
-    let path : IsPathOf g (record { start = v; end = ends.end; gone = ends.gone }) [] = record {
+append_nil : (xs : List ℕ) → xs ++ [] ≡ xs
+append_nil [] = refl
+append_nil (x ∷ xs) = ap (λ ys. x ∷ ys) (append_nil xs)
+
+-- at the end the walk is whole
+pub completed : (g : Area) (p : Point) (ends : Ends) (room : Findings) (Whole : List ℕ → Type 0) (walk : List ℕ) (v : ℕ) → IsFound g p ends room → Completes g p ends room Whole walk v → v ≡ ends.end → Whole walk
+completed g p ends room Whole walk v found so_far arrived =
+    let path : IsPathOf g (ends_from ends v) [] = record {
       simple = record { start = so_far.known; end = subst (λ (i : ℕ). i < length g.vertices) arrived so_far.known; joins = arrived; none_twice = (tt, tt) };
       kept = tt;
     } in
-    let least = is_least g p (record { start = v; end = ends.end; gone = ends.gone }) (distance_at room v) so_far.least (found.least v so_far.known) so_far.distance in
+    let least = is_least g p (ends_from ends v) (distance_at room v) so_far.least (found.least v so_far.known) so_far.distance in
     let none_less = least.none_less [] path in
-    subst (λ (es : List ℕ). IsCheapest g p ends wanted es) (simp append_nil) (so_far.cheapest [] path (omega arith))
-  where
-    append_nil : (xs : List ℕ) → xs ++ [] ≡ xs
-    append_nil [] = refl
-    append_nil (x ∷ xs) = ap (λ ys. x ∷ ys) (append_nil xs)
+    subst Whole (append_nil walk) (so_far.whole [] path (omega arith))
 
 -- short of the end some tight edge is left
-pub some_next : (g : Area) (p : Point) (ends : Ends) (room : Findings) (wanted walk : List ℕ) (v : ℕ) → IsFound g p ends room → Completes g p ends room wanted walk v → v ≢ ends.end → All (λ e. is_tight g p room e ≡ true → get_or room.marks e true ≡ false → ⊥) (edges_out g v) → ⊥
-some_next g p ends room wanted walk v found so_far short none = by_path least.path refl
+pub some_next : (g : Area) (p : Point) (ends : Ends) (room : Findings) (Whole : List ℕ → Type 0) (walk : List ℕ) (v : ℕ) → IsFound g p ends room → Completes g p ends room Whole walk v → v ≢ ends.end → All (λ e. is_tight g p room e ≡ true → get_or room.marks e true ≡ false → ⊥) (edges_out g v) → ⊥
+some_next g p ends room Whole walk v found so_far short none = by_path least.path refl
   where
-    least : IsLeast g p (record { start = v; end = ends.end; gone = ends.gone }) so_far.least
-    least = is_least g p (record { start = v; end = ends.end; gone = ends.gone }) (distance_at room v) so_far.least (found.least v so_far.known) so_far.distance
+    least : IsLeast g p (ends_from ends v) so_far.least
+    least = is_least g p (ends_from ends v) (distance_at room v) so_far.least (found.least v so_far.known) so_far.distance
 
     by_path : (es : List ℕ) → es ≡ least.path → ⊥
     by_path [] same = short (subst (λ (es : List ℕ). Joins g v es ends.end) (sym same) least.is_path.simple.joins)
     by_path (e ∷ es) same =
-        let path : IsPathOf g (record { start = v; end = ends.end; gone = ends.gone }) (e ∷ es) = subst (λ (xs : List ℕ). IsPathOf g (record { start = v; end = ends.end; gone = ends.gone }) xs) (sym same) least.is_path in
+        let path : IsPathOf g (ends_from ends v) (e ∷ es) = subst (λ (xs : List ℕ). IsPathOf g (ends_from ends v) xs) (sym same) least.is_path in
         let costs : so_far.least ≡ cost g p (e ∷ es) = sym least.costs ∙ ap (cost g p) (sym same) in
         let tight = (found.tight v (e ∷ es) path).0 (so_far.distance ∙ ap (λ n. Some n) costs) in
         let inside : e < length room.marks = (let known = path.simple.joins.0 in let count = found.room_for.edges in omega arith) in
         out_all (λ e. is_tight g p room e ≡ true → get_or room.marks e true ≡ false → ⊥) g v none e path.simple.joins.0 path.simple.joins.1 tight.0 ((found.marks e inside).1 path.kept.0)
 
--- short of the end the walk has fewer edges than the graph has vertices
-pub short_walk : (g : Area) (p : Point) (ends : Ends) (room : Findings) (wanted walk : List ℕ) (v : ℕ) → FitsGraph g → IsFound g p ends room → Completes g p ends room wanted walk v → length walk < length g.vertices
-short_walk g p ends room wanted walk v graph found so_far =
-    let least = is_least g p (record { start = v; end = ends.end; gone = ends.gone }) (distance_at room v) so_far.least (found.least v so_far.known) so_far.distance in
-    let whole = so_far.cheapest least.path least.is_path least.costs in
-    let short = simple-short g ends.start (walk ++ least.path) ends.end graph whole.rival.path.simple in
+-- where each whole walk has fewer edges than the graph has vertices, so has the walk so far
+pub short_walk : (g : Area) (p : Point) (ends : Ends) (room : Findings) (Whole : List ℕ → Type 0) (walk : List ℕ) (v : ℕ) → IsFound g p ends room → Completes g p ends room Whole walk v → ((es : List ℕ) → Whole es → length es < length g.vertices) → length walk < length g.vertices
+short_walk g p ends room Whole walk v found so_far each =
+    let least = is_least g p (ends_from ends v) (distance_at room v) so_far.least (found.least v so_far.known) so_far.distance in
+    let short = each (walk ++ least.path) (so_far.whole least.path least.is_path least.costs) in
     let count = length-append walk least.path in
     omega arith
 
@@ -270,8 +299,8 @@ found_kept g p ends room kept found = record {
   tight = λ v es path. (λ least. tight_kept g p room kept es ((found.tight v es path).0 least), λ tight. (found.tight v es path).1 (kept_tight g p room kept es tight));
 }
 
-pub completes_kept : (g : Area) (p : Point) (ends : Ends) (room : Findings) (wanted walk kept : List ℕ) (v : ℕ) → Completes g p ends room wanted walk v → Completes g p ends (record room { path = kept }) wanted walk v
-completes_kept g p ends room wanted walk kept v so_far = record { known = so_far.known; least = so_far.least; distance = so_far.distance; cheapest = so_far.cheapest }
+pub completes_kept : (g : Area) (p : Point) (ends : Ends) (room : Findings) (Whole : List ℕ → Type 0) (walk kept : List ℕ) (v : ℕ) → Completes g p ends room Whole walk v → Completes g p ends (record room { path = kept }) Whole walk v
+completes_kept g p ends room Whole walk kept v so_far = record { known = so_far.known; least = so_far.least; distance = so_far.distance; whole = so_far.whole }
 
 -- the first n elements are at most n
 pub take_short : (n : ℕ) (xs : List ℕ) → length (take n xs) ≤ n

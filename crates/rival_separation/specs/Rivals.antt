@@ -32,9 +32,27 @@ pub record IsNext (g : Area) (p : Point) (room : Findings) (v e : ℕ) : Type 0 
   pub tight : is_tight g p room e ≡ true
   pub left : slice_index_or room.marks e true ≡ false
 
--- a walk so far, and the vertex that it has come to: with any path of least cost from there on it is a cheapest rival
-pub record Completes (g : Area) (p : Point) (ends : Ends) (room : Findings) (wanted walk : List ℕ) (at_vertex : ℕ) : Type 0 where
+-- the ends of a request, from another vertex on
+abbrev pub ends_from : Ends → ℕ → Ends
+ends_from ends v = record { start = v; end = ends.end; gone = ends.gone }
+
+-- behind the path that a room keeps came a path of least cost from a vertex to the end of the request
+pub record IsFollowed (g : Area) (p : Point) (ends : Ends) (room : Findings) (v : ℕ) (walk : List ℕ) : Type 0 where
+  pub rest : List ℕ
+  pub path : IsPathOf g (ends_from ends v) rest
+  pub costs : distance_at room v ≡ Some (cost g p rest)
+  pub same : walk ≡ room.path ++ rest
+
+-- some path leads from the vertex to the end, and with any of least cost the room's path is shorter than the graph has vertices
+pub record HasWay (g : Area) (p : Point) (ends : Ends) (room : Findings) (v : ℕ) : Type 0 where
+  pub known : v < length g.vertices
+  pub least : ℕ
+  pub distance : distance_at room v ≡ Some least
+  pub short : (rest : List ℕ) → IsPathOf g (ends_from ends v) rest → cost g p rest ≡ least → length room.path + length rest < length g.vertices
+
+-- a walk so far, and the vertex that it has come to: with any path of least cost from there on it is as it should be
+pub record Completes (g : Area) (p : Point) (ends : Ends) (room : Findings) (Whole : List ℕ → Type 0) (walk : List ℕ) (at_vertex : ℕ) : Type 0 where
   pub known : at_vertex < length g.vertices
   pub least : ℕ
   pub distance : distance_at room at_vertex ≡ Some least
-  pub cheapest : (rest : List ℕ) → IsPathOf g (record { start = at_vertex; end = ends.end; gone = ends.gone }) rest → cost g p rest ≡ least → IsCheapest g p ends wanted (walk ++ rest)
+  pub whole : (rest : List ℕ) → IsPathOf g (ends_from ends at_vertex) rest → cost g p rest ≡ least → Whole (walk ++ rest)

@@ -1,23 +1,54 @@
 //! The deviation of least cost from a path.
 
-ghost use Rattle.std.specs.Prelude.{◌≡◌, ◌+◌, ◌<◌, ◌≤◌, ◌*◌, ◌^◌, ◌⊎◌, ℕ, MatchOption, Some, length, slice_index, take};
+ghost use Rattle.std.specs.Prelude.{◌≡◌, ◌+◌, ◌<◌, ◌≤◌, ◌*◌, ◌^◌, ◌⊎◌, ℕ, IfSome, MatchOption, Some, length, slice_index, take};
 ghost use Rattle.area_graph.specs.Area.{edge_at};
 ghost use Rattle.area_graph.specs.Costs.{FitsPoint, cost};
 ghost use Rattle.area_graph.specs.Paths.{IsPathOf};
 ghost use Rattle.path_rows.specs.Problems.{ends_of};
-ghost use Rattle.rival_separation.specs.Offers.{IsBest, Offers};
+ghost use Rattle.rival_separation.specs.Offers.{IsBest, IsOnward, Offers};
 ghost use Rattle.rival_separation.specs.Rivals.{IsFound};
 
 use area_graph::{Graph, Point, edge_of, price_of};
 use path_rows::Request;
 use spf_ties::Room;
 
-/// A walk that goes along a path to a place, leaves it there by an edge, and costs so much.
+/// A walk that leaves a path, or the common beginnings of several, at a place by an edge, and costs so much.
 #[derive(Clone, Copy)]
-pub(crate) struct Deviation {
-    pub(crate) place: usize,
-    pub(crate) edge: u32,
-    pub(crate) cost: u128,
+pub struct Deviation {
+    /// The place at which it leaves, counted from 0.
+    pub place: usize,
+    /// The edge by which it leaves.
+    pub edge: u32,
+    /// What the whole walk costs.
+    pub cost: u128,
+}
+
+/// What the cheapest walk costs that begins with an edge and goes on to the end of the request; None where the edge is
+/// taken away, or where no path leads on from it. The room has the distances to that end.
+pub fn onward(
+    graph: &Graph,
+    request: &Request,
+    point: &Point,
+    room: &Room,
+    number: u32,
+) -> Option<u128>
+    requires fits { FitsPoint graph.now point.now }
+    requires found { IsFound graph.now point.now (ends_of request.now) room.now }
+    requires known { number < length graph.now.edges }
+    ensures onward { MatchOption result
+        ((total : ℕ) → IsOnward graph.now point.now request.now.gone room.now number total → ⊥)
+        (λ total. IsOnward graph.now point.now request.now.gone room.now number total) }
+    ensures below { IfSome result (λ total. total < 2 ^ 27 * point.now.scale) }
+{
+    graph.keeps_conditions();
+    if !room.leaves(number) {
+        return None;
+    }
+    let edge = edge_of(graph, number);
+    match room.distance(edge.to) {
+        Some(rest) => Some(price_of(edge.price, point) + rest),
+        None => None,
+    }
 }
 
 /// What the cheapest walk costs that leaves the path at a place by an edge; None where the edge is the path's own or is
@@ -42,19 +73,17 @@ fn offer(
         ((total : ℕ) → Offers graph.now point.now request.now.gone room.now request.now.path.edges place number total → ⊥)
         (λ total. Offers graph.now point.now request.now.gone room.now request.now.path.edges place number total) }
 {
-    graph.keeps_conditions();
-    if number == request.path.edges.as_slice()[place] || !room.leaves(number) {
+    if number == request.path.edges.as_slice()[place] {
         return None;
     }
-    let edge = edge_of(graph, number);
-    match room.distance(edge.to) {
-        Some(rest) => Some(before + (price_of(edge.price, point) + rest)),
+    match onward(graph, request, point, room, number) {
+        Some(rest) => Some(before + rest),
         None => None,
     }
 }
 
 /// The better of the best deviation so far and a later one: the first, unless the later one costs less.
-fn better(best: Option<Deviation>, later: Deviation) -> Deviation
+pub fn better(best: Option<Deviation>, later: Deviation) -> Deviation
     ensures { MatchOption best (result ≡ later) (λ first. ((result ≡ later) × (later.cost < first.cost)) ⊎ ((result ≡ first) × (first.cost ≤ later.cost))) }
 {
     match best {

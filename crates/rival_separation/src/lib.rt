@@ -4,4 +4,5 @@
 mod deviation;
 mod rival;
 
-pub use rival::{Rival, cheapest_rival, find_rival};
+pub use deviation::{Deviation, better, onward};
+pub use rival::{Rival, cheapest_rival, find_rival, follow, put_front};

@@ -9,7 +9,7 @@ ghost use Rattle.path_rows.specs.Problems.{ends_of};
 ghost use Rattle.spf_ties.specs.Distances.{IsRoomFor, is_tight};
 ghost use Rattle.rival_separation.specs.Answers.{IsAnswer};
 ghost use Rattle.rival_separation.specs.Offers.{IsBest};
-ghost use Rattle.rival_separation.specs.Rivals.{Completes, IsCheapest, IsFound, IsNext};
+ghost use Rattle.rival_separation.specs.Rivals.{HasWay, IsCheapest, IsFollowed, IsFound, IsNext};
 ghost use Rattle.rival_separation.specs.declared.deviation.Deviation.{Deviation};
 
 use crate::deviation::{Deviation, least_deviation};
@@ -54,7 +54,7 @@ fn next_edge(graph: &Graph, point: &Point, room: &Room, vertex: u32) -> Option<u
 }
 
 /// Makes the path that the room keeps these edges.
-fn put_front(room: &mut Room, edges: &[u32])
+pub fn put_front(room: &mut Room, edges: &[u32])
     requires { length edges.now ≤ length room.old.costs }
     ensures { room.new ≡ record room.old { path = edges.now } }
 {
@@ -65,13 +65,13 @@ fn put_front(room: &mut Room, edges: &[u32])
 }
 
 /// Goes from a vertex along the least-numbered tight edges that weren't taken away, to the end of the request, and puts
-/// each behind the path that the room keeps.
-fn follow(graph: &Graph, request: &Request, point: &Point, start: u32, room: &mut Room)
+/// each behind the path that the room keeps: a path of least cost. The room has the distances to that end.
+pub fn follow(graph: &Graph, request: &Request, point: &Point, start: u32, room: &mut Room)
     requires fits { FitsPoint graph.now point.now }
     requires found { IsFound graph.now point.now (ends_of request.now) room.old }
-    requires so_far { Completes graph.now point.now (ends_of request.now) room.old request.now.path.edges room.old.path start }
+    requires way { HasWay graph.now point.now (ends_of request.now) room.old start }
     ensures room { IsRoomFor graph.now room.new }
-    ensures cheapest { IsCheapest graph.now point.now (ends_of request.now) request.now.path.edges room.new.path }
+    ensures followed { IsFollowed graph.now point.now (ends_of request.now) room.old start room.new.path }
 {
     graph.keeps_conditions();
     let mut at = start;

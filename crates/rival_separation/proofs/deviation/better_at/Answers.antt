@@ -7,8 +7,8 @@ use Rattle.area_graph.proofs.Numbers.{all_out}
 use Rattle.path_rows.specs.Problems.{ends_of}
 use Rattle.path_rows.proofs.PathBounds.{path-known}
 use Rattle.rival_separation.specs.declared.deviation.Deviation.{Deviation}
-use Rattle.rival_separation.specs.Offers.{IsBest}
-use Rattle.rival_separation.proofs.OfferLemmas.{SeenBut, best_begins, best_ends, best_with, best_without}
+use Rattle.rival_separation.specs.Offers.{IsBest, Offers}
+use Rattle.rival_separation.proofs.OfferLemmas.{SeenBut, best_begins, best_ends, best_with, best_without, offers_once, out_listed}
 use Rattle.rival_separation.proofs.deviation.better_at.Goals.{in-Some, in-None}
 use Rattle.rival_separation.proofs.deviation.better_at.Goals as goal
 
@@ -17,7 +17,11 @@ edge_of-requires c =
     subst (λ (es : List ℕ). All (λ e. e < length c.args.graph.now.edges) es) (sym c.as_slice.ensures) (path-known c.args.graph.now (ends_of c.args.request.now) c.args.request.now.path.edges c.requires.path) c.args.place 0 (subst (λ (es : List ℕ). c.args.place < length es) (sym c.as_slice.ensures) c.requires.place)
 
 pub loop-number-init : goal.loop-number-init
-loop-number-init c = best_begins c.args.graph.now c.args.point.now c.args.request.now.gone c.args.room.now c.args.request.now.path.edges c.args.place c.args.best c.requires.best
+loop-number-init c =
+    let g = c.args.graph.now in
+    let path = c.args.request.now.path.edges in
+    let v = (edge_at g (get_or path c.args.place 0)).from in
+    best_begins (Offers g c.args.point.now c.args.request.now.gone c.args.room.now path) c.args.place (edges_out g v) c.args.best (λ e total lacks offer. out_listed g v e offer.known offer.from lacks) c.requires.best
 
 pub offer-requires-clause-known : goal.offer-requires-clause-known
 offer-requires-clause-known c =
@@ -50,9 +54,9 @@ loop-number-preserved c =
     let before = subst (λ (xs : List ℕ). IsBest g p gone room path (SeenBut place xs) c.loop-number.found) split c.loop-number.invariant in
     elim c.match-offer.branch [
       | in-Some w ↦ subst (λ (best : Option Deviation). IsBest g p gone room path (SeenBut place (drop (i + 1) es)) best) (sym w.found-is)
-          (best_with g p gone room path place n w.in-Some.cost (drop (i + 1) es) c.loop-number.found w.better.result before w.in-Some.ensures w.better.ensures)
+          (best_with (Offers g p gone room path) (offers_once g p gone room path) place n w.in-Some.cost (drop (i + 1) es) c.loop-number.found w.better.result before w.in-Some.ensures w.better.ensures)
       | in-None w ↦ subst (λ (best : Option Deviation). IsBest g p gone room path (SeenBut place (drop (i + 1) es)) best) (sym w.found-is)
-          (best_without g p gone room path place n (drop (i + 1) es) c.loop-number.found before w.in-None.ensures)
+          (best_without (Offers g p gone room path) place n (drop (i + 1) es) c.loop-number.found before w.in-None.ensures)
     ]
 
 pub returns : goal.returns
@@ -63,5 +67,5 @@ returns c =
     let same : c.edges_out-number-items.result.now ≡ es =
     c.edges_out-number-items.ensures ∙ ap (λ (edge : Edge). edges_out g edge.from) c.edge_of.ensures ∙ ap (λ (xs : List ℕ). edges_out g (edge_at g (get_or xs c.args.place 0)).from) c.as_slice.ensures in
     let past : length es ≤ c.loop-number.number-index = subst (λ (xs : List ℕ). length xs ≤ c.loop-number.number-index) same c.loop-number-test.false in
-    best_ends g c.args.point.now c.args.request.now.gone c.args.room.now path c.args.place c.loop-number.found
+    best_ends (Offers g c.args.point.now c.args.request.now.gone c.args.room.now path) c.args.place c.loop-number.found
     (subst (λ (xs : List ℕ). IsBest g c.args.point.now c.args.request.now.gone c.args.room.now path (SeenBut c.args.place xs) c.loop-number.found) (drop_of_length-le es past) c.loop-number.invariant)

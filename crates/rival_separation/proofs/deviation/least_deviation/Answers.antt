@@ -6,6 +6,7 @@ use Rattle.area_graph.specs.Costs.{cost, price_at}
 use Rattle.area_graph.proofs.Bounds.{cost_below}
 use Rattle.path_rows.specs.Problems.{ends_of}
 use Rattle.path_rows.proofs.PathBounds.{path-known}
+use Rattle.rival_separation.specs.Offers.{Offers}
 use Rattle.rival_separation.proofs.OfferLemmas.{best_of_fewer}
 use Rattle.rival_separation.proofs.deviation.least_deviation.Goals as goal
 
@@ -38,4 +39,4 @@ pub returns : goal.returns
 returns c =
     let es = c.args.request.now.path.edges in
     let past : length es ≤ c.loop-place.place = subst (λ (xs : List ℕ). length xs ≤ c.loop-place.place) c.as_slice-number-items.ensures c.loop-place-test.false in
-    best_of_fewer c.args.graph.now c.args.point.now c.args.request.now.gone c.args.room.now es (λ k e. k < c.loop-place.place) (λ k e. k < length es) c.loop-place.best c.loop-place.invariant.best (λ k e total seen offer. omega arith)
+    best_of_fewer (Offers c.args.graph.now c.args.point.now c.args.request.now.gone c.args.room.now es) (λ k e. k < c.loop-place.place) (λ k e. k < length es) c.loop-place.best c.loop-place.invariant.best (λ k e total seen offer. omega arith)

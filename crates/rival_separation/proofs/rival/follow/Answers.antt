@@ -1,21 +1,33 @@
-use Rattle.std.proofs.Common.{rules, ◌∷◌, [], ◌++◌, ◌∙◌, ap, sym, subst, arith, length, length-append}
+use Rattle.std.proofs.Common.{rules, ◌∷◌, [], ◌++◌, ◌∙◌, ap, sym, subst, arith, ℕ, List, length, length-append}
 use Rattle.path_rows.specs.Problems.{ends_of}
 use Rattle.spf_ties.specs.Distances.{Findings}
 use Rattle.area_graph.specs.Area.{edge_at}
 use Rattle.area_graph.specs.declared.Edge.{Edge}
 use Rattle.rival_separation.specs.Rivals.{Completes, IsFound}
-use Rattle.rival_separation.proofs.RivalLemmas.{completed, completes_kept, completes_more, found_kept, short_walk, some_next}
+use Rattle.rival_separation.proofs.RivalLemmas.{IsWay, completed, completes_kept, completes_more, found_kept, short_walk, some_next, way_completes}
 use Rattle.rival_separation.proofs.rival.follow.Goals as goal
+
+pub loop-at-init : goal.loop-at-init
+loop-at-init c = record {
+  found = c.requires.found;
+  so_far = way_completes c.args.graph.now c.args.point.now (ends_of c.args.request.now) c.args.room.now c.args.start c.requires.way;
+}
 
 pub add_to_path-requires : goal.add_to_path-requires
 add_to_path-requires c =
-    let short = short_walk c.args.graph.now c.args.point.now (ends_of c.args.request.now) c.loop-at.room c.args.request.now.path.edges c.loop-at.room.path c.loop-at.at c.keeps_conditions.ensures.fits c.loop-at.invariant.found c.loop-at.invariant.so_far in
+    let g = c.args.graph.now in
+    let p = c.args.point.now in
+    let ends = ends_of c.args.request.now in
+    let short = short_walk g p ends c.loop-at.room (IsWay g p ends c.args.room.now c.args.start) c.loop-at.room.path c.loop-at.at c.loop-at.invariant.found c.loop-at.invariant.so_far (λ es whole. whole.1) in
     let count = c.loop-at.invariant.found.room_for.vertices in
     omega arith
 
 pub loop-at-smaller : goal.loop-at-smaller
 loop-at-smaller c =
-    let short = short_walk c.args.graph.now c.args.point.now (ends_of c.args.request.now) c.loop-at.room c.args.request.now.path.edges c.loop-at.room.path c.loop-at.at c.keeps_conditions.ensures.fits c.loop-at.invariant.found c.loop-at.invariant.so_far in
+    let g = c.args.graph.now in
+    let p = c.args.point.now in
+    let ends = ends_of c.args.request.now in
+    let short = short_walk g p ends c.loop-at.room (IsWay g p ends c.args.room.now c.args.start) c.loop-at.room.path c.loop-at.at c.loop-at.invariant.found c.loop-at.invariant.so_far (λ es whole. whole.1) in
     let count = c.loop-at.invariant.found.room_for.vertices in
     let same = ap (λ (r : Findings). length r.costs) c.add_to_path.ensures in
     let longer = ap (λ (r : Findings). length r.path) c.add_to_path.ensures ∙ length-append c.loop-at.room.path (c.in-Some.edge ∷ []) in
@@ -26,23 +38,23 @@ loop-at-preserved c =
     let g = c.args.graph.now in
     let p = c.args.point.now in
     let ends = ends_of c.args.request.now in
-    let wanted = c.args.request.now.path.edges in
     let room = c.loop-at.room in
     let edge = c.in-Some.edge in
     let next = c.in-Some.ensures in
     let longer = room.path ++ edge ∷ [] in
+    let Whole : List ℕ → Type 0 = IsWay g p ends c.args.room.now c.args.start in
     let left = (c.loop-at.invariant.found.marks edge (let known = next.known in let count = c.loop-at.invariant.found.room_for.edges in omega arith)).0 next.left in
-    let more = completes_more g p ends room wanted room.path c.loop-at.at edge c.keeps_conditions.ensures.fits c.requires.fits c.loop-at.invariant.found c.loop-at.invariant.so_far next.known next.from next.tight left in
+    let more = completes_more g p ends room (IsWay g p ends c.args.room.now c.args.start) room.path c.loop-at.at edge c.keeps_conditions.ensures.fits c.requires.fits c.loop-at.invariant.found c.loop-at.invariant.so_far next.known next.from next.tight left in
     record {
       found = subst (λ (r : Findings). IsFound g p ends r) (sym c.add_to_path.ensures) (found_kept g p ends room longer c.loop-at.invariant.found);
-      so_far = subst (λ (e : Edge). Completes g p ends c.add_to_path.new.self wanted c.add_to_path.new.self.path e.to) (sym c.edge_of-at.ensures)
-          (subst (λ (r : Findings). Completes g p ends r wanted r.path (edge_at g edge).to) (sym c.add_to_path.ensures) (completes_kept g p ends room wanted longer longer (edge_at g edge).to more));
+      so_far = subst (λ (e : Edge). Completes g p ends c.add_to_path.new.self Whole c.add_to_path.new.self.path e.to) (sym c.edge_of-at.ensures)
+          (subst (λ (r : Findings). Completes g p ends r Whole r.path (edge_at g edge).to) (sym c.add_to_path.ensures) (completes_kept g p ends room Whole longer longer (edge_at g edge).to more));
     }
 
-pub returns-clause-cheapest : goal.returns-clause-cheapest
-returns-clause-cheapest c =
-    completed c.args.graph.now c.args.point.now (ends_of c.args.request.now) c.loop-at.room c.args.request.now.path.edges c.loop-at.room.path c.loop-at.at c.loop-at.invariant.found c.loop-at.invariant.so_far (search rules)
+pub returns-clause-followed : goal.returns-clause-followed
+returns-clause-followed c =
+    (completed c.args.graph.now c.args.point.now (ends_of c.args.request.now) c.loop-at.room (IsWay c.args.graph.now c.args.point.now (ends_of c.args.request.now) c.args.room.now c.args.start) c.loop-at.room.path c.loop-at.at c.loop-at.invariant.found c.loop-at.invariant.so_far (search rules)).0
 
-pub returns-in-None-clause-cheapest : goal.returns-in-None-clause-cheapest
-returns-in-None-clause-cheapest c =
-    absurd (some_next c.args.graph.now c.args.point.now (ends_of c.args.request.now) c.loop-at.room c.args.request.now.path.edges c.loop-at.room.path c.loop-at.at c.loop-at.invariant.found c.loop-at.invariant.so_far (search rules) c.in-None.ensures)
+pub returns-in-None-clause-followed : goal.returns-in-None-clause-followed
+returns-in-None-clause-followed c =
+    absurd (some_next c.args.graph.now c.args.point.now (ends_of c.args.request.now) c.loop-at.room (IsWay c.args.graph.now c.args.point.now (ends_of c.args.request.now) c.args.room.now c.args.start) c.loop-at.room.path c.loop-at.at c.loop-at.invariant.found c.loop-at.invariant.so_far (search rules) c.in-None.ensures)

@@ -1,12 +1,13 @@
 use Rattle.std.proofs.Common.{◌-◌, length}
 use Rattle.path_rows.specs.Problems.{ends_of}
 use Rattle.rival_separation.specs.Rivals.{Completes, IsFound}
+use Rattle.rival_separation.proofs.RivalLemmas.{IsWay}
 use Rattle.rival_separation.proofs.rival.follow.Given as goal
 
 abbrev pub invariant-loop-at : goal.invariant-loop-at
 invariant-loop-at l = record {
   found : IsFound l.graph l.point (ends_of l.request) l.room;
-  so_far : Completes l.graph l.point (ends_of l.request) l.room l.request.path.edges l.room.path l.at;
+  so_far : Completes l.graph l.point (ends_of l.request) l.room (IsWay l.graph l.point (ends_of l.request) l.fn.room l.start) l.room.path l.at;
 }
 
 abbrev pub decreases-loop-at : goal.decreases-loop-at

@@ -1,0 +1,4 @@
+pub mod SetLineLaws
+pub mod MemberLaws
+pub mod SetLaws
+pub mod FileLaws

@@ -1,0 +1,135 @@
+-- The sets that a file says, and its faults.
+use Rattle.std.specs.Prelude.{◌≡◌, ℕ, ◌+◌, List, [], ◌∷◌, ◌++◌, ◌||◌, ◌&&◌, not, nat_eq, nat_lt, nat_le, if◌then◌else◌, Bool, false, Option, Some, None, length, IsPermutation}
+use Rattle.std.specs.List.{filter_map, list_any, concat, AllZip}
+use Rattle.std.specs.List.Sorted.{IsStrictlyIncreasing}
+use Rattle.cost_base.specs.Lists.{first_of, same_bytes}
+use Rattle.text_lines.specs.Lines.{lines}
+use Rattle.path_rows.specs.declared.problem.Request.{Request}
+use Rattle.path_rows.specs.Problems.{DesignProblem, request_at}
+use Rattle.set_reader.specs.declared.stop.SetFault.{SetFault}
+use Rattle.set_reader.specs.declared.stop.SetFault.TheVariants.{BadSetLine, WrongSet}
+use Rattle.set_reader.specs.declared.stop.SetStop.{SetStop}
+use Rattle.set_reader.specs.declared.stop.SetStop.TheVariants.{Refused, OutOfMemory}
+use Rattle.set_reader.specs.declared.reading.statement.Statement.{Statement}
+use Rattle.set_reader.specs.declared.reading.statement.Statement.TheVariants.{Passed, Header, Numbers, Off}
+use Rattle.set_reader.specs.SetLines.{said_by, speaks, numbers_in}
+
+abbrev pub stands_in : ℕ → List ℕ → Bool
+stands_in i numbers = list_any (nat_eq i) numbers
+
+-- the two paths lead between the same ends
+abbrev pub same_ends : Request → Request → Bool
+same_ends a b = nat_eq a.path.start b.path.start && nat_eq a.end b.end
+
+-- a request's path has other ends than the path of the set's first member
+abbrev pub has_other_ends : List Request → List ℕ → Request → Bool
+has_other_ends requests [] request = false
+has_other_ends requests (first ∷ more) request = not (same_ends (request_at requests first) request)
+
+-- a request's path has the edges of a member's
+abbrev pub has_edges_of : List Request → Request → ℕ → Bool
+has_edges_of requests request member = same_bytes request.path.edges (request_at requests member).path.edges
+
+abbrev pub takes_away : Request → Bool
+takes_away request = nat_lt 0 (length request.gone)
+
+-- A number may not stand behind these members of its set and these earlier numbers: it is no path's, or it stands there
+-- already; or its path has other ends than the first member's, or the same edges as a member's; or its request takes an edge
+-- away.
+abbrev pub is_wrong_behind : List Request → List ℕ → List ℕ → ℕ → Bool
+is_wrong_behind requests earlier members i =
+    not (nat_lt i (length requests))
+    || stands_in i earlier
+    || stands_in i members
+    || has_other_ends requests members (request_at requests i)
+    || list_any (has_edges_of requests (request_at requests i)) members
+    || takes_away (request_at requests i)
+
+-- one of the numbers behind these members may not stand there
+abbrev pub is_wrong_from : List Request → List ℕ → List ℕ → List ℕ → Bool
+is_wrong_from requests earlier members [] = false
+is_wrong_from requests earlier members (i ∷ more) =
+    is_wrong_behind requests earlier members i || is_wrong_from requests earlier (members ++ i ∷ []) more
+
+-- the numbers of a `set` line are no set behind the numbers of earlier sets
+abbrev pub is_wrong_set : List Request → List ℕ → List ℕ → Bool
+is_wrong_set requests earlier numbers = is_wrong_from requests earlier [] numbers
+
+-- what some lines say together: whether one of them is neither blank nor a comment, and the numbers of each `set` line
+pub record Told : Type 0 where
+  pub spoken : Bool
+  pub sets : List (List ℕ)
+
+abbrev pub told_by : List (List ℕ) → Told
+told_by file = record {
+  spoken = list_any (λ line. speaks (said_by line)) file;
+  sets = filter_map (λ line. numbers_in (said_by line)) file;
+}
+
+abbrev pub wrong_if : Bool → Option SetFault
+wrong_if wrong = if wrong then Some WrongSet else None
+
+-- the fault of a line behind a header
+abbrev pub fault_behind_header : List Request → Told → Statement → Option SetFault
+fault_behind_header requests told (Numbers numbers) = wrong_if (is_wrong_set requests (concat told.sets) numbers)
+fault_behind_header requests told Header = Some BadSetLine
+fault_behind_header requests told Off = Some BadSetLine
+fault_behind_header requests told Passed = None
+
+-- the fault of a line behind lines that say these things: the first that isn't passed has to be the header
+abbrev pub fault_said : List Request → Told → Statement → Option SetFault
+fault_said requests told Passed = None
+fault_said requests told Header = if told.spoken then Some BadSetLine else None
+fault_said requests told statement = if told.spoken then fault_behind_header requests told statement else Some BadSetLine
+
+-- the fault of a line of any length
+abbrev pub fault_of : List Request → Told → List ℕ → Option SetFault
+fault_of requests told line = if nat_le (length line) 65536 then fault_said requests told (said_by line) else Some BadSetLine
+
+-- a fault, and the line at which it stands
+pub record FaultyLine : Type 0 where
+  pub fault : SetFault
+  pub line : ℕ
+
+abbrev pub fault_at : ℕ → SetFault → FaultyLine
+fault_at n fault = record { fault = fault; line = n }
+
+abbrev pub faults_at : ℕ → Option SetFault → List FaultyLine
+faults_at n None = []
+faults_at n (Some fault) = fault_at n fault ∷ []
+
+-- the faults of these lines, which follow some lines
+abbrev pub line_faults : List Request → List (List ℕ) → List (List ℕ) → List FaultyLine
+line_faults requests before [] = []
+line_faults requests before (line ∷ more) =
+    faults_at (length before + 1) (fault_of requests (told_by before) line) ++ line_faults requests (before ++ line ∷ []) more
+
+-- the fault of a text without a header: it stands behind the last line
+abbrev pub end_faults : List (List ℕ) → List FaultyLine
+end_faults file = if (told_by file).spoken then [] else fault_at (length file + 1) BadSetLine ∷ []
+
+-- the faults of a file of sets, in the order of its lines
+abbrev pub set_faults : List Request → List (List ℕ) → List FaultyLine
+set_faults requests file = line_faults requests [] file ++ end_faults file
+
+-- the fault for which a file of sets is refused
+abbrev pub set_fault : DesignProblem → List ℕ → Option FaultyLine
+set_fault p bytes = first_of (set_faults p.paths (lines bytes))
+
+-- the numbers of each `set` line of a file, in the order of the lines
+abbrev pub numbers_said : List ℕ → List (List ℕ)
+numbers_said bytes = (told_by (lines bytes)).sets
+
+-- the numbers of a line, in rising order
+pub record IsInOrder (numbers set : List ℕ) : Type 0 where
+  pub same : IsPermutation numbers set
+  pub rising : IsStrictlyIncreasing set
+
+-- the sets of the `set` lines, in the order of the lines
+abbrev pub AreSaid : List ℕ → List (List ℕ) → Type 0
+AreSaid bytes sets = AllZip IsInOrder (numbers_said bytes) sets
+
+-- a stop tells the fault; want of memory says nothing
+abbrev pub TellsReading : Option FaultyLine → SetStop → Type 0
+TellsReading faulty (Refused fault line) = faulty ≡ Some (fault_at line fault)
+TellsReading faulty OutOfMemory = Unit {0}

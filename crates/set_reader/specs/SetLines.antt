@@ -1,0 +1,55 @@
+-- What a line of a file of sets says by itself.
+use Rattle.std.specs.Prelude.{ℕ, List, [], ◌∷◌, ◌&&◌, if◌then◌else◌, Bool, true, false, Option, Some, None, codes}
+use Rattle.cost_base.specs.Lists.{same_bytes}
+use Rattle.text_lines.specs.Lines.{words, starts_comment}
+use Rattle.text_lines.specs.Numbers.{number}
+use Rattle.set_reader.specs.declared.reading.statement.Statement.{Statement}
+use Rattle.set_reader.specs.declared.reading.statement.Statement.TheVariants.{Passed, Header, Numbers, Off}
+
+-- `ospfcost spread 1`
+abbrev pub header_line : List (List ℕ) → Statement
+header_line (spread ∷ version ∷ []) = if same_bytes spread (codes "spread") && same_bytes version (codes "1") then Header else Off
+header_line _ = Off
+
+abbrev pub with_number : Option ℕ → Option (List ℕ) → Option (List ℕ)
+with_number (Some n) (Some ns) = Some (n ∷ ns)
+with_number _ _ = None
+
+-- words that are all numbers, of at most ten digits each
+abbrev pub numbers_of : List (List ℕ) → Option (List ℕ)
+numbers_of [] = Some []
+numbers_of (word ∷ words) = with_number (number word 9999999999) (numbers_of words)
+
+abbrev pub several : Option (List ℕ) → Statement
+several (Some (i ∷ j ∷ more)) = Numbers (i ∷ j ∷ more)
+several _ = Off
+
+-- `set I J ..`
+abbrev pub set_line : List (List ℕ) → Statement
+set_line words = several (numbers_of words)
+
+-- what the words behind the first one say
+abbrev pub line_of : List ℕ → List (List ℕ) → Statement
+line_of word words =
+    if same_bytes word (codes "set") then set_line words
+    else if same_bytes word (codes "ospfcost") then header_line words
+    else Off
+
+-- what a line with these words says: nothing where it is blank or a comment
+abbrev pub statement_of : List (List ℕ) → Statement
+statement_of [] = Passed
+statement_of (word ∷ words) = if starts_comment word then Passed else line_of word words
+
+-- what a line says
+abbrev pub said_by : List ℕ → Statement
+said_by line = statement_of (words line)
+
+-- the line is neither blank nor a comment
+abbrev pub speaks : Statement → Bool
+speaks Passed = false
+speaks _ = true
+
+-- the numbers of a `set` line
+abbrev pub numbers_in : Statement → Option (List ℕ)
+numbers_in (Numbers ns) = Some ns
+numbers_in _ = None

@@ -1,0 +1,15 @@
+//! What a line of a file of sets says.
+use cost_base::Listed;
+
+/// What a line of a file of sets says by itself.
+#[derive(Drop)]
+pub(crate) enum Statement {
+    /// Nothing: the line is blank or a comment.
+    Passed,
+    /// The header.
+    Header,
+    /// The numbers of a `set` line, in its order.
+    Numbers(Listed<u64>),
+    /// The line is off the form.
+    Off,
+}

@@ -1,0 +1,3 @@
+pub mod Outsiders
+pub mod PrefixTrees
+pub mod Departures

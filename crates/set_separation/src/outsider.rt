@@ -1,0 +1,102 @@
+//! The cheapest outsider of several wanted paths.
+
+ghost use Rattle.std.specs.Prelude.{◌≡◌, ℕ, ◌+◌, ◌<◌, ◌≤◌, List, MatchBool, Some, length};
+ghost use Rattle.area_graph.specs.Costs.{FitsPoint, cost};
+ghost use Rattle.area_graph.specs.Paths.{IsPathOf};
+ghost use Rattle.path_rows.specs.Problems.{ends_of};
+ghost use Rattle.rival_separation.specs.Offers.{IsBestOf};
+ghost use Rattle.rival_separation.specs.Rivals.{IsFound};
+ghost use Rattle.rival_separation.specs.declared.deviation.Deviation.{Deviation};
+ghost use Rattle.spf_ties.specs.Distances.{IsRoomFor};
+ghost use Rattle.set_separation.specs.Departures.{ArePlaceCosts, Departs, IsTiedTree};
+ghost use Rattle.set_separation.specs.Outsiders.{CostAtLeast, IsCheapestOutsider};
+ghost use Rattle.set_separation.specs.PrefixTrees.{IsGrown, IsTreeOf, prefix_at};
+
+use crate::PrefixTree;
+use crate::departure::{least_departure, put_place_costs};
+use area_graph::{Graph, Point, edge_of, path_cost};
+use path_rows::Request;
+use rival_separation::{Deviation, follow};
+use spf_ties::Room;
+
+/// Makes the path that the room keeps the prefix of a place.
+fn put_prefix(graph: &Graph, request: &Request, tree: &PrefixTree, place: usize, room: &mut Room)
+    requires room { IsRoomFor graph.now room.old }
+    requires tree { (wanted : List (List ℕ)) × IsTreeOf graph.now (ends_of request.now) wanted tree.now }
+    requires place { place ≤ length tree.now }
+    ensures { (wanted done : List (List ℕ)) (tree : IsGrown wanted done tree.now) → room.new ≡ record room.old { path = prefix_at tree.prefixes place } }
+{
+    graph.keeps_conditions();
+    if place == 0 {
+        room.clear_path();
+        return;
+    }
+    let step = tree.steps()[place - 1];
+    put_prefix(graph, request, tree, step.place, room);
+    room.add_to_path(step.edge);
+}
+
+/// Makes the path that the room keeps the cheapest outsider: up to the place of the best departure it is that place's prefix.
+fn lay_out(
+    graph: &Graph,
+    request: &Request,
+    point: &Point,
+    tree: &PrefixTree,
+    costs: &[u128],
+    best: Deviation,
+    room: &mut Room,
+)
+    requires fits { FitsPoint graph.now point.now }
+    requires found { IsFound graph.now point.now (ends_of request.now) room.old }
+    requires tree { (wanted : List (List ℕ)) × IsTiedTree graph.now point.now (ends_of request.now) (cost graph.now point.now request.now.path.edges) wanted tree.now }
+    requires costs { ArePlaceCosts graph.now point.now tree.now (length tree.now) costs.now }
+    requires best { IsBestOf (Departs graph.now point.now (ends_of request.now) room.old tree.now costs.now) (λ place e. place ≤ length tree.now) (Some best) }
+    requires cheap { best.cost < cost graph.now point.now request.now.path.edges + point.now.scale }
+    ensures room { IsRoomFor graph.now room.new }
+    ensures cheapest { (wanted : List (List ℕ)) → IsTiedTree graph.now point.now (ends_of request.now) (cost graph.now point.now request.now.path.edges) wanted tree.now →
+        IsCheapestOutsider graph.now point.now (ends_of request.now) wanted (cost graph.now point.now request.now.path.edges + point.now.scale) room.new.path }
+{
+    graph.keeps_conditions();
+    put_prefix(graph, request, tree, best.place, room);
+    room.add_to_path(best.edge);
+    follow(graph, request, point, edge_of(graph, best.edge).to, room);
+}
+
+/// Looks for the cheapest outsider of some wanted paths at a point at which they cost the same, and tells whether one costs
+/// less than they and the scale. Then the path that the room keeps is such an outsider, and no outsider costs less. The
+/// request is that of one of the paths, the tree is that of them all, and `costs` has a number for each of its places. Takes
+/// no memory, and time in proportion to the places and the edges out of their vertices, besides that of the distances.
+pub fn find_outsider(
+    graph: &Graph,
+    request: &Request,
+    point: &Point,
+    tree: &PrefixTree,
+    costs: &mut [u128],
+    room: &mut Room,
+) -> bool
+    requires room { IsRoomFor graph.now room.old }
+    requires fits { FitsPoint graph.now point.now }
+    requires path { IsPathOf graph.now (ends_of request.now) request.now.path.edges }
+    requires tree { (wanted : List (List ℕ)) × IsTiedTree graph.now point.now (ends_of request.now) (cost graph.now point.now request.now.path.edges) wanted tree.now }
+    requires enough { length tree.now + 1 ≤ length costs.old }
+    ensures room { IsRoomFor graph.now room.new }
+    ensures count { length costs.new ≡ length costs.old }
+    ensures outsider { (wanted : List (List ℕ)) → IsTiedTree graph.now point.now (ends_of request.now) (cost graph.now point.now request.now.path.edges) wanted tree.now →
+        MatchBool result
+        (IsCheapestOutsider graph.now point.now (ends_of request.now) wanted (cost graph.now point.now request.now.path.edges + point.now.scale) room.new.path)
+        (CostAtLeast graph.now point.now (ends_of request.now) wanted (cost graph.now point.now request.now.path.edges + point.now.scale)) }
+{
+    graph.keeps_conditions();
+    room.distances_without(graph, point, request.end, request.gone.as_slice());
+    put_place_costs(graph, request, point, tree, costs);
+    let cost = path_cost(graph, &request.path, point);
+    let best = match least_departure(graph, request, point, room, tree, costs) {
+        Some(best) => best,
+        None => return false,
+    };
+    if cost + point.scale <= best.cost {
+        return false;
+    }
+    lay_out(graph, request, point, tree, costs, best, room);
+    true
+}
