@@ -1,0 +1,4 @@
+pub mod Sets
+pub mod ShrinkingLaws
+pub mod TreesOfSets
+pub mod LargeBudgets

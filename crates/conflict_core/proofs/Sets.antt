@@ -1,0 +1,183 @@
+-- Sets of requests: fewer requests, the rows of a restricted problem in the whole one, and conflicts that are refuted.
+use Rattle.std.proofs.Common.{◌≡◌, ℕ, zero, suc, ◌+◌, ◌<◌, ◌≤◌, refl, sym, ◌∙◌, ap, subst, inl, inr, List, [], ◌∷◌, ◌++◌, map, length, get_or, arith}
+use Rattle.std.specs.Prelude.{All, Contains, slice_get, slice_index, slice_index_or, Option, None, Some}
+use Rattle.std.specs.List.{remove}
+use Rattle.std.specs.List.Sorted.{IsStrictlyIncreasing}
+use Rattle.std.proofs.lemmas.Bool.{cases_lt}
+use Rattle.std.proofs.lemmas.List.{length-map, get_or-map, get_or_default}
+use Rattle.std.proofs.lemmas.List.Edits.{get_or-remove_below, get_or-remove_above, length-remove}
+use Rattle.std.proofs.lemmas.List.Kept.{AllPairs-from_increasing}
+use Rattle.std.proofs.lemmas.List.Quantifiers.{all_pairs_remove}
+use Rattle.std.proofs.lemmas.Option.{slice_get-get_or, slice_get-map, slice_get_past}
+use Rattle.cost_base.specs.Lists.{numbers_from}
+use Rattle.cost_base.proofs.ListLemmas.{get_or-map-numbers_from, get_or-numbers_from, length-map-numbers_from, length-numbers_from, numbers_from-push}
+use Rattle.area_graph.specs.Area.{Area}
+use Rattle.area_graph.specs.Costs.{IsOnlyCheapest, at_costs}
+use Rattle.path_rows.specs.declared.problem.Request.{Request}
+use Rattle.path_rows.specs.declared.form.Form.{Form}
+use Rattle.path_rows.specs.declared.form.Row.{Row}
+use Rattle.path_rows.specs.Problems.{DesignProblem, IsProblem, ends_of, no_request, request_at, restricted}
+use Rattle.path_rows.specs.Rows.{IsFit, IsRivalOf, IsRow, LeadsEach, box_of, form_between, form_of_row, forms_of_rows, path_edges}
+use Rattle.path_rows.specs.Boxes.{capped}
+use Rattle.path_rows.specs.Answers.{greatest_bound}
+use Rattle.path_rows.proofs.OpenPlaces.{earnest_tree_sound}
+use Rattle.path_rows.proofs.ProblemTrees.{le_greatest, tree_leaves_none}
+use Rattle.path_rows.proofs.RestrictedProblems.{restricted_kept}
+use Rattle.conflict_core.specs.declared.deciding.SetTree.{SetTree}
+use Rattle.conflict_core.specs.Conflicts.{IsConflict, IsRequestSet, all_requests}
+use Rattle.conflict_core.specs.Deciding.{IsRefutedSet, whole_row}
+
+-- Lists without one of their members.
+
+-- what is left stood there before
+pub rest_contained : (xs : List ℕ) (n : ℕ) → n < length xs → All (Contains xs) (remove xs n)
+rest_contained xs n within k d k_in =
+    let long = length-remove xs n within in
+    elim (cases_lt k n) [
+      | inl below ↦ (k, omega arith, sym (get_or-remove_below xs n (get_or (remove xs n) k d) k below within) ∙ get_or_default (remove xs n) k (get_or (remove xs n) k d) d k_in)
+      | inr above ↦ (k + 1, omega arith, sym (get_or-remove_above xs n (get_or (remove xs n) k d) k above within) ∙ get_or_default (remove xs n) k (get_or (remove xs n) k d) d k_in)
+    ]
+
+-- the later one is taken out first, or the earlier one
+pub taken_out : (xs : List ℕ) (k n : ℕ) → k ≤ n → suc n < length xs → remove (remove xs (suc n)) k ≡ remove (remove xs k) n
+taken_out [] k n before within = absurd (omega arith)
+taken_out (x ∷ xs) zero n before within = refl
+taken_out (x ∷ xs) (suc k) zero before within = absurd (omega arith)
+taken_out (x ∷ xs) (suc k) (suc n) before within = ap (λ (ys : List ℕ). x ∷ ys) (taken_out xs k n (omega arith) (omega arith))
+
+-- Sets without one of their members.
+
+pub rest_set : (p : DesignProblem) (members : List ℕ) (place : ℕ) → place < length members → IsRequestSet p members → IsRequestSet p (remove members place)
+rest_set p members place within set =
+    let pairs = all_pairs_remove (λ x y. x < y) members place within (AllPairs-from_increasing members set.rising) in
+    let contained = rest_contained members place within in
+    record {
+      rising = λ k k_in. pairs k (k + 1) 0 (omega arith) k_in;
+      known = λ k d k_in. let has = contained k d k_in in subst (λ (m : ℕ). m < length p.paths) has.2 (set.known has.0 (get_or (remove members place) k d) has.1);
+    }
+
+-- costs that are fit for some requests are fit for fewer
+pub fit_fewer : (p : DesignProblem) (members fewer w : List ℕ) → All (Contains members) fewer → IsFit (restricted p members) w → IsFit (restricted p fewer) w
+fit_fewer p members fewer w contained fit =
+    let P : Request → Type 0 = λ r. IsOnlyCheapest p.graph (at_costs w) (ends_of r) r.path.edges in
+    record {
+      within = fit.within;
+      only = λ k d k_in.
+          let inside : k < length fewer = omega (arith, length-map fewer (request_at p.paths)) in
+          let has = contained k 0 inside in
+          let there = fit.only has.0 no_request (omega (arith, length-map members (request_at p.paths), has.1)) in
+          let same = get_or-map (request_at p.paths) members has.0 (get_or fewer k 0) no_request has.1 in
+          subst P (sym (get_or-map (request_at p.paths) fewer k 0 d inside)) (subst P (same ∙ ap (request_at p.paths) has.2) there);
+    }
+
+-- costs that are fit for all requests are fit
+pub fit_all : (p : DesignProblem) (members w : List ℕ) → members ≡ all_requests p → IsFit (restricted p members) w → IsFit p w
+fit_all p members w is fit =
+    let P : Request → Type 0 = λ r. IsOnlyCheapest p.graph (at_costs w) (ends_of r) r.path.edges in
+    let whole : IsFit (restricted p (all_requests p)) w = subst (λ (ms : List ℕ). IsFit (restricted p ms) w) is fit in
+    record {
+      within = fit.within;
+      only = λ k d k_in.
+          let there = whole.only k d (omega (arith, length-map-numbers_from (request_at p.paths) 0 (length p.paths))) in
+          subst P (get_or-map-numbers_from (request_at p.paths) 0 (length p.paths) k d k_in ∙ at_place k d k_in) there;
+    }
+  where
+    at_place : (k : ℕ) (d : Request) → k < length p.paths → request_at p.paths (0 + k) ≡ get_or p.paths k d
+    at_place k d k_in = let e : 0 + k ≡ k = omega arith in ap (request_at p.paths) e ∙ get_or_default p.paths k no_request d k_in
+
+-- all requests are a set of requests
+pub all_set : (p : DesignProblem) (members : List ℕ) → members ≡ all_requests p → IsRequestSet p members
+all_set p members is = subst (IsRequestSet p) (sym is) (record {
+  rising = λ k k_in.
+      let n = length p.paths in
+      let within : k + 1 < n = omega (arith, length-numbers_from 0 n) in
+      let here = get_or-numbers_from 0 n k 0 (omega arith) in
+      let next = get_or-numbers_from 0 n (k + 1) 0 within in
+      omega arith;
+  known = λ k d k_in.
+      let n = length p.paths in
+      let within : k < n = omega (arith, length-numbers_from 0 n) in
+      let here = get_or-numbers_from 0 n k d within in
+      omega arith;
+})
+
+-- no lower bound is above the greatest upper bound
+pub low_below : (p : DesignProblem) → IsProblem p → All (λ low. low ≤ greatest_bound p) p.low
+low_below p kept k d k_in =
+    let ordered = (kept.ordered k k_in).1 in
+    let most = le_greatest p.high k (omega (arith, kept.low_count)) in
+    let same = get_or_default p.low k 0 d k_in in
+    omega arith
+
+-- Rows of a restricted problem.
+
+no_rival : (g : Area) (r : Option Request) (es : List ℕ) → r ≡ None → IsRivalOf g r es → ⊥
+no_rival g None es none rival = rival
+no_rival g (Some r) es none rival = absurd cc
+
+-- the row's request is a member
+pub row_known : (p : DesignProblem) (members : List ℕ) (row : Row) → IsRow (restricted p members) row → row.request < length members
+row_known p members row is =
+    elim (cases_lt row.request (length members)) [
+      | inl below ↦ below
+      | inr past ↦ absurd (no_rival p.graph _ row.rival.edges (slice_get_past (map (request_at p.paths) members) row.request (omega (arith, length-map members (request_at p.paths)))) is)
+    ]
+
+-- it is the request of the member's number in the whole problem
+pub same_request : (p : DesignProblem) (members : List ℕ) (i : ℕ) → All (λ m. m < length p.paths) members → i < length members → slice_get (map (request_at p.paths) members) i ≡ slice_get p.paths (slice_index members i)
+same_request p members i known within =
+    slice_get-get_or (map (request_at p.paths) members) i no_request (omega (arith, length-map members (request_at p.paths)))
+    ∙ ap (λ (r : Request). Some r) (get_or-map (request_at p.paths) members i 0 no_request within)
+    ∙ sym (slice_get-get_or p.paths (slice_index members i) no_request (known i 0 within))
+
+pub whole_is_row : (p : DesignProblem) (members : List ℕ) (row : Row) → All (λ m. m < length p.paths) members → IsRow (restricted p members) row → IsRow p (whole_row members row)
+whole_is_row p members row known is =
+    subst (λ (r : Option Request). IsRivalOf p.graph r row.rival.edges) (same_request p members row.request known (row_known p members row is)) is
+
+pub whole_form : (p : DesignProblem) (members : List ℕ) (row : Row) → All (λ m. m < length p.paths) members → IsRow (restricted p members) row → form_of_row p (whole_row members row) ≡ form_of_row (restricted p members) row
+whole_form p members row known is =
+    ap (λ (r : Option Request). form_between p.graph (length p.low) (path_edges r) row.rival.edges) (sym (same_request p members row.request known (row_known p members row is)))
+
+-- the forms of all rows
+pub whole_forms : (p : DesignProblem) (members : List ℕ) (rows : List Row) → All (λ m. m < length p.paths) members → All (IsRow (restricted p members)) rows → map (form_of_row p) (map (whole_row members) rows) ≡ forms_of_rows (restricted p members) rows
+whole_forms p members [] known true_rows = refl
+whole_forms p members (row ∷ rows) known true_rows =
+    cc (whole_form p members row known (true_rows 0 row (omega arith)), whole_forms p members rows known (λ k d k_in. true_rows (suc k) d (omega arith)))
+
+-- Conflicts that are refuted.
+
+pub refuted_conflict : (p : DesignProblem) (top nodes : ℕ) (t : SetTree) → IsProblem p → IsRefutedSet p top nodes t → IsConflict p t.members.items
+refuted_conflict p top nodes t kept refuted =
+    let q : DesignProblem = restricted p t.members.items in
+    let is = refuted.tree in
+    let q_kept : IsProblem q = restricted_kept p t.members.items kept is.set.rising is.set.known in
+    tree_leaves_none q t.pool.rows (record { cap = greatest_bound p; tree = t.tree }) q_kept is.is_pool.rows
+    (record {
+      at_cap = refl;
+      no_higher = low_below q q_kept;
+      sound = earnest_tree_sound (LeadsEach q) top (forms_of_rows q t.pool.rows) (capped (box_of q) (greatest_bound p)) t.tree is.tree.earnest;
+      closed = refuted.closed;
+    })
+
+-- Lists by other names.
+
+-- the numbers in a row, and one more
+pub numbers_more : (all more : List ℕ) (n x : ℕ) → x ≡ n → all ≡ numbers_from 0 n → more ≡ all ++ x ∷ [] → more ≡ numbers_from 0 (n + 1)
+numbers_more all more n x is so_far pushed =
+    let e : x ≡ 0 + n = omega (arith, is) in
+    pushed ∙ ap (λ (xs : List ℕ). xs ++ x ∷ []) so_far ∙ ap (λ (k : ℕ). numbers_from 0 n ++ k ∷ []) e ∙ sym (numbers_from-push 0 n)
+
+-- the members without one
+pub others_are : (members others slice : List ℕ) (place count : ℕ) → slice ≡ members → place ≡ count → others ≡ remove slice place → others ≡ remove members count
+others_are members others slice place count same at is = is ∙ ap (λ (ms : List ℕ). remove ms place) same ∙ ap (λ (n : ℕ). remove members n) at
+
+-- the rows of a pool in the whole problem
+pub whole_are : (members slice : List ℕ) (pool taken rows : List Row) → slice ≡ members → taken ≡ pool → rows ≡ map (whole_row slice) taken → rows ≡ map (whole_row members) pool
+whole_are members slice pool taken rows same from is = is ∙ ap (λ (ms : List ℕ). map (whole_row ms) taken) same ∙ ap (λ (rs : List Row). map (whole_row members) rs) from
+
+-- a cap that is the greatest upper bound of the restricted problem
+pub cap_above : (p q : DesignProblem) (members slice : List ℕ) (cap : ℕ) → IsProblem p → IsRequestSet p members → slice ≡ members → q ≡ restricted p slice → cap ≡ greatest_bound q → All (λ low. low ≤ cap) q.low
+cap_above p q members slice cap kept set same is cap_is =
+    let q_is : q ≡ restricted p members = is ∙ ap (λ (ms : List ℕ). restricted p ms) same in
+    let q_kept : IsProblem q = subst IsProblem (sym q_is) (restricted_kept p members kept set.rising set.known) in
+    subst (λ (n : ℕ). All (λ low. low ≤ n) q.low) (sym cap_is) (low_below q q_kept)

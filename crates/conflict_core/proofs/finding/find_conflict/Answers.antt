@@ -1,0 +1,31 @@
+-- All requests are decided first.
+use Rattle.std.proofs.Common.{refl, subst}
+use Rattle.form_search.proofs.AdvisorLaws.{left_alike, left_then}
+use Rattle.conflict_core.specs.declared.deciding.Decided.{Decided}
+use Rattle.conflict_core.specs.declared.deciding.Decided.TheVariants.{Costs, Spent}
+use Rattle.conflict_core.specs.Deciding.{IsSetDecided}
+use Rattle.conflict_core.proofs.Sets.{all_set, fit_all}
+use Rattle.conflict_core.proofs.finding.find_conflict.Goals as goal
+
+pub returns-in_err-all-clause-advisors : goal.returns-in_err-all-clause-advisors
+returns-in_err-all-clause-advisors g c = left_alike _ _ _ refl
+
+pub decide_set-requires : goal.decide_set-requires
+decide_set-requires g c = all_set c.args.problem.now c.in_ok-all.all.items c.in_ok-all.ensures
+
+pub returns-in-Costs-clause-found : goal.returns-in-Costs-clause-found
+returns-in-Costs-clause-found g c =
+    let p = c.args.problem.now in
+    let limits = c.args.limits.now in
+    fit_all p c.in_ok-all.all.items c.in-Costs.costs c.in_ok-all.ensures
+    (subst (λ (d : Decided). IsSetDecided p limits.top limits.nodes c.in_ok-all.all.items d) c.in-Costs.is c.in_ok-costs.ensures.decided)
+
+pub returns-in-Refuted-clause-advisors : goal.returns-in-Refuted-clause-advisors
+returns-in-Refuted-clause-advisors g c = left_then _ _ _ _ c.decide_set.ensures.advisors c.shrink.ensures.advisors
+
+pub returns-in-Spent-clause-found : goal.returns-in-Spent-clause-found
+returns-in-Spent-clause-found g c =
+    let p = c.args.problem.now in
+    let limits = c.args.limits.now in
+    let found : IsSetDecided p limits.top limits.nodes c.in_ok-all.all.items (Spent c.in-Spent.set) = subst (λ (d : Decided). IsSetDecided p limits.top limits.nodes c.in_ok-all.all.items d) c.in-Spent.is c.in_ok-costs.ensures.decided in
+    c.unknown.ensures limits.top limits.nodes found.1

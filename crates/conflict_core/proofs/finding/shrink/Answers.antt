@@ -1,0 +1,39 @@
+-- Each turn leaves fewer members to try.
+use Rattle.std.proofs.Common.{refl, subst}
+use Rattle.form_search.proofs.AdvisorLaws.{left_alike, left_then}
+use Rattle.conflict_core.specs.declared.shrinking.Shrunk.{Shrunk}
+use Rattle.conflict_core.specs.declared.shrinking.Tried.{Tried}
+use Rattle.conflict_core.specs.declared.shrinking.Tried.TheVariants.{On, Stuck}
+use Rattle.conflict_core.specs.Deciding.{IsTurned}
+use Rattle.conflict_core.proofs.ShrinkingLaws.{not_tried}
+use Rattle.conflict_core.proofs.finding.shrink.Goals as goal
+
+pub loop-shrunk-init : goal.loop-shrunk-init
+loop-shrunk-init g c =
+    let p = c.args.problem.now in
+    let limits = c.args.limits.now in
+    let begun : Shrunk = record { conflict = c.args.conflict; without = c.new.result } in
+    record { shrunk = not_tried p limits.top limits.nodes begun c.requires c.new.ensures.items; advisors = left_alike _ _ _ refl }
+
+pub returns-in_err-next-clause-advisors : goal.returns-in_err-next-clause-advisors
+returns-in_err-next-clause-advisors g c = left_then _ _ _ _ c.loop-shrunk.invariant.advisors c.leave_out.ensures.advisors
+
+pub loop-shrunk-preserved : goal.loop-shrunk-preserved
+loop-shrunk-preserved g c =
+    let p = c.args.problem.now in
+    let limits = c.args.limits.now in
+    let turned : IsTurned p limits.top limits.nodes c.loop-shrunk.shrunk (On c.in-On.next) = subst (λ (t : Tried). IsTurned p limits.top limits.nodes c.loop-shrunk.shrunk t) c.in-On.is c.in_ok-next.ensures.turned in
+    record { shrunk = turned.0; advisors = left_then _ _ _ _ c.loop-shrunk.invariant.advisors c.leave_out.ensures.advisors }
+
+pub returns-in-Stuck-clause-found : goal.returns-in-Stuck-clause-found
+returns-in-Stuck-clause-found g c =
+    let p = c.args.problem.now in
+    let limits = c.args.limits.now in
+    let turned : IsTurned p limits.top limits.nodes c.loop-shrunk.shrunk (Stuck c.in-Stuck.set) = subst (λ (t : Tried). IsTurned p limits.top limits.nodes c.loop-shrunk.shrunk t) c.in-Stuck.is c.in_ok-next.ensures.turned in
+    c.unknown.ensures limits.top limits.nodes turned.0
+
+pub returns-in-Stuck-clause-advisors : goal.returns-in-Stuck-clause-advisors
+returns-in-Stuck-clause-advisors g c = left_then _ _ _ _ c.loop-shrunk.invariant.advisors c.leave_out.ensures.advisors
+
+pub returns-clause-found : goal.returns-clause-found
+returns-clause-found g c = c.core.ensures c.args.limits.now.top c.args.limits.now.nodes c.loop-shrunk.invariant.shrunk

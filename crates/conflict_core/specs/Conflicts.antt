@@ -1,0 +1,93 @@
+-- Conflicts among requests, and what is found of them.
+use Rattle.std.specs.Prelude.{◌≡◌, ◌⊎◌, ℕ, ◌^◌, ◌<◌, List, [], length, slice_index_or, All, Contains}
+use Rattle.std.specs.List.{remove}
+use Rattle.std.specs.List.Sorted.{IsStrictlyIncreasing}
+use Rattle.cost_base.specs.Lists.{numbers_from}
+use Rattle.path_rows.specs.declared.form.CostBox.{CostBox}
+use Rattle.path_rows.specs.declared.form.Row.{Row}
+use Rattle.path_rows.specs.declared.tree.Entry.{Entry}
+use Rattle.path_rows.specs.declared.tree.Entry.TheVariants.{Undone}
+use Rattle.path_rows.specs.Problems.{DesignProblem, restricted}
+use Rattle.path_rows.specs.Boxes.{capped}
+use Rattle.path_rows.specs.Rows.{IsFit, IsRow, LeadsEach, box_of, forms_of_rows}
+use Rattle.path_rows.specs.Trees.{IsClosed, entry_count}
+use Rattle.path_rows.specs.Earnest.{IsFormOfRow}
+use Rattle.path_rows.specs.Answers.{greatest_bound}
+use Rattle.path_rows.specs.ProblemLaws.{HasNoFit}
+use Rattle.form_search.specs.Finds.{IsShort}
+use Rattle.printed_rows.specs.NamedRows.{NamesBelow}
+use Rattle.printed_rows.specs.NewNumbers.{IsPrinted}
+use Rattle.printed_rows.specs.PrintedTrees.{IsPrintedOver}
+use Rattle.conflict_core.specs.declared.conflict.Conflict.{Conflict}
+use Rattle.conflict_core.specs.declared.conflict.Conflict.TheVariants.{Fits, Core, Unknown}
+
+-- numbers of requests, in rising order
+pub record IsRequestSet (p : DesignProblem) (members : List ℕ) : Type 0 where
+  pub rising : IsStrictlyIncreasing members
+  pub known : All (λ m. m < length p.paths) members
+
+abbrev pub all_requests : DesignProblem → List ℕ
+all_requests p = numbers_from 0 (length p.paths)
+
+-- a conflict: no costs are fit for these requests alone
+abbrev pub IsConflict : DesignProblem → List ℕ → Type 0
+IsConflict p members = HasNoFit (restricted p members)
+
+-- a least conflict: besides each set without one of its members has fit costs
+pub record IsLeastConflict (p : DesignProblem) (members : List ℕ) : Type 0 where
+  pub set : IsRequestSet p members
+  pub conflict : IsConflict p members
+  pub least : (k : ℕ) → k < length members → (w : List ℕ) × IsFit (restricted p (remove members k)) w
+
+-- the box at the greatest upper bound
+abbrev pub whole_box : DesignProblem → CostBox
+whole_box p = capped (box_of p) (greatest_bound p)
+
+-- the rows are those of a pool that its tree names, in their order, and the tree names them by their new numbers
+pub record IsSheet (rows : List Row) (tree : List Entry) : Type 0 where
+  pub pool : List Row
+  pub searched : List Entry
+  pub printed : IsPrinted pool searched rows tree
+
+-- Rows and a tree that are told of a set of requests. The rows are rows of the whole problem, each of a member; the tree
+-- stands over the box at the greatest upper bound, is earnest for the restricted problem, and names just these rows. Each of
+-- its entries fits the text, and a Refute names at most one row more than there are variables.
+pub record IsTreeOfSet (p : DesignProblem) (top nodes : ℕ) (members : List ℕ) (rows : List Row) (tree : List Entry) : Type 0 where
+  pub true_rows : All (IsRow p) rows
+  pub of_members : All (λ row. Contains members row.request) rows
+  pub printed : IsPrintedOver (LeadsEach (restricted p members)) (IsFormOfRow (restricted p members)) top nodes (forms_of_rows p rows) (whole_box p) tree
+  pub names : All (NamesBelow (length rows)) tree
+  pub sheet : IsSheet rows tree
+  pub few : length rows < 2 ^ 64
+  pub short : All (IsShort (length p.low)) tree
+
+-- a least conflict, with the closed tree that refutes it and, for each of its members, costs that are fit without it
+pub record IsCore (p : DesignProblem) (top nodes : ℕ) (members : List ℕ) (rows : List Row) (tree : List Entry) (without : List (List ℕ)) : Type 0 where
+  pub least : IsLeastConflict p members
+  pub told : IsTreeOfSet p top nodes members rows tree
+  pub closed : IsClosed tree
+  pub counted : length without ≡ length members
+  pub fits : (k : ℕ) → k < length members → IsFit (restricted p (remove members k)) (slice_index_or without k [])
+
+-- a conflict without one of its members
+pub record IsConflictLessOne (p : DesignProblem) (members : List ℕ) : Type 0 where
+  pub larger : List ℕ
+  pub set : IsRequestSet p larger
+  pub conflict : IsConflict p larger
+  pub place : ℕ
+  pub known : place < length larger
+  pub same : members ≡ remove larger place
+
+-- the budget was used up at this set: all requests, or a conflict without one of its members
+pub record IsUnknown (p : DesignProblem) (top nodes : ℕ) (members : List ℕ) (rows : List Row) (tree : List Entry) : Type 0 where
+  pub set : IsRequestSet p members
+  pub tried : (members ≡ all_requests p) ⊎ IsConflictLessOne p members
+  pub told : IsTreeOfSet p top nodes members rows tree
+  pub undone : Contains tree Undone
+  pub spent : entry_count tree ≡ nodes
+
+-- what is found of a problem's requests
+abbrev pub IsConflictFound : DesignProblem → ℕ → ℕ → Conflict → Type 0
+IsConflictFound p top nodes (Fits costs) = IsFit p costs
+IsConflictFound p top nodes (Core members rows tree without) = IsCore p top nodes members rows tree without
+IsConflictFound p top nodes (Unknown members rows tree) = IsUnknown p top nodes members rows tree

@@ -1,0 +1,67 @@
+//! One set of requests decided.
+ghost use Rattle.std.specs.Prelude.{◌≡◌, IfOk};
+ghost use Rattle.form_search.specs.Advised.{AreLeft, IsCalled};
+ghost use Rattle.conflict_core.specs.Conflicts.{IsRequestSet};
+ghost use Rattle.conflict_core.specs.Deciding.{IsSetDecided};
+
+use crate::problem_law::keeps_problem;
+use advisor_box::Advisor;
+use cost_base::OutOfMemory;
+use cost_branching::{Found, Pool, decide};
+use path_rows::{CostList, Problem, Tree};
+use printed_rows::greatest_of;
+use std::alloc::Global;
+use wide_fraction::Limits;
+
+/// A set of requests, and a tree over the box at the greatest upper bound that speaks of it. The rows of the pool are those
+/// of the restricted problem: they number the members.
+#[derive(Drop)]
+pub(crate) struct SetTree {
+    pub(crate) members: Vec<u32>,
+    pub(crate) pool: Pool,
+    pub(crate) tree: Tree,
+}
+
+/// What is decided of a set of requests.
+#[derive(Drop)]
+pub(crate) enum Decided {
+    /// Costs that are fit for these requests.
+    Costs(CostList),
+    /// The requests are a conflict.
+    Refuted(SetTree),
+    /// The node budget was used up.
+    Spent(SetTree),
+}
+
+/// Decides a set of requests at the greatest upper bound, with a pool of its own.
+pub(crate) fn decide_set(
+    alloc: Global,
+    problem: &Problem,
+    members: Vec<u32>,
+    limits: &Limits,
+    advisors: &mut Vec<Box<dyn Advisor>>,
+) -> Result<Decided, OutOfMemory>
+    requires { IsRequestSet problem.now members.items }
+    ensures decided { IfOk result (IsSetDecided problem.now limits.now.top limits.now.nodes members.items) }
+    ensures advisors { AreLeft
+        (IsCalled (λ b c. c.vtable ≡ b.vtable) (λ b. state b) (λ b. (⟦<dyn Advisor as Advisor>⟧ b.vtable).left) (λ b. (⟦<dyn Advisor as Advisor>⟧ b.vtable).after))
+        advisors.old.items advisors.new.items }
+{
+    keeps_problem(problem);
+    let part = problem.only(alloc, members.as_slice())?;
+    let ceiling = greatest_of(part.high.as_slice());
+    let mut pool = Pool::new(alloc);
+    match decide(alloc, &part, ceiling, limits, &mut pool, advisors)? {
+        Found::Costs(costs) => Ok(Decided::Costs(costs)),
+        Found::Refuted(tree) => Ok(Decided::Refuted(SetTree {
+            members,
+            pool,
+            tree,
+        })),
+        Found::Spent(tree) => Ok(Decided::Spent(SetTree {
+            members,
+            pool,
+            tree,
+        })),
+    }
+}

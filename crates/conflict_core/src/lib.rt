@@ -1,0 +1,19 @@
+//! A least conflict among the requests of a problem: wishes that can't stand together, any one of which could be given up
+//! for the others.
+//!
+//! All requests are decided first. Where they can't stand together, one after the other is left out, and stays out where
+//! the others can't stand together either.
+#![tactic(auto)]
+
+mod conflict;
+mod deciding;
+mod finding;
+pub mod laws;
+mod members;
+mod problem_law;
+mod shrinking;
+mod telling;
+
+pub use conflict::Conflict;
+pub use finding::find_conflict;
+pub use members::all_requests;

@@ -1,0 +1,3 @@
+pub mod ConflictTexts
+pub mod ConflictRuns
+pub mod ConflictLines

@@ -1,0 +1,81 @@
+-- The text of `conflict`, and what the command may write.
+use Rattle.std.specs.Prelude.{◌≡◌, ℕ, List, [], ◌∷◌, ◌++◌, map, length, slice_index, codes, Some}
+use Rattle.cost_base.specs.Decimal.{decimal}
+use Rattle.cost_base.specs.declared.Status.{Status}
+use Rattle.cost_base.specs.declared.Status.TheVariants.{Done, Undecided}
+use Rattle.path_rows.specs.declared.problem.VarName.{VarName}
+use Rattle.path_rows.specs.declared.answer.CapTree.{CapTree}
+use Rattle.path_rows.specs.declared.answer.CostLine.{CostLine}
+use Rattle.path_rows.specs.declared.answer.Costs.{Costs}
+use Rattle.path_rows.specs.declared.tree.Entry.{Entry}
+use Rattle.path_rows.specs.Problems.{DesignProblem}
+use Rattle.path_rows.specs.Rows.{greatest_cost}
+use Rattle.path_rows.specs.Answers.{greatest_bound}
+use Rattle.path_rows.specs.Text.{costs_lines, spaced, tree_lines}
+use Rattle.evidence_text.specs.Lines.{text_of}
+use Rattle.evidence_text.specs.Parts.{rows_lines}
+use Rattle.conflict_core.specs.declared.conflict.Conflict.{Conflict}
+use Rattle.conflict_core.specs.declared.conflict.Conflict.TheVariants.{Fits, Core, Unknown}
+use Rattle.conflict_core.specs.Conflicts.{IsConflictFound, all_requests}
+use Rattle.command_words.specs.Jobs.{Bounds}
+use Rattle.input_files.specs.Outcomes.{Input}
+
+-- a free interface with the cost of its variable
+abbrev pub named_cost : List ℕ → VarName → CostLine
+named_cost w name = record { router = name.router; interface = name.interface; cost = slice_index w name.var }
+
+-- costs as an answer prints them: their greatest, and for each free interface the cost of its variable
+abbrev pub named_costs : DesignProblem → List ℕ → Costs
+named_costs p w = record { greatest = greatest_cost w; lines = map (named_cost w) p.vars }
+
+-- the part `costs`
+abbrev pub costs_part : DesignProblem → List ℕ → List (List ℕ)
+costs_part p w = costs_lines (Some (named_costs p w))
+
+-- `members COUNT I ..`
+abbrev pub members_line : List ℕ → List ℕ
+members_line members = spaced (codes "members" ∷ decimal (length members) ∷ map decimal members)
+
+-- `without I`
+abbrev pub without_line : ℕ → List ℕ
+without_line member = spaced (codes "without" ∷ decimal member ∷ [])
+
+-- for each member its line and the costs without it
+abbrev pub without_parts : DesignProblem → List ℕ → List (List ℕ) → List (List ℕ)
+without_parts p [] lists = []
+without_parts p (member ∷ members) [] = []
+without_parts p (member ∷ members) (w ∷ lists) = without_line member ∷ costs_part p w ++ without_parts p members lists
+
+-- the tree at the greatest upper bound
+abbrev pub at_ceiling : DesignProblem → List Entry → CapTree
+at_ceiling p tree = record { cap = greatest_bound p; tree = tree }
+
+-- the lines between the first and the last one
+abbrev pub found_lines : DesignProblem → Conflict → List (List ℕ)
+found_lines p (Fits w) = codes "verdict none" ∷ members_line (all_requests p) ∷ costs_part p w
+found_lines p (Core members rows tree without) =
+    codes "verdict core" ∷ members_line members ∷ rows_lines rows ++ tree_lines (codes "proof") (Some (at_ceiling p tree)) ++ without_parts p members without
+found_lines p (Unknown members rows tree) =
+    codes "verdict undecided" ∷ members_line members ∷ rows_lines rows ++ tree_lines (codes "open") (Some (at_ceiling p tree))
+
+abbrev pub conflict_text : DesignProblem → Conflict → List ℕ
+conflict_text p conflict = text_of (codes "ospfcost conflict 1" ∷ found_lines p conflict ++ codes "end" ∷ [])
+
+-- the status of a run that prints what was found
+abbrev pub status_of : Conflict → Status
+status_of (Fits w) = Done
+status_of (Core members rows tree without) = Done
+status_of (Unknown members rows tree) = Undecided
+
+-- the bytes are the text of what was found of the problem, which has this status
+pub record ShowsConflict (limits : Bounds) (p : DesignProblem) (aim : Status) (bytes : List ℕ) : Type 0 where
+  pub conflict : Conflict
+  pub found : IsConflictFound p limits.top limits.nodes conflict
+  pub status : status_of conflict ≡ aim
+  pub spelled : bytes ≡ conflict_text p conflict
+
+-- `conflict`: fit costs of the whole problem, or a least conflict; or that the budget was used up
+abbrev pub MayConflict : Bounds → Input → Status → List ℕ → Type 0
+MayConflict limits d Done bytes = ShowsConflict limits d.problem Done bytes
+MayConflict limits d Undecided bytes = ShowsConflict limits d.problem Undecided bytes
+MayConflict limits d status bytes = ⊥

@@ -1,0 +1,68 @@
+//! `conflict`: a least conflict among the requests of the files of words.
+ghost use Rattle.std.specs.Prelude.{◌≡◌, ℕ, ◌≤◌, List, IfOk};
+ghost use Rattle.command_words.specs.Jobs.{bounds};
+ghost use Rattle.input_files.specs.Readings.{Gave};
+ghost use Rattle.input_files.specs.Outcomes.{outcome};
+ghost use Rattle.input_files.specs.Stops.{IsReadAs, files_named};
+ghost use Rattle.report_writer.specs.Reports.{Reports, bytes_in};
+ghost use Rattle.conflict_core.specs.Conflicts.{IsConflictFound};
+ghost use Rattle.form_search.specs.Advised.{AreLeft, IsCalled};
+ghost use Rattle.wish_commands.specs.Conflicts.{MayConflict, conflict_text, status_of};
+
+use crate::conflict_text::text_of_conflict;
+use advisor_box::Advisor;
+use conflict_core::{Conflict, find_conflict};
+use cost_base::{OutOfMemory, Shelf, Status};
+use input_files::{FileWords, Stop, View, read_problem};
+use path_rows::Problem;
+use report_writer::Report;
+use std::alloc::Global;
+use wide_fraction::Limits;
+
+/// The status of a run that prints this.
+fn status_of(conflict: &Conflict) -> Status
+    ensures { result ≡ status_of conflict.now }
+{
+    match conflict {
+        Conflict::Fits { .. } | Conflict::Core { .. } => Status::Done,
+        Conflict::Unknown { .. } => Status::Undecided,
+    }
+}
+
+/// The report of what was found of a problem's requests.
+fn report_of_conflict(
+    alloc: Global,
+    problem: &Problem,
+    conflict: Conflict,
+) -> Result<Report, OutOfMemory>
+    requires { (top : ℕ) × (nodes : ℕ) × (nodes ≤ 10000000) × IsConflictFound problem.now top nodes conflict }
+    ensures { IfOk result (Reports (status_of conflict) (conflict_text problem.now conflict)) }
+{
+    let status = status_of(&conflict);
+    let text = text_of_conflict(alloc, problem, conflict)?;
+    Ok(Report::made(status, text))
+}
+
+/// The report of `conflict` from the files of words: the text of what was found, with status 0 or, where the node budget
+/// was used up, 2.
+///
+/// # Errors
+///
+/// The first fault of the files, the file that failed, or want of memory.
+pub fn conflict_report<'a, S: Shelf>(
+    alloc: Global,
+    words: FileWords<'a>,
+    limits: &Limits,
+    shelf: &mut S,
+    advisors: &mut Vec<Box<dyn Advisor>>,
+) -> Result<Report, Stop<'a>>
+    requires itself { limits.now ≡ limits.now }
+    ensures read { Gave (S.gave shelf.old shelf.new) (λ came. IsReadAs (outcome View.AsRequested (files_named words.entry)) came (λ report d. MayConflict (bounds limits.now) d report.status (bytes_in report.text)) result) }
+    ensures advisors { AreLeft
+        (IsCalled (λ b c. c.vtable ≡ b.vtable) (λ b. state b) (λ b. (⟦<dyn Advisor as Advisor>⟧ b.vtable).left) (λ b. (⟦<dyn Advisor as Advisor>⟧ b.vtable).after))
+        advisors.old.items advisors.new.items }
+{
+    let problem = read_problem(alloc, View::AsRequested, words, shelf)?;
+    let conflict = find_conflict(alloc, &problem, limits, advisors)?;
+    Ok(report_of_conflict(alloc, &problem, conflict)?)
+}

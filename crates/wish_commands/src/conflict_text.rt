@@ -1,0 +1,242 @@
+//! The text of `conflict`.
+ghost use Rattle.std.specs.Prelude.{◌≡◌, ℕ, ◌≤◌, [], ◌∷◌, ◌++◌, length, codes, Some, All, IfOk, OnOk};
+ghost use Rattle.cost_base.specs.Decimal.{decimal};
+ghost use Rattle.area_graph.specs.Area.{FitsGraph};
+ghost use Rattle.path_rows.specs.Problems.{IsProblem};
+ghost use Rattle.path_rows.specs.Boxes.{IsInBox};
+ghost use Rattle.path_rows.specs.Rows.{box_of};
+ghost use Rattle.path_rows.specs.Text.{tree_lines};
+ghost use Rattle.evidence_text.specs.Lines.{text_of, AreShort};
+ghost use Rattle.evidence_text.specs.Parts.{rows_lines, part_word};
+ghost use Rattle.conflict_core.specs.declared.conflict.Conflict.TheVariants.{Core, Fits, Unknown};
+ghost use Rattle.conflict_core.specs.Conflicts.{IsConflictFound, IsCore, IsUnknown};
+ghost use Rattle.wish_commands.specs.Conflicts.{at_ceiling, conflict_text, costs_part, members_line, without_line, without_parts};
+
+use conflict_core::{Conflict, all_requests};
+use cost_base::OutOfMemory;
+use evidence_text::TreePart;
+use path_rows::{CapTree, CostList, Problem, Row, Tree};
+use printed_rows::{greatest_of, printed_costs};
+use std::alloc::Global;
+use text_parts::{push_bytes, push_costs, push_number, push_rows, push_tree};
+
+/// Each problem keeps its conditions, and so does its graph. It takes no time.
+fn keeps_problem(problem: &Problem)
+    ensures problem { IsProblem problem.now }
+    ensures graph { FitsGraph problem.now.graph }
+{
+    problem.graph.keeps_conditions();
+}
+
+/// Adds a line at the end.
+fn push_line(text: &mut Vec<u8>, line: &[u8]) -> Result<(), OutOfMemory>
+    ensures { OnOk result (text.new.items ≡ text.old.items ++ text_of (line.now ∷ [])) }
+{
+    push_bytes(text, line)?;
+    push_bytes(text, b"\n")
+}
+
+/// Adds a word behind a space.
+fn push_word(text: &mut Vec<u8>, number: u32) -> Result<(), OutOfMemory>
+    ensures { OnOk result (text.new.items ≡ text.old.items ++ 32 ∷ decimal number) }
+{
+    push_bytes(text, b" ")?;
+    push_number(text, u128::from(number))
+}
+
+/// The line of a set of requests.
+fn members_line(alloc: Global, members: &[u32]) -> Result<Vec<u8>, OutOfMemory>
+    ensures { IfOk result (λ line. line.items ≡ members_line members.now) }
+{
+    let mut line = Vec::from_slice(alloc, b"members ")?;
+    push_number(&mut line, members.len() as u128)?;
+    for member in members {
+        push_word(&mut line, *member)?;
+    }
+    Ok(line)
+}
+
+/// The first lines, up to that of the requests.
+fn head_of(alloc: Global, verdict: &[u8], members: &[u32]) -> Result<Vec<u8>, OutOfMemory>
+    ensures { IfOk result (λ text. text.items ≡ text_of (codes "ospfcost conflict 1" ∷ verdict.now ∷ members_line members.now ∷ [])) }
+{
+    let members = members_line(alloc, members)?;
+    let mut text = Vec::new(alloc);
+    push_line(&mut text, b"ospfcost conflict 1")?;
+    push_line(&mut text, verdict)?;
+    push_line(&mut text, members.as_slice())?;
+    Ok(text)
+}
+
+/// Adds the lines of costs of the problem's variables.
+fn push_costs_part(
+    alloc: Global,
+    text: &mut Vec<u8>,
+    problem: &Problem,
+    costs: &CostList,
+) -> Result<(), OutOfMemory>
+    requires { IsInBox (box_of problem.now) costs.now }
+    ensures { OnOk result (text.new.items ≡ text.old.items ++ text_of (costs_part problem.now costs.now)) }
+{
+    keeps_problem(problem);
+    let costs = printed_costs(alloc, problem, costs.as_slice())?;
+    push_costs(alloc, text, Some(&costs))
+}
+
+/// The line of a member that is left out.
+fn without_line(alloc: Global, member: u32) -> Result<Vec<u8>, OutOfMemory>
+    ensures { IfOk result (λ line. line.items ≡ without_line member) }
+{
+    let mut line = Vec::from_slice(alloc, b"without ")?;
+    push_number(&mut line, u128::from(member))?;
+    Ok(line)
+}
+
+/// Adds the lines of a member and of the costs without it.
+fn push_without_one(
+    alloc: Global,
+    text: &mut Vec<u8>,
+    problem: &Problem,
+    member: u32,
+    costs: &CostList,
+) -> Result<(), OutOfMemory>
+    requires { IsInBox (box_of problem.now) costs.now }
+    ensures { OnOk result (text.new.items ≡ text.old.items ++ text_of (without_line member ∷ costs_part problem.now costs.now)) }
+{
+    let line = without_line(alloc, member)?;
+    push_line(text, line.as_slice())?;
+    push_costs_part(alloc, text, problem, costs)
+}
+
+/// Adds the lines of each member and of the costs without it.
+fn push_without(
+    alloc: Global,
+    text: &mut Vec<u8>,
+    problem: &Problem,
+    members: &[u32],
+    without: &[CostList],
+) -> Result<(), OutOfMemory>
+    requires counted { length without.now ≡ length members.now }
+    requires within { All (IsInBox (box_of problem.now)) without.now }
+    ensures { OnOk result (text.new.items ≡ text.old.items ++ text_of (without_parts problem.now members.now without.now)) }
+{
+    for (place, costs) in without.iter().enumerate() {
+        push_without_one(alloc, text, problem, members[place], costs)?;
+    }
+    Ok(())
+}
+
+/// The text where all requests fit.
+fn fits_text(alloc: Global, problem: &Problem, costs: &CostList) -> Result<Vec<u8>, OutOfMemory>
+    requires { IsInBox (box_of problem.now) costs.now }
+    ensures { IfOk result (λ text. text.items ≡ conflict_text problem.now (Fits costs.now)) }
+{
+    let members = all_requests(alloc, problem)?;
+    let mut text = head_of(alloc, b"verdict none", members.as_slice())?;
+    push_costs_part(alloc, &mut text, problem, costs)?;
+    push_line(&mut text, b"end")?;
+    Ok(text)
+}
+
+/// The tree over the box at the greatest upper bound.
+fn at_ceiling(problem: &Problem, tree: Tree) -> CapTree
+    ensures same { result ≡ at_ceiling problem.now tree }
+    ensures small { result.cap ≤ 65535 }
+{
+    CapTree {
+        cap: greatest_of(problem.high.as_slice()),
+        tree,
+    }
+}
+
+/// Adds the lines of rows, and of a tree over them.
+fn push_evidence(
+    alloc: Global,
+    text: &mut Vec<u8>,
+    rows: &[Row],
+    part: TreePart,
+    tree: &CapTree,
+) -> Result<(), OutOfMemory>
+    requires rows { AreShort (rows_lines rows.now) }
+    requires tree { AreShort (tree_lines (part_word part) (Some tree.now)) }
+    ensures { OnOk result (text.new.items ≡ text.old.items ++ text_of (rows_lines rows.now ++ tree_lines (part_word part) (Some tree.now))) }
+{
+    push_rows(alloc, text, rows)?;
+    push_tree(alloc, text, part, Some(tree))
+}
+
+/// The text of a least conflict.
+fn core_text(
+    alloc: Global,
+    problem: &Problem,
+    members: &[u32],
+    rows: &[Row],
+    tree: Tree,
+    without: &[CostList],
+) -> Result<Vec<u8>, OutOfMemory>
+    requires { (top : ℕ) × (nodes : ℕ) × (nodes ≤ 10000000) × IsCore problem.now top nodes members.now rows.now tree without.now }
+    ensures { IfOk result (λ text. text.items ≡ conflict_text problem.now (Core members.now rows.now tree without.now)) }
+{
+    keeps_problem(problem);
+    let mut text = head_of(alloc, b"verdict core", members)?;
+    let tree = at_ceiling(problem, tree);
+    push_evidence(alloc, &mut text, rows, TreePart::Proof, &tree)?;
+    push_without(alloc, &mut text, problem, members, without)?;
+    push_line(&mut text, b"end")?;
+    Ok(text)
+}
+
+/// The text where the node budget was used up.
+fn unknown_text(
+    alloc: Global,
+    problem: &Problem,
+    members: &[u32],
+    rows: &[Row],
+    tree: Tree,
+) -> Result<Vec<u8>, OutOfMemory>
+    requires { (top : ℕ) × (nodes : ℕ) × (nodes ≤ 10000000) × IsUnknown problem.now top nodes members.now rows.now tree }
+    ensures { IfOk result (λ text. text.items ≡ conflict_text problem.now (Unknown members.now rows.now tree)) }
+{
+    keeps_problem(problem);
+    let mut text = head_of(alloc, b"verdict undecided", members)?;
+    let tree = at_ceiling(problem, tree);
+    push_evidence(alloc, &mut text, rows, TreePart::Unfinished, &tree)?;
+    push_line(&mut text, b"end")?;
+    Ok(text)
+}
+
+/// The text of what was found of a problem's requests.
+///
+/// # Errors
+///
+/// `OutOfMemory`.
+pub(crate) fn text_of_conflict(
+    alloc: Global,
+    problem: &Problem,
+    conflict: Conflict,
+) -> Result<Vec<u8>, OutOfMemory>
+    requires { (top : ℕ) × (nodes : ℕ) × (nodes ≤ 10000000) × IsConflictFound problem.now top nodes conflict }
+    ensures { IfOk result (λ text. text.items ≡ conflict_text problem.now conflict) }
+{
+    match conflict {
+        Conflict::Fits { costs } => fits_text(alloc, problem, &costs),
+        Conflict::Core {
+            members,
+            rows,
+            tree,
+            without,
+        } => core_text(
+            alloc,
+            problem,
+            members.as_slice(),
+            rows.as_slice(),
+            tree,
+            without.as_slice(),
+        ),
+        Conflict::Unknown {
+            members,
+            rows,
+            tree,
+        } => unknown_text(alloc, problem, members.as_slice(), rows.as_slice(), tree),
+    }
+}
