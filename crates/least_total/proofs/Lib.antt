@@ -1,0 +1,9 @@
+pub mod MovedParts
+pub mod MovedTrees
+pub mod OverLaws
+pub mod Bounding
+pub mod LeastTotals
+pub mod RoundLaws
+pub mod PrintedTotals
+pub mod NewCosts
+pub mod FindingLaws

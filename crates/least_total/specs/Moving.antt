@@ -1,0 +1,33 @@
+-- The form of the total is moved behind those of the rows: new numbers of forms, and entries with these numbers.
+use Rattle.std.specs.Prelude.{ℕ, ◌-◌, ◌==◌, List, ◌++◌, Bool, true, false, not, if◌then◌else◌, map, length, ltb}
+use Rattle.std.specs.List.{filter}
+use Rattle.path_rows.specs.declared.tree.Entry.{Entry}
+use Rattle.path_rows.specs.declared.tree.Entry.TheVariants.{Tighten, Split, Halve, Refute, Undone}
+use Rattle.path_rows.specs.Renumbering.{renumbered}
+
+-- the number of a form, where the form at a place is moved behind all others, of which there are so many
+abbrev pub moved_number : ℕ → ℕ → ℕ → ℕ
+moved_number place others row = if ltb row place then row else (if row == place then others else row - 1)
+
+-- whether a part of a Refute is of the form at the place, or of another one
+abbrev pub is_picked : Bool → ℕ → ℕ × ℕ → Bool
+is_picked true place part = part.0 == place
+is_picked false place part = not (part.0 == place)
+
+abbrev pub picked : Bool → ℕ → List (ℕ × ℕ) → List (ℕ × ℕ)
+picked own place parts = filter (is_picked own place) parts
+
+-- the parts of a Refute with that of the form at the place behind the others
+abbrev pub put_last : ℕ → List (ℕ × ℕ) → List (ℕ × ℕ)
+put_last place parts = picked false place parts ++ picked true place parts
+
+abbrev pub with_last : ℕ → Entry → Entry
+with_last place (Tighten var side value row) = Tighten var side value row
+with_last place (Split var value) = Split var value
+with_last place (Halve var value wide) = Halve var value wide
+with_last place (Refute parts) = Refute (put_last place parts)
+with_last place Undone = Undone
+
+-- the entry once the form at the place has been moved: its forms have their new numbers, and the parts of a Refute rise again
+abbrev pub moved : ℕ → ℕ → Entry → Entry
+moved place others entry = renumbered (moved_number place others) (with_last place entry)

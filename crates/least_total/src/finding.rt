@@ -1,0 +1,153 @@
+//! The least total among the best costs.
+ghost use Rattle.std.specs.Prelude.{◌≡◌, ℕ, IfOk, All, ◌≤◌};
+ghost use Rattle.path_rows.specs.declared.answer.Verdict.TheVariants.{Optimal};
+ghost use Rattle.path_rows.specs.Problems.{DesignProblem};
+ghost use Rattle.path_rows.specs.Answers.{IsValid};
+ghost use Rattle.least_total.specs.Results.{CanPrint, IsAnswered, ShowsLeast};
+ghost use Rattle.least_total.specs.Rounds.{IsKeptBelow, IsNarrowed, IsStanding};
+
+use crate::printing::{PrintedTotal, printed_total};
+use crate::recosting::{costs_in, recosted};
+use crate::rounds::{Round, TotalTree, one_round};
+use crate::standing::Standing;
+use cost_base::OutOfMemory;
+use cost_branching::keeps_conditions;
+use path_rows::{Answer, Problem, Row, Tree};
+use printed_rows::greatest_of;
+use std::alloc::Global;
+use wide_fraction::Limits;
+
+/// Why no best costs have a smaller total.
+#[derive(Drop)]
+pub enum TotalProof {
+    /// It is the total of the lower bounds.
+    Floor,
+    /// A closed tree over the box at the answer's greatest cost, in which the form of the total has the bound `total - 1`.
+    /// That form has the number behind those of the rows.
+    Tree { rows: Vec<Row>, tree: Tree },
+}
+
+/// The costs of the least total that were found.
+#[derive(Drop)]
+pub enum Total {
+    /// No best costs have a smaller total.
+    Least {
+        /// The answer with these costs.
+        answer: Answer,
+        /// Their total.
+        total: u64,
+        proof: TotalProof,
+    },
+    /// The budget was used up.
+    Unknown {
+        /// The answer with the best costs of the least total so far.
+        answer: Answer,
+        /// Their total.
+        total: u64,
+        /// The bound of the total at which the budget was used up.
+        bound: u64,
+        /// The rows of the tree that used it up. The form of the total has the number behind theirs.
+        rows: Vec<Row>,
+        tree: Tree,
+    },
+}
+
+/// What the rounds come to: the costs so far, and, where the budget was used up, the bound and the tree of that round.
+#[derive(Drop)]
+pub(crate) struct Narrowed {
+    pub(crate) standing: Standing,
+    pub(crate) spent: Option<(u32, TotalTree)>,
+}
+
+/// Runs rounds until none is left, or until one uses the budget up.
+fn run_rounds(
+    alloc: Global,
+    problem: &Problem,
+    cap: u16,
+    limits: &Limits,
+    standing: Standing,
+) -> Result<Narrowed, OutOfMemory>
+    requires cap { All (λ low. low ≤ cap) problem.now.low }
+    requires standing { IsStanding problem.now limits.now.top limits.now.nodes cap standing }
+    ensures { IfOk result (IsNarrowed problem.now limits.now.top limits.now.nodes cap) }
+{
+    keeps_conditions(problem);
+    let mut standing = standing;
+    while let Some(most) = standing.next_bound() {
+        match one_round(alloc, problem, cap, most, limits)? {
+            Round::Costs(costs) => standing = standing.with_costs(costs),
+            Round::Refuted(tree) => standing = standing.without(most, tree),
+            Round::Spent(tree) => {
+                return Ok(Narrowed {
+                    standing,
+                    spent: Some((most, tree)),
+                });
+            }
+        }
+    }
+    Ok(Narrowed {
+        standing,
+        spent: None,
+    })
+}
+
+/// The proof that a kept tree is, or the floor where none is kept.
+fn proof_of(alloc: Global, kept: Option<TotalTree>) -> Result<TotalProof, OutOfMemory>
+    requires { (p : DesignProblem) × (top : ℕ) × (nodes : ℕ) × (cap : ℕ) × (least : ℕ) × IsKeptBelow p top nodes cap least kept }
+    ensures { IfOk result (λ proof. (p : DesignProblem) (top nodes cap least : ℕ) →
+        CanPrint p nodes cap → IsKeptBelow p top nodes cap least kept → ShowsLeast p top nodes cap least proof) }
+{
+    match kept {
+        None => Ok(TotalProof::Floor),
+        Some(tree) => {
+            let PrintedTotal { rows, tree } = printed_total(alloc, tree)?;
+            Ok(TotalProof::Tree { rows, tree })
+        }
+    }
+}
+
+/// Looks for the best costs of the least total, from a valid optimal answer.
+///
+/// Where they are found, the answer with these costs is valid, and the proof is the floor or a closed earnest tree. Where
+/// the budget is used up in a round, the answer has the best costs of the least total so far, and the tree of that round is
+/// earnest and has an Undone and exactly `limits.nodes` entries. In both the trees stand over the box at the answer's
+/// greatest cost.
+///
+/// # Errors
+///
+/// `OutOfMemory`.
+pub fn least_total(
+    alloc: Global,
+    problem: &Problem,
+    answer: Answer,
+    limits: &Limits,
+) -> Result<Total, OutOfMemory>
+    requires valid { IsValid problem.now answer }
+    requires optimal { (k : ℕ) × (answer.verdict ≡ Optimal k) }
+    ensures { IfOk result (IsAnswered problem.now limits.now.top limits.now.nodes answer) }
+{
+    keeps_conditions(problem);
+    let costs = costs_in(alloc, problem, &answer)?;
+    let cap = greatest_of(costs.as_slice());
+    let standing = Standing::start(problem, costs);
+    let Narrowed { standing, spent } = run_rounds(alloc, problem, cap, limits, standing)?;
+    let answer = recosted(alloc, problem, answer, &standing.costs)?;
+    let total = u64::from(standing.total);
+    match spent {
+        None => Ok(Total::Least {
+            answer,
+            total,
+            proof: proof_of(alloc, standing.kept)?,
+        }),
+        Some((most, tree)) => {
+            let PrintedTotal { rows, tree } = printed_total(alloc, tree)?;
+            Ok(Total::Unknown {
+                answer,
+                total,
+                bound: u64::from(most),
+                rows,
+                tree,
+            })
+        }
+    }
+}

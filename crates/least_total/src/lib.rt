@@ -1,0 +1,13 @@
+//! The least total among the best costs: costs of the least greatest cost whose sum is the least, with a proof of it.
+#![tactic(auto)]
+
+mod bounded;
+mod finding;
+mod moving;
+mod printing;
+mod recosting;
+mod rounds;
+mod standing;
+mod totals;
+
+pub use finding::{Total, TotalProof, least_total};

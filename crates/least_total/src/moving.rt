@@ -1,0 +1,163 @@
+//! The form of the total is moved behind the forms of the rows.
+ghost use Rattle.std.specs.Prelude.{◌≡◌, ◌+◌, ◌<◌, ◌≤◌, ◌++◌, map, All, IfOk, OnOk};
+ghost use Rattle.path_rows.specs.Renumbering.{renumbered_member, renumbered_part, renumbered_wide};
+ghost use Rattle.printed_rows.specs.NamedRows.{MemberBelow, NamesBelow};
+ghost use Rattle.least_total.specs.Moving.{moved, moved_number, picked, put_last};
+
+use cost_base::{Listed, OutOfMemory};
+use path_rows::{Entry, Member, Parts, Tree, WideAt};
+use std::alloc::Global;
+
+/// The form at a place is moved behind the others.
+#[derive(Clone, Copy)]
+pub(crate) struct Move {
+    /// The number of the form that is moved.
+    pub(crate) place: u64,
+    /// How many other forms there are.
+    pub(crate) others: u64,
+}
+
+impl Move {
+    /// The new number of a form.
+    fn number(self, row: u64) -> u64
+        requires { row < self.others + 1 }
+        ensures { result ≡ moved_number self.place self.others row }
+    {
+        if row < self.place {
+            row
+        } else if row == self.place {
+            self.others
+        } else {
+            row - 1
+        }
+    }
+
+    /// Puts those parts behind others that are of the moved form, or those that aren't, each with the new number of its form.
+    fn push_parts(
+        self,
+        pairs: &mut Vec<(u64, u128)>,
+        parts: &[(u64, u128)],
+        own: bool,
+    ) -> Result<(), OutOfMemory>
+        requires { All (λ part. part.0 < self.others + 1) parts.now }
+        ensures { OnOk result
+            (pairs.new.items ≡ pairs.old.items ++ map (renumbered_part (moved_number self.place self.others)) (picked own self.place parts.now)) }
+    {
+        for (row, multiplier) in parts {
+            if (*row == self.place) == own {
+                pairs.push((self.number(*row), *multiplier))?;
+            }
+        }
+        Ok(())
+    }
+
+    /// The parts of a Refute with the new numbers of their forms, in rising order.
+    fn parts(self, alloc: Global, parts: &Parts) -> Result<Parts, OutOfMemory>
+        requires place { self.place ≤ self.others }
+        requires known { All (λ part. part.0 < self.others + 1) parts.now }
+        ensures { IfOk result (λ new. new ≡ map (renumbered_part (moved_number self.place self.others)) (put_last self.place parts.now)) }
+    {
+        let mut pairs = Vec::new(alloc);
+        self.push_parts(&mut pairs, parts.as_slice(), false)?;
+        self.push_parts(&mut pairs, parts.as_slice(), true)?;
+        Ok(Parts::from_items(pairs))
+    }
+
+    /// The member of a basis with the new number of its form.
+    fn member(self, member: &Member) -> Member
+        requires { MemberBelow (self.others + 1) member.now }
+        ensures { result ≡ renumbered_member (moved_number self.place self.others) member.now }
+    {
+        match member {
+            Member::Row(row) => Member::Row(self.number(*row)),
+            Member::Low(..) | Member::High(..) => *member,
+        }
+    }
+
+    /// The basis with the new numbers of its forms.
+    fn basis(self, alloc: Global, basis: &[Member]) -> Result<Vec<Member>, OutOfMemory>
+        requires { All (MemberBelow (self.others + 1)) basis.now }
+        ensures { IfOk result (λ members. members.items ≡ map (renumbered_member (moved_number self.place self.others)) basis.now) }
+    {
+        let mut members = Vec::new(alloc);
+        for member in basis {
+            members.push(self.member(member))?;
+        }
+        Ok(members)
+    }
+
+    /// The step with the new numbers of its basis.
+    fn wide(self, alloc: Global, wide: &WideAt) -> Result<WideAt, OutOfMemory>
+        requires { All (MemberBelow (self.others + 1)) wide.now.basis }
+        ensures { IfOk result (λ new. new ≡ renumbered_wide (moved_number self.place self.others) wide.now) }
+    {
+        let basis = self.basis(alloc, wide.basis.as_slice())?;
+        Ok(WideAt {
+            step: wide.step,
+            left: wide.left,
+            right: wide.right,
+            basis: Listed::from_items(basis),
+        })
+    }
+
+    /// The entry with the new numbers of its forms.
+    fn entry(self, alloc: Global, entry: &Entry) -> Result<Entry, OutOfMemory>
+        requires place { self.place ≤ self.others }
+        requires known { NamesBelow (self.others + 1) entry.now }
+        ensures { IfOk result (λ new. new ≡ moved self.place self.others entry.now) }
+    {
+        match entry {
+            Entry::Tighten {
+                var,
+                side,
+                value,
+                row,
+            } => Ok(Entry::Tighten {
+                var: *var,
+                side: *side,
+                value: *value,
+                row: self.number(*row),
+            }),
+            Entry::Split { var, value } => Ok(Entry::Split {
+                var: *var,
+                value: *value,
+            }),
+            Entry::Halve { var, value, wide } => Ok(Entry::Halve {
+                var: *var,
+                value: *value,
+                wide: self.wide(alloc, wide)?,
+            }),
+            Entry::Refute { parts } => Ok(Entry::Refute {
+                parts: self.parts(alloc, parts)?,
+            }),
+            Entry::Undone => Ok(Entry::Undone),
+        }
+    }
+
+    /// The entries with the new numbers of their forms.
+    fn entries(self, alloc: Global, entries: &[Entry]) -> Result<Vec<Entry>, OutOfMemory>
+        requires place { self.place ≤ self.others }
+        requires known { All (NamesBelow (self.others + 1)) entries.now }
+        ensures { IfOk result (λ new. new.items ≡ map (moved self.place self.others) entries.now) }
+    {
+        let mut new = Vec::new(alloc);
+        for entry in entries {
+            new.push(self.entry(alloc, entry)?)?;
+        }
+        Ok(new)
+    }
+
+    /// The tree with the new numbers of its forms.
+    ///
+    /// # Errors
+    ///
+    /// `OutOfMemory`.
+    pub(crate) fn tree(self, alloc: Global, tree: &Tree) -> Result<Tree, OutOfMemory>
+        requires place { self.place ≤ self.others }
+        requires known { All (NamesBelow (self.others + 1)) tree.now }
+        ensures { IfOk result (λ new. new ≡ map (moved self.place self.others) tree.now) }
+    {
+        let entries = self.entries(alloc, tree.as_slice())?;
+        Ok(Tree::from_items(entries))
+    }
+}

@@ -1,0 +1,81 @@
+//! An answer with other costs.
+ghost use Rattle.std.specs.Prelude.{◌≡◌, ℕ, length, IfOk};
+ghost use Rattle.path_rows.specs.declared.answer.Verdict.TheVariants.{Optimal};
+ghost use Rattle.path_rows.specs.Rows.{greatest_cost};
+ghost use Rattle.path_rows.specs.Answers.{IsValid};
+ghost use Rattle.least_total.specs.Rounds.{IsFitWithin};
+ghost use Rattle.least_total.specs.Results.{IsRecosted};
+ghost use Rattle.least_total.specs.Given.{AreGiven, lines_in};
+
+use cost_base::OutOfMemory;
+use cost_branching::keeps_conditions;
+use evidence_checker::costs_given;
+use path_rows::{Answer, CostLine, CostList, Costs, Problem};
+use printed_rows::printed_costs;
+use std::alloc::Global;
+
+/// The cost lines of an answer; none where it has no costs.
+fn lines_in(costs: &Option<Costs>) -> &[CostLine]
+    ensures { result.now ≡ lines_in costs.now }
+{
+    match costs {
+        Some(costs) => costs.lines.as_slice(),
+        None => &[],
+    }
+}
+
+/// The costs that a valid optimal answer gives the variables.
+///
+/// # Errors
+///
+/// `OutOfMemory`.
+pub(crate) fn costs_in(
+    alloc: Global,
+    problem: &Problem,
+    answer: &Answer,
+) -> Result<CostList, OutOfMemory>
+    requires valid { IsValid problem.now answer.now }
+    requires optimal { (k : ℕ) × (answer.now.verdict ≡ Optimal k) }
+    ensures { IfOk result (AreGiven problem.now answer.now) }
+{
+    keeps_conditions(problem);
+    let count = problem.low.as_slice().len();
+    let lines = lines_in(&answer.costs);
+    let costs = costs_given(alloc, count, problem.vars.as_slice(), lines)?;
+    Ok(CostList::from_items(costs))
+}
+
+/// A valid optimal answer with other costs of its greatest cost.
+///
+/// # Errors
+///
+/// `OutOfMemory`.
+pub(crate) fn recosted(
+    alloc: Global,
+    problem: &Problem,
+    answer: Answer,
+    costs: &CostList,
+) -> Result<Answer, OutOfMemory>
+    requires valid { IsValid problem.now answer }
+    requires optimal { (k : ℕ) × (answer.verdict ≡ Optimal k) × IsFitWithin problem.now k costs.now }
+    ensures { IfOk result (λ new. IsRecosted problem.now answer new costs.now) }
+{
+    keeps_conditions(problem);
+    let costs = printed_costs(alloc, problem, costs.as_slice())?;
+    let Answer {
+        verdict,
+        costs: _,
+        floor,
+        rows,
+        proof,
+        unfinished,
+    } = answer;
+    Ok(Answer {
+        verdict,
+        costs: Some(costs),
+        floor,
+        rows,
+        proof,
+        unfinished,
+    })
+}

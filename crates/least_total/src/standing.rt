@@ -1,0 +1,85 @@
+//! What is known of the least total while rounds are run.
+ghost use Rattle.std.specs.Prelude.{◌≡◌, ℕ, ◌+◌, ◌<◌, ◌≤◌, length, IfOk, IfSome, None};
+ghost use Rattle.path_rows.specs.Problems.{DesignProblem, IsProblem};
+ghost use Rattle.least_total.specs.Totals.{total};
+ghost use Rattle.least_total.specs.Rounds.{IsFitWithin, IsRefutedWithin, IsStanding};
+
+use crate::rounds::TotalTree;
+use crate::totals::total_of;
+use cost_branching::keeps_conditions;
+use path_rows::{CostList, Problem};
+
+/// The costs of the least total so far, and between which ends the least total lies.
+#[derive(Drop)]
+pub(crate) struct Standing {
+    /// Fit costs within the cap.
+    pub(crate) costs: CostList,
+    /// Their total.
+    pub(crate) total: u32,
+    /// No fit costs within the cap have a smaller total.
+    pub(crate) least: u32,
+    /// The closed tree at the bound `least - 1`; none is needed where `least` is the total of the lower bounds.
+    pub(crate) kept: Option<TotalTree>,
+}
+
+impl Standing {
+    /// Before the first round: only the lower bounds are known.
+    pub(crate) fn start(problem: &Problem, costs: CostList) -> Standing
+        requires { length costs ≡ length problem.now.low }
+        ensures { (top nodes cap : ℕ) → IsFitWithin problem.now cap costs → IsStanding problem.now top nodes cap result }
+    {
+        keeps_conditions(problem);
+        Standing {
+            total: total_of(costs.as_slice()),
+            least: total_of(problem.low.as_slice()),
+            costs,
+            kept: None,
+        }
+    }
+
+    /// The bound of the next round, if one is left: in the middle between the greatest that was refuted and the total.
+    pub(crate) fn next_bound(&self) -> Option<u32>
+        requires { self.now.total < 67108864 }
+        ensures within { IfSome result (λ most. (self.now.least ≤ most) × (most < self.now.total)) }
+        ensures ended { result ≡ None → self.now.total ≤ self.now.least }
+    {
+        if self.least < self.total {
+            Some((self.least + self.total - 1) / 2)
+        } else {
+            None
+        }
+    }
+
+    /// After a round that found costs.
+    pub(crate) fn with_costs(self, costs: CostList) -> Standing
+        requires { length costs ≤ 1000 }
+        ensures holds { (p : DesignProblem) (top nodes cap : ℕ) →
+            IsProblem p → IsStanding p top nodes cap self → IsFitWithin p cap costs → IsStanding p top nodes cap result }
+        ensures least { result.least ≡ self.least }
+        ensures total { result.total ≡ total costs }
+    {
+        Standing {
+            total: total_of(costs.as_slice()),
+            least: self.least,
+            costs,
+            kept: self.kept,
+        }
+    }
+
+    /// After a round at a bound that was refuted.
+    pub(crate) fn without(self, most: u32, tree: TotalTree) -> Standing
+        requires below { most < self.total }
+        requires above { self.least ≤ most }
+        ensures holds { (p : DesignProblem) (top nodes cap : ℕ) →
+            IsStanding p top nodes cap self → IsRefutedWithin p top nodes cap most tree → IsStanding p top nodes cap result }
+        ensures least { result.least ≡ most + 1 }
+        ensures total { result.total ≡ self.total }
+    {
+        Standing {
+            least: most + 1,
+            kept: Some(tree),
+            total: self.total,
+            costs: self.costs,
+        }
+    }
+}
