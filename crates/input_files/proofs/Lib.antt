@@ -5,3 +5,4 @@ pub mod Problems
 pub mod ReadyInputs
 pub mod Present
 pub mod Ends
+pub mod Networks

@@ -18,25 +18,25 @@ use Rattle.input_files.proofs.Stops.{stops_first, read_then, gave_then, gave_mad
 
 -- The rest of a reading behind each step.
 
-abbrev after_topology : View → InputFiles → Asked → List ConfigFile → Database → Reading Input
+abbrev pub after_topology : View → InputFiles → Asked → List ConfigFile → Database → Reading Input
 after_topology view names asked files d =
     problem_read view names asked d >>= λ p. Ready (record { asked = asked; files = files; database = d; problem = p })
 
-abbrev after_configs : View → InputFiles → Asked → List ConfigFile → Reading Input
+abbrev pub after_configs : View → InputFiles → Asked → List ConfigFile → Reading Input
 after_configs view names asked files =
     topology_read names asked.area (routers_of files) >>= λ d. after_topology view names asked files d
 
-abbrev after_request : View → InputFiles → Asked → Reading Input
+abbrev pub after_request : View → InputFiles → Asked → Reading Input
 after_request view names asked = configs_read names.configs >>= λ files. after_configs view names asked files
 
 -- a problem is that of the input, whose database is one
 abbrev pub IsProblemOf : DesignProblem → Input → Type 0
 IsProblemOf p d = (d.problem ≡ p) × IsDatabase d.database
 
-abbrev IsAsked : Asked → Asked → Type 0
+abbrev pub IsAsked : Asked → Asked → Type 0
 IsAsked r asked = r ≡ asked
 
-abbrev AreRouters : List Router → List ConfigFile → Type 0
+abbrev pub AreRouters : List Router → List ConfigFile → Type 0
 AreRouters routers files = routers ≡ routers_of files
 
 -- what stops the request stops all

@@ -4,3 +4,4 @@ pub mod Outcomes
 pub mod Configs
 pub mod Stops
 pub mod Ends
+pub mod Networks

@@ -5,7 +5,8 @@ ghost use Rattle.input_files.specs.Readings.{Gave};
 ghost use Rattle.input_files.specs.Outcomes.{outcome, topology_read, problem_read, file_of, resolution_place};
 ghost use Rattle.input_files.specs.Stops.{IsReadAs, files_named, topology_stop, resolution_stop};
 
-use crate::reading::{FileWords, read_configs, read_request};
+use crate::network::read_network;
+use crate::reading::FileWords;
 use crate::stop::Stop;
 use cost_base::Shelf;
 use interface_model::RouterConfig;
@@ -26,7 +27,7 @@ pub enum View {
 }
 
 /// The file of a router's configuration.
-fn file_of(words: FileWords<'_>, router: u32) -> &str
+pub fn file_of(words: FileWords<'_>, router: u32) -> &str
     ensures { result.now ≡ file_of (files_named words.entry) router }
 {
     match words.configs.get(router as usize) {
@@ -54,7 +55,7 @@ fn stop_of_topology(stop: TopologyStop, words: FileWords<'_>) -> Stop<'_>
 }
 
 /// The topology of configurations.
-fn topology<'a>(
+pub(crate) fn topology<'a>(
     alloc: Global,
     configs: &[RouterConfig],
     area: u32,
@@ -131,7 +132,7 @@ fn resolution_at_present<'a>(
 }
 
 /// The problem that requests make of a topology.
-fn resolution<'a>(
+pub(crate) fn resolution<'a>(
     alloc: Global,
     view: View,
     requests: &Requests,
@@ -161,8 +162,6 @@ pub fn read_problem<'a, S: Shelf>(
     ensures present { IfOk result (λ p. view ≡ View.AtPresent → p.low ≡ []) }
     ensures read { Gave (S.gave shelf.old shelf.new) (λ came. IsReadAs (outcome view (files_named words.entry)) came (λ p d. (d.problem ≡ p) × IsDatabase d.database) result) }
 {
-    let requests = read_request(alloc, shelf, words.request)?;
-    let configs = read_configs(alloc, shelf, words.configs)?;
-    let lsdb = topology(alloc, &configs, requests.area, words)?;
-    resolution(alloc, view, &requests, &lsdb, words)
+    let network = read_network(alloc, view, words, shelf)?;
+    Ok(network.problem)
 }

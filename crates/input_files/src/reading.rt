@@ -45,7 +45,11 @@ fn stop_of_file(stop: ShelfStop, file: &str) -> Stop<'_>
 }
 
 /// The bytes of a file, of which there are at most so many.
-fn read_file<'a, S: Shelf>(
+///
+/// # Errors
+///
+/// `Stop`: the file failed or is too long; want of memory.
+pub fn read_file<'a, S: Shelf>(
     alloc: Global,
     shelf: &mut S,
     name: &'a str,

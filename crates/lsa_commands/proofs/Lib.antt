@@ -1,0 +1,3 @@
+pub mod LsaFiles
+pub mod LsasRuns
+pub mod Routes

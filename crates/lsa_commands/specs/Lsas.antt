@@ -1,0 +1,38 @@
+-- What `lsas` writes of the configurations of a network.
+use Rattle.std.specs.Prelude.{◌≡◌, ℕ, List, [], map, Option, None, Some}
+use Rattle.cost_base.specs.declared.Status.{Status}
+use Rattle.cost_base.specs.declared.Status.TheVariants.{Done}
+use Rattle.path_requests.specs.Meaning.{present_cost}
+use Rattle.input_files.specs.declared.problem.View.TheVariants.{AtPresent}
+use Rattle.input_files.specs.Inputs.{InputFiles}
+use Rattle.input_files.specs.Readings.{Reading, Refused, Ready, ◌>>=◌}
+use Rattle.input_files.specs.Outcomes.{Input, outcome, routers_of, file_of}
+use Rattle.lsa_bytes.specs.declared.ids.IdFault.{IdFault}
+use Rattle.lsa_bytes.specs.Ids.{first_id_fault}
+use Rattle.lsa_bytes.specs.Numbers.{number_of}
+use Rattle.lsa_bytes.specs.Written.{bytes_of_all}
+use Rattle.lsa_writer.specs.WrittenLsas.{written_lsas}
+use Rattle.lsa_writer.specs.OneGraph.{SayGraph}
+
+-- a configuration without a router ID of its own is refused, at no line
+abbrev pub if_identified : InputFiles → Input → Option IdFault → Reading Input
+if_identified names d None = Ready d
+if_identified names d (Some found) = Refused (record { number = number_of found.fault; file = file_of names found.config; line = 0 })
+
+-- what the files of a network say at present costs, and then the router IDs, configuration by configuration
+abbrev pub identified_read : InputFiles → Reading Input
+identified_read names = outcome AtPresent names >>= λ d. if_identified names d (first_id_fault [] 0 (routers_of d.files))
+
+-- the present cost of each link, or the default where it has none
+abbrev pub present_costs : Input → List ℕ
+present_costs d = map (present_cost d.asked) d.database.links
+
+-- the bytes are the LSAs of the configurations at present costs, and the graph of these is the one that an audit goes by
+pub record AreWritten (d : Input) (bytes : List ℕ) : Type 0 where
+  pub written : bytes ≡ bytes_of_all (written_lsas (routers_of d.files) d.database (present_costs d))
+  pub one_graph : SayGraph bytes d.problem.graph
+
+-- what `lsas` may write of what its files say
+abbrev pub MayLsas : Input → Status → List ℕ → Type 0
+MayLsas d Done bytes = AreWritten d bytes
+MayLsas d status bytes = ⊥

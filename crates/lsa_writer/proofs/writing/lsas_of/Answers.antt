@@ -1,0 +1,68 @@
+use Rattle.std.proofs.Common.{◌≡◌, ◌∙◌, ◌≤◌, List, ℕ, sym, ap, subst, arith, length, All, map}
+use Rattle.std.proofs.lemmas.List.Elements.{All-weaker}
+use Rattle.area_graph.specs.declared.Price.TheVariants.{Fixed}
+use Rattle.lsdb_build.specs.Graphs.{Database, IsDatabase, graph_at}
+use Rattle.lsdb_build.proofs.GraphLaws.{AreMembers, members_fit}
+use Rattle.lsa_writer.specs.declared.ends.LinkEnd.{LinkEnd}
+use Rattle.lsa_writer.specs.declared.said.OwnedLink.{OwnedLink}
+use Rattle.lsa_writer.specs.Ends.{ends_of, designated_ends}
+use Rattle.lsa_writer.specs.OneGraph.{SayGraph, IsRangedEnd, IsRangedLink}
+use Rattle.lsa_writer.proofs.Groups.{AreInOrder}
+use Rattle.lsa_writer.proofs.Told.{said_order, said_length}
+use Rattle.lsa_writer.proofs.Written.{said_is, written_is, written_graph}
+use Rattle.lsa_writer.proofs.writing.lsas_of.Goals as goal
+
+pub push_router_lsas-requires-clause-in_order : goal.push_router_lsas-requires-clause-in_order
+push_router_lsas-requires-clause-in_order c =
+    let d = c.args.lsdb.now in
+    let configs = c.args.configs.now in
+    let base = subst (λ (x : Database). IsDatabase x) c.lsdb.view_is c.lsdb.invariant in
+    let said = said_is configs d c.as_slice-links.result.now c.as_slice-subnets.result.now c.args.costs.now c.in_ok-ends.ends.items c.deref-2.result.now c.deref-6.result.now
+    (c.as_slice-links.ensures ∙ ap (λ (x : Database). x.links) c.lsdb.view_is) (c.as_slice-subnets.ensures ∙ ap (λ (x : Database). x.subnets) c.lsdb.view_is) c.in_ok-ends.ensures
+    (c.deref-2.ensures.value ∙ c.in_ok-designated.ensures ∙ ap (λ (es : List LinkEnd). designated_ends es c.as_slice-subnets.result.now) c.deref.ensures.value) (c.deref-6.ensures.value ∙ c.in_ok-said.ensures) in
+    subst AreInOrder (sym said) (said_order configs (designated_ends (ends_of configs d.links) d.subnets) d.links c.args.costs.now base.in_order)
+
+pub push_router_lsas-requires-clause-few : goal.push_router_lsas-requires-clause-few
+push_router_lsas-requires-clause-few c =
+    let d = c.args.lsdb.now in
+    let configs = c.args.configs.now in
+    let base = subst (λ (x : Database). IsDatabase x) c.lsdb.view_is c.lsdb.invariant in
+    let said = said_is configs d c.as_slice-links.result.now c.as_slice-subnets.result.now c.args.costs.now c.in_ok-ends.ends.items c.deref-2.result.now c.deref-6.result.now
+    (c.as_slice-links.ensures ∙ ap (λ (x : Database). x.links) c.lsdb.view_is) (c.as_slice-subnets.ensures ∙ ap (λ (x : Database). x.subnets) c.lsdb.view_is) c.in_ok-ends.ensures
+    (c.deref-2.ensures.value ∙ c.in_ok-designated.ensures ∙ ap (λ (es : List LinkEnd). designated_ends es c.as_slice-subnets.result.now) c.deref.ensures.value) (c.deref-6.ensures.value ∙ c.in_ok-said.ensures) in
+    omega (arith, ap length said, said_length configs (designated_ends (ends_of configs d.links) d.subnets) d.links c.args.costs.now, base.links)
+
+pub push_network_lsas-requires-clause-few_members : goal.push_network_lsas-requires-clause-few_members
+push_network_lsas-requires-clause-few_members c =
+    let d = c.args.lsdb.now in
+    let base = subst (λ (x : Database). IsDatabase x) c.lsdb.view_is c.lsdb.invariant in
+    subst (λ (subnets : List (List ℕ)). All (λ members. length members ≤ 4000) subnets) (sym (c.as_slice-subnets.ensures ∙ ap (λ (x : Database). x.subnets) c.lsdb.view_is))
+    (All-weaker (AreMembers (length d.links)) (λ ms. length ms ≤ 4000) (λ ms m. omega (arith, m.few, base.links)) d.subnets (members_fit d base))
+
+pub returns-clause-written : goal.returns-clause-written
+returns-clause-written c =
+    let d = c.args.lsdb.now in
+    let configs = c.args.configs.now in
+    let costs = c.args.costs.now in
+    let links = c.as_slice-links.ensures ∙ ap (λ (x : Database). x.links) c.lsdb.view_is in
+    let subnets = c.as_slice-subnets.ensures ∙ ap (λ (x : Database). x.subnets) c.lsdb.view_is in
+    let said = said_is configs d c.as_slice-links.result.now c.as_slice-subnets.result.now costs c.in_ok-ends.ends.items c.deref-2.result.now c.deref-6.result.now links subnets c.in_ok-ends.ensures
+    (c.deref-2.ensures.value ∙ c.in_ok-designated.ensures ∙ ap (λ (es : List LinkEnd). designated_ends es c.as_slice-subnets.result.now) c.deref.ensures.value) (c.deref-6.ensures.value ∙ c.in_ok-said.ensures) in
+    written_is configs d c.as_slice-links.result.now c.as_slice-subnets.result.now costs c.deref-7.result.now c.deref-6.result.now c.new-bytes.result.items c.push_router_lsas.new.bytes.items c.push_network_lsas.new.bytes.items
+    links subnets (c.deref-7.ensures.value ∙ c.in_ok-ends.ensures) said c.new-bytes.ensures.items c.in_ok-push_router_lsas.ensures c.in_ok-push_network_lsas.ensures
+
+pub returns-clause-one_graph : goal.returns-clause-one_graph
+returns-clause-one_graph c =
+    let d = c.args.lsdb.now in
+    let configs = c.args.configs.now in
+    let costs = c.args.costs.now in
+    let links = c.as_slice-links.ensures ∙ ap (λ (x : Database). x.links) c.lsdb.view_is in
+    let subnets = c.as_slice-subnets.ensures ∙ ap (λ (x : Database). x.subnets) c.lsdb.view_is in
+    let said = said_is configs d c.as_slice-links.result.now c.as_slice-subnets.result.now costs c.in_ok-ends.ends.items c.deref-2.result.now c.deref-6.result.now links subnets c.in_ok-ends.ensures
+    (c.deref-2.ensures.value ∙ c.in_ok-designated.ensures ∙ ap (λ (es : List LinkEnd). designated_ends es c.as_slice-subnets.result.now) c.deref.ensures.value) (c.deref-6.ensures.value ∙ c.in_ok-said.ensures) in
+    let bytes = written_is configs d c.as_slice-links.result.now c.as_slice-subnets.result.now costs c.deref-7.result.now c.deref-6.result.now c.new-bytes.result.items c.push_router_lsas.new.bytes.items c.push_network_lsas.new.bytes.items
+    links subnets (c.deref-7.ensures.value ∙ c.in_ok-ends.ensures) said c.new-bytes.ensures.items c.in_ok-push_router_lsas.ensures c.in_ok-push_network_lsas.ensures in
+    let ends : c.deref-4.result.now ≡ ends_of configs d.links = c.deref-4.ensures.value ∙ c.in_ok-ends.ensures ∙ ap (ends_of configs) links in
+    subst (λ (bs : List ℕ). SayGraph bs (graph_at d (map Fixed costs))) (sym bytes)
+    (written_graph configs d costs c.requires.built c.keeps_configs.ensures.valid c.requires.ids c.requires.one_each c.requires.priced c.keeps_configs.ensures.ids
+    (subst (λ (es : List LinkEnd). All IsRangedEnd es) ends c.keeps_ends.ensures) (subst (λ (xs : List OwnedLink). All IsRangedLink xs) (c.deref-5.ensures.value ∙ sym c.deref-6.ensures.value ∙ said) c.keeps_said.ensures))

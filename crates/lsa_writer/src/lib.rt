@@ -1,0 +1,11 @@
+//! The link state advertisements (LSAs) of configurations, written.
+#![tactic(auto)]
+
+mod designation;
+mod ends;
+mod pieces;
+mod ranges;
+mod said;
+mod writing;
+
+pub use writing::lsas_of;

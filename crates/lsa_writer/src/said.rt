@@ -1,0 +1,69 @@
+//! What links say in the router-LSAs of their routers.
+ghost use Rattle.std.specs.Prelude.{◌≡◌, ◌≤◌, IfOk, length};
+ghost use Rattle.lsa_writer.specs.Ends.{end_of, ends_of};
+ghost use Rattle.lsa_writer.specs.WrittenLsas.{lsa_link, said_link, said_links};
+
+use crate::ends::{LinkEnd, end_at, id_of};
+use cost_base::OutOfMemory;
+use interface_model::RouterConfig;
+use lsa_bytes::LsaLink;
+use lsdb_build::{Far, Linked};
+use std::alloc::Global;
+
+/// A link of a router-LSA, with the number of its router.
+#[derive(Clone, Copy)]
+pub struct OwnedLink {
+    pub router: u32,
+    pub link: LsaLink,
+}
+
+/// What a link from an end says at a cost.
+fn lsa_link(
+    configs: &[RouterConfig],
+    designated: &[LinkEnd],
+    own: LinkEnd,
+    to: Far,
+    cost: u16,
+) -> LsaLink
+    ensures { result ≡ lsa_link configs.now designated.now own to cost }
+{
+    match to {
+        Far::Router(router) => LsaLink {
+            id: id_of(configs, router),
+            address: own.address,
+            kind: 1,
+            metric: cost,
+        },
+        Far::Subnet(subnet) => LsaLink {
+            id: end_at(designated, subnet).address,
+            address: own.address,
+            kind: 2,
+            metric: cost,
+        },
+    }
+}
+
+/// What links say, in order, with their ends and at their costs.
+pub fn said_links(
+    alloc: Global,
+    configs: &[RouterConfig],
+    designated: &[LinkEnd],
+    ends: &[LinkEnd],
+    links: &[Linked],
+    costs: &[u16],
+) -> Result<Vec<OwnedLink>, OutOfMemory>
+    requires ends { ends.now ≡ ends_of configs.now links.now }
+    requires one_each { length costs.now ≡ length links.now }
+    requires few { length links.now ≤ 4000 }
+    ensures { IfOk result (λ said. said.items ≡ said_links configs.now designated.now links.now costs.now) }
+{
+    let mut said = Vec::new(alloc);
+    for (i, link) in links.iter().enumerate() {
+        let own = end_at(ends, i as u32);
+        said.push(OwnedLink {
+            router: link.router,
+            link: lsa_link(configs, designated, own, link.to, costs[i]),
+        })?;
+    }
+    Ok(said)
+}
