@@ -35,6 +35,8 @@ use Rattle.input_files.proofs.Readings.{faulty_failed, one_end, one_said, said_f
 use Rattle.answer_commands.specs.declared.rejection.Rejection.{Rejection}
 use Rattle.answer_commands.specs.Checks.{IsTextOf, claim_read}
 use Rattle.answer_commands.specs.Rewrites.{IsUnfit, new_costs, revision_read}
+use Rattle.lsa_commands.specs.Lsas.{identified_read}
+use Rattle.lsa_commands.specs.Routes.{route_read}
 use Rattle.designer_command.specs.Designs.{IsDesigned, IsShownImpossible, IsShownUndecided}
 use Rattle.designer_command.specs.Trials.{MayTry, MayTryEnd, case_end, trial_limits}
 use Rattle.designer_command.specs.Runs.{MayAfter, MayAudit, MayCheck, MayDesign, MayRewrite, MayWrite, OnFailure, RunMeets, Writes, files_of}
@@ -81,14 +83,14 @@ accepted names answer came claim a end bytes ends value spelled valid h = done e
     done status.EvidenceRefused h = absurd (h.1.never a value spelled valid)
 
 -- best costs settle a problem, and so does that there are no fit ones
-best_settles : (p : DesignProblem) (w : List ℕ) → IsBest p w → IsSettled p status.Done
+pub best_settles : (p : DesignProblem) (w : List ℕ) → IsBest p w → IsSettled p status.Done
 best_settles p w best = record {
   either = inl refl;
   fit = λ other fits. refl;
   unfit = λ none. absurd (none w best.fit);
 }
 
-none_settles : (p : DesignProblem) → HasNoFit p → IsSettled p status.Impossible
+pub none_settles : (p : DesignProblem) → HasNoFit p → IsSettled p status.Impossible
 none_settles p none = record {
   either = inr refl;
   fit = λ other fits. absurd (none other fits);
@@ -96,7 +98,7 @@ none_settles p none = record {
 }
 
 -- where the budget can't be used up, no text shows that it was
-never_undecided : (limits : Bounds) (p : DesignProblem) (bytes : List ℕ) → CannotSpend limits p → IsShownUndecided limits p bytes → ⊥
+pub never_undecided : (limits : Bounds) (p : DesignProblem) (bytes : List ℕ) → CannotSpend limits p → IsShownUndecided limits p bytes → ⊥
 never_undecided limits p bytes never shown = by_tree shown.answer.unfinished shown.undecided.unfinished
   where
     by_tree : (t : Option CapTree) → UnfinishedAt p limits.top limits.nodes shown.answer.rows shown.cap t → ⊥
@@ -231,11 +233,11 @@ no_read_fault (Some (read.Check request answer configs)) came bytes counted h = 
 no_read_fault (Some (read.Audit request configs)) came bytes counted h = none_failed (outcome AtPresent (files_of request configs)) came bytes counted h
 no_read_fault (Some (read.Rewrite answer config)) came bytes counted h = none_failed (revision_read config answer) came bytes counted h
 no_read_fault (Some (read.Trial blocks start)) came bytes counted h = try_failed blocks start (case_end (made_case blocks start)) bytes h.1
-no_read_fault (Some (read.Conflict request limits configs)) came bytes counted h = h
+no_read_fault (Some (read.Conflict request limits configs)) came bytes counted h = none_failed (outcome AsRequested (files_of request configs)) came bytes counted h
 no_read_fault (Some (read.Spread request sets limits configs)) came bytes counted h = h
-no_read_fault (Some (read.Total request limits configs)) came bytes counted h = h
-no_read_fault (Some (read.Lsas request configs)) came bytes counted h = h
-no_read_fault (Some (read.Route lsas from to)) came bytes counted h = h
+no_read_fault (Some (read.Total request limits configs)) came bytes counted h = none_failed (outcome AsRequested (files_of request configs)) came bytes counted h
+no_read_fault (Some (read.Lsas request configs)) came bytes counted h = none_failed (identified_read (files_of request configs)) came bytes counted h
+no_read_fault (Some (read.Route lsas from to)) came bytes counted h = none_failed (route_read lsas from to) came bytes counted h
 
 -- over counts that stay 0 no run ends with a fault of a shelf
 pub sure_shelf : (words : List (List ℕ)) (gave : List Taken → Type 0) (held : List ℕ → Option (List ℕ)) (handed : List ℕ → Type 0) (got_before got_now : Option (List ℕ)) (count_before count_now : ℕ) (end : Status) →

@@ -77,6 +77,11 @@ designed_is limits d a k ready base to is valid gives =
       best = gives.best;
     }
 
+-- its costs are those of the answer
+pub designed_costs : (limits : Bounds) (d : Input) (a : AnswerParts) (k : ℕ) (ready : IsReadyInput d) (base : IsDatabase d.database) (to : IsAnswerTo limits d.problem a) (is : a.verdict ≡ Optimal k) (valid : IsValid d.problem a) (gives : GivesBest d.problem k a.costs) → (designed_is limits d a k ready base to is valid gives).costs ≡ gives.values
+unfolding designed_is
+designed_costs limits d a k ready base to is valid gives = refl
+
 -- the text of a valid impossible answer
 pub impossible_is : (limits : Bounds) (p : DesignProblem) (a : AnswerParts) → IsAnswerTo limits p a → a.verdict ≡ Impossible → IsValid p a → IsShownImpossible limits p (text a)
 impossible_is limits p a to is valid = record {

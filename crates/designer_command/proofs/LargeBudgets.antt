@@ -25,7 +25,7 @@ points_of-le (l ∷ ls) (h ∷ hs) (k ∷ ks) same below =
     product_le (h + 1 - l) (k + 1 - l) (points_of ls hs) (points_of ls ks) (omega arith) (points_of-le ls hs ks (omega arith) (λ i within. below (suc i) (omega arith)))
 
 -- a cap cuts none of the ends where it is their greatest
-capped-le : (p : DesignProblem) (cap : ℕ) → points (capped (box_of p) cap) ≤ points (capped (box_of p) (greatest_bound p))
+pub capped-le : (p : DesignProblem) (cap : ℕ) → points (capped (box_of p) cap) ≤ points (capped (box_of p) (greatest_bound p))
 capped-le p cap =
     points_of-le p.low (map (λ h. min h cap) p.high) (map (λ h. min h (greatest_bound p)) p.high)
     (length-map p.high (λ h. min h cap) ∙ sym (length-map p.high (λ h. min h (greatest_bound p))))
@@ -37,7 +37,7 @@ capped-le p cap =
     omega arith)
 
 -- the box at a cap that isn't below a lower bound
-capped_box : (p : DesignProblem) (cap : ℕ) → IsProblem p → All (λ low. low ≤ cap) p.low → IsBox (length p.low) (capped (box_of p) cap)
+pub capped_box : (p : DesignProblem) (cap : ℕ) → IsProblem p → All (λ low. low ≤ cap) p.low → IsBox (length p.low) (capped (box_of p) cap)
 capped_box p cap kept no_higher = record {
   low_count = refl;
   high_count = length-map p.high (λ h. min h cap) ∙ sym kept.low_count;

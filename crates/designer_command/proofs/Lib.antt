@@ -12,5 +12,8 @@ pub mod OnlyCheapest
 mod Examples
 pub mod MadeNames
 pub mod Trials
+pub mod TotalTexts
+pub mod TotalRuns
 pub mod LargeBudgets
 pub mod CompletenessLaws
+pub mod FurtherCommands

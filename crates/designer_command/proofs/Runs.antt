@@ -1,17 +1,14 @@
 -- How a run ends, by what it reports and what of that was put.
 use Rattle.std.proofs.Common.{◌≡◌, ℕ, refl, sym, subst, List, [], inl, inr}
-use Rattle.std.specs.Prelude.{Option, Result, Ok, Err, Some, None, IfOk, MatchResult, String, Vec, string_bytes, take}
-use Rattle.std.specs.declared.alloc.Global.{Global}
+use Rattle.std.specs.Prelude.{Option, Result, Ok, Err, Some, None, IfOk, MatchResult, take}
 use Rattle.std.proofs.lemmas.Result.{IfOk-weaker}
 use Rattle.cost_base.specs.declared.OutOfMemory.{OutOfMemory}
 use Rattle.cost_base.specs.declared.Status.{Status}
 use Rattle.cost_base.specs.declared.Status.TheVariants as status
 use Rattle.cost_base.specs.Outside.{GotWhole}
 use Rattle.cost_base.specs.Histories.{Taken}
-use Rattle.wide_fraction.specs.declared.bounds.Limits.{Limits}
 use Rattle.command_words.specs.declared.job.Job.{Job}
-use Rattle.command_words.specs.declared.job.Job.TheVariants as jobs
-use Rattle.command_words.specs.Jobs.{JobRead, bounds, seen}
+use Rattle.command_words.specs.Jobs.{Bounds, JobRead, seen}
 use Rattle.command_words.specs.Jobs as read
 use Rattle.input_files.specs.declared.stop.Stop.{Stop}
 use Rattle.input_files.specs.declared.stop.Stop.TheVariants as stops
@@ -19,15 +16,18 @@ use Rattle.input_files.specs.Readings.{Reading, Gave, End, Says, Faulty, Failed}
 use Rattle.input_files.specs.Stops.{StopsAs, IsReadAs, refusal_in}
 use Rattle.report_writer.specs.declared.report.Report.{Report}
 use Rattle.report_writer.specs.Reports.{Reports, ReportsStop, ReportsAny, IsWritten, bytes_in}
-use Rattle.designer_command.specs.Usage.{usage}
-use Rattle.command_words.specs.Words.{texts}
 use Rattle.input_files.specs.declared.problem.View.TheVariants.{AsRequested, AtPresent}
 use Rattle.input_files.specs.Outcomes.{Input, outcome}
 use Rattle.case_maker.specs.Cases.{made_case}
 use Rattle.designer_command.specs.Trials.{MayTrial, MayTryEnd, case_end}
 use Rattle.answer_commands.specs.Checks.{claim_read}
 use Rattle.answer_commands.specs.Rewrites.{revision_read}
-use Rattle.designer_command.specs.Runs.{OnSaid, MayAfter, MayDesign, MayAudit, MayCheck, MayRewrite, MayWrite, WritesNothing, Writes, files_of}
+use Rattle.lsa_commands.specs.Lsas.{MayLsas, identified_read}
+use Rattle.lsa_commands.specs.Routes.{MayRoute, route_read}
+use Rattle.wish_commands.specs.Conflicts.{MayConflict}
+use Rattle.designer_command.specs.TotalRuns.{MayTotal}
+use Rattle.designer_command.specs.Usage.{usage}
+use Rattle.designer_command.specs.Runs.{OnSaid, MayAfter, MayDesign, MayAudit, MayCheck, MayRewrite, MayWrite, ReportsJob, WritesNothing, Writes, files_of}
 
 -- what a command may write of what its files say goes with no other status than its own
 pub record SaysItsOwn {A : Type 0} (may : A → Status → List ℕ → Type 0) : Type 0 where
@@ -119,19 +119,6 @@ written_meets may handed got_before got_now count_before count_now aim bytes end
     subst (λ (s : Status). Writes may handed got_before got_now count_before count_now s) (sym h.0)
     (record { status = aim; bytes = bytes; allowed = allowed; length = h.1.0; written = h.1.1; part = got (take h.1.0 bytes) h.1.1; cause = h.2 })
 
--- words that are refused, by a command that isn't built: no file is asked for
-pub other_refused : (job : Job) → ((request : String Global) (limits : Limits) (configs : Vec (String Global) Global) → job ≡ jobs.Design request limits configs → ⊥) → ((request answer : String Global) (configs : Vec (String Global) Global) → job ≡ jobs.Check request answer configs → ⊥) → ((request : String Global) (configs : Vec (String Global) Global) → job ≡ jobs.Audit request configs → ⊥) → ((answer config : String Global) → job ≡ jobs.Rewrite answer config → ⊥) → ((blocks start : ℕ) → job ≡ jobs.Trial blocks start → ⊥) → MayWrite (Some (seen job)) [] status.WordsRefused usage
-other_refused (jobs.Design request limits configs) no_design no_check no_audit no_rewrite no_trial = absurd (no_design request limits configs refl)
-other_refused (jobs.Check request answer configs) no_design no_check no_audit no_rewrite no_trial = absurd (no_check request answer configs refl)
-other_refused (jobs.Audit request configs) no_design no_check no_audit no_rewrite no_trial = absurd (no_audit request configs refl)
-other_refused (jobs.Rewrite answer config) no_design no_check no_audit no_rewrite no_trial = absurd (no_rewrite answer config refl)
-other_refused (jobs.Trial blocks start) no_design no_check no_audit no_rewrite no_trial = absurd (no_trial blocks start refl)
-other_refused (jobs.Conflict request limits configs) no_design no_check no_audit no_rewrite no_trial = (refl, refl)
-other_refused (jobs.Spread request sets limits configs) no_design no_check no_audit no_rewrite no_trial = (refl, refl)
-other_refused (jobs.Total request limits configs) no_design no_check no_audit no_rewrite no_trial = (refl, refl)
-other_refused (jobs.Lsas request configs) no_design no_check no_audit no_rewrite no_trial = (refl, refl)
-other_refused (jobs.Route lsas from to) no_design no_check no_audit no_rewrite no_trial = (refl, refl)
-
 -- a report of this status and text may be written where they may
 pub may_report : (may : Status → List ℕ → Type 0) (aim : Status) (bytes : List ℕ) (report : Report) → Reports aim bytes report → may aim bytes → may report.status (bytes_in report.text)
 may_report may aim bytes report r h = subst (λ (b : List ℕ). may report.status b) (sym r.text) (subst (λ (s : Status). may s bytes) (sym r.status) h)
@@ -147,52 +134,58 @@ made_meets Same may handed got_before got_now count_before count_now (Err e) end
 
 -- What the commands report, by their words.
 
-abbrev Reported : (List Taken → Type 0) → Option JobRead → Result Report OutOfMemory → Type 0
-Reported Given job result = Gave Given (λ came. IfOk result (λ report. MayWrite job came report.status (bytes_in report.text)))
+pub design_reported : (Given : List Taken → Type 0) (name : List ℕ) (limits : Bounds) (configs : List (List ℕ)) (made : Result Report Stop) (result : Result Report OutOfMemory) →
+    Gave Given (λ came. IsReadAs (outcome AsRequested (files_of name configs)) came (λ report d. MayDesign limits d report.status (bytes_in report.text)) made) → ReportsAny made result → ReportsJob Given (read.Design name limits configs) result
+design_reported Given name limits configs made result a r =
+    reported Given (outcome AsRequested (files_of name configs)) (MayDesign limits) made result (record { refused = λ x bytes h. h; failed = λ x bytes h. h; unwritten = λ x bytes h. h; wanting = λ x bytes h. h }) a r
 
-pub design_reported : (Given : List Taken → Type 0) (job : Job) (request : String Global) (limits : Limits) (configs : Vec (String Global) Global) (name : List ℕ) (words : List (String Global)) (made : Result Report Stop) (result : Result Report OutOfMemory) →
-    job ≡ jobs.Design request limits configs → name ≡ string_bytes request → words ≡ configs.items →
-    Gave Given (λ came. IsReadAs (outcome AsRequested (files_of name (texts words))) came (λ report d. MayDesign (bounds limits) d report.status (bytes_in report.text)) made) → ReportsAny made result → Reported Given (Some (seen job)) result
-design_reported Given job request limits configs name words made result is named worded a r =
-    subst (λ (j : Job). Reported Given (Some (seen j)) result) (sym is)
-    (subst (λ (ws : List (String Global)). Reported Given (Some (read.Design (string_bytes request) (bounds limits) (texts ws))) result) worded
-    (subst (λ (n : List ℕ). Reported Given (Some (read.Design n (bounds limits) (texts words))) result) named
-    (reported Given (outcome AsRequested (files_of name (texts words))) (MayDesign (bounds limits)) made result (record { refused = λ x bytes h. h; failed = λ x bytes h. h; unwritten = λ x bytes h. h; wanting = λ x bytes h. h }) a r)))
+pub audit_reported : (Given : List Taken → Type 0) (name : List ℕ) (configs : List (List ℕ)) (made : Result Report Stop) (result : Result Report OutOfMemory) →
+    Gave Given (λ came. IsReadAs (outcome AtPresent (files_of name configs)) came (λ report d. MayAudit d report.status (bytes_in report.text)) made) → ReportsAny made result → ReportsJob Given (read.Audit name configs) result
+audit_reported Given name configs made result a r =
+    reported Given (outcome AtPresent (files_of name configs)) MayAudit made result (record { refused = λ x bytes h. h; failed = λ x bytes h. h; unwritten = λ x bytes h. h; wanting = λ x bytes h. h }) a r
 
-pub audit_reported : (Given : List Taken → Type 0) (job : Job) (request : String Global) (configs : Vec (String Global) Global) (name : List ℕ) (words : List (String Global)) (made : Result Report Stop) (result : Result Report OutOfMemory) →
-    job ≡ jobs.Audit request configs → name ≡ string_bytes request → words ≡ configs.items →
-    Gave Given (λ came. IsReadAs (outcome AtPresent (files_of name (texts words))) came (λ report d. MayAudit d report.status (bytes_in report.text)) made) → ReportsAny made result → Reported Given (Some (seen job)) result
-audit_reported Given job request configs name words made result is named worded a r =
-    subst (λ (j : Job). Reported Given (Some (seen j)) result) (sym is)
-    (subst (λ (ws : List (String Global)). Reported Given (Some (read.Audit (string_bytes request) (texts ws))) result) worded
-    (subst (λ (n : List ℕ). Reported Given (Some (read.Audit n (texts words))) result) named
-    (reported Given (outcome AtPresent (files_of name (texts words))) MayAudit made result (record { refused = λ x bytes h. h; failed = λ x bytes h. h; unwritten = λ x bytes h. h; wanting = λ x bytes h. h }) a r)))
+pub check_reported : (Given : List Taken → Type 0) (name answer : List ℕ) (configs : List (List ℕ)) (made : Result Report Stop) (result : Result Report OutOfMemory) →
+    Gave Given (λ came. IsReadAs (claim_read (files_of name configs) answer) came (λ report claim. MayCheck claim report.status (bytes_in report.text)) made) → ReportsAny made result → ReportsJob Given (read.Check name answer configs) result
+check_reported Given name answer configs made result a r =
+    reported Given (claim_read (files_of name configs) answer) MayCheck made result (record { refused = λ x bytes h. h; failed = λ x bytes h. h; unwritten = λ x bytes h. h; wanting = λ x bytes h. h }) a r
 
-pub check_reported : (Given : List Taken → Type 0) (job : Job) (request answer : String Global) (configs : Vec (String Global) Global) (name file : List ℕ) (words : List (String Global)) (made : Result Report Stop) (result : Result Report OutOfMemory) →
-    job ≡ jobs.Check request answer configs → name ≡ string_bytes request → file ≡ string_bytes answer → words ≡ configs.items →
-    Gave Given (λ came. IsReadAs (claim_read (files_of name (texts words)) file) came (λ report claim. MayCheck claim report.status (bytes_in report.text)) made) → ReportsAny made result → Reported Given (Some (seen job)) result
-check_reported Given job request answer configs name file words made result is named answered worded a r =
-    subst (λ (j : Job). Reported Given (Some (seen j)) result) (sym is)
-    (subst (λ (ws : List (String Global)). Reported Given (Some (read.Check (string_bytes request) (string_bytes answer) (texts ws))) result) worded
-    (subst (λ (f : List ℕ). Reported Given (Some (read.Check (string_bytes request) f (texts words))) result) answered
-    (subst (λ (n : List ℕ). Reported Given (Some (read.Check n file (texts words))) result) named
-    (reported Given (claim_read (files_of name (texts words)) file) MayCheck made result (record { refused = λ x bytes h. h; failed = λ x bytes h. h; unwritten = λ x bytes h. h; wanting = λ x bytes h. h }) a r))))
+pub rewrite_reported : (Given : List Taken → Type 0) (answer config : List ℕ) (made : Result Report Stop) (result : Result Report OutOfMemory) →
+    Gave Given (λ came. IsReadAs (revision_read config answer) came (λ report revision. MayRewrite revision report.status (bytes_in report.text)) made) → ReportsAny made result → ReportsJob Given (read.Rewrite answer config) result
+rewrite_reported Given answer config made result a r =
+    reported Given (revision_read config answer) MayRewrite made result (record { refused = λ x bytes h. h; failed = λ x bytes h. h; unwritten = λ x bytes h. h; wanting = λ x bytes h. h }) a r
 
-pub rewrite_reported : (Given : List Taken → Type 0) (job : Job) (answer config : String Global) (file name : List ℕ) (made : Result Report Stop) (result : Result Report OutOfMemory) →
-    job ≡ jobs.Rewrite answer config → file ≡ string_bytes answer → name ≡ string_bytes config →
-    Gave Given (λ came. IsReadAs (revision_read name file) came (λ report revision. MayRewrite revision report.status (bytes_in report.text)) made) → ReportsAny made result → Reported Given (Some (seen job)) result
-rewrite_reported Given job answer config file name made result is answered named a r =
-    subst (λ (j : Job). Reported Given (Some (seen j)) result) (sym is)
-    (subst (λ (n : List ℕ). Reported Given (Some (read.Rewrite (string_bytes answer) n)) result) named
-    (subst (λ (f : List ℕ). Reported Given (Some (read.Rewrite f name)) result) answered
-    (reported Given (revision_read name file) MayRewrite made result (record { refused = λ x bytes h. h; failed = λ x bytes h. h; unwritten = λ x bytes h. h; wanting = λ x bytes h. h }) a r)))
+pub conflict_reported : (Given : List Taken → Type 0) (name : List ℕ) (limits : Bounds) (configs : List (List ℕ)) (made : Result Report Stop) (result : Result Report OutOfMemory) →
+    Gave Given (λ came. IsReadAs (outcome AsRequested (files_of name configs)) came (λ report d. MayConflict limits d report.status (bytes_in report.text)) made) → ReportsAny made result → ReportsJob Given (read.Conflict name limits configs) result
+conflict_reported Given name limits configs made result a r =
+    reported Given (outcome AsRequested (files_of name configs)) (MayConflict limits) made result (record { refused = λ x bytes h. h; failed = λ x bytes h. h; unwritten = λ x bytes h. h; wanting = λ x bytes h. h }) a r
 
-pub trial_reported : (Given : List Taken → Type 0) (job : Job) (blocks start : ℕ) (result : Result Report OutOfMemory) → Given [] → job ≡ jobs.Trial blocks start →
-    IfOk result (λ report. MayTrial blocks start report.status (bytes_in report.text)) → Reported Given (Some (seen job)) result
-trial_reported Given job blocks start result none is tried =
-    subst (λ (j : Job). Reported Given (Some (seen j)) result) (sym is)
-    (record {
-      came = [];
-      given = none;
-      so = IfOk-weaker result (λ report. MayTrial blocks start report.status (bytes_in report.text)) (λ report. MayWrite (Some (read.Trial blocks start)) [] report.status (bytes_in report.text)) (λ report h. (refl, h)) tried;
-    })
+pub total_reported : (Given : List Taken → Type 0) (name : List ℕ) (limits : Bounds) (configs : List (List ℕ)) (made : Result Report Stop) (result : Result Report OutOfMemory) →
+    Gave Given (λ came. IsReadAs (outcome AsRequested (files_of name configs)) came (λ report d. MayTotal limits d report.status (bytes_in report.text)) made) → ReportsAny made result → ReportsJob Given (read.Total name limits configs) result
+total_reported Given name limits configs made result a r =
+    reported Given (outcome AsRequested (files_of name configs)) (MayTotal limits) made result (record { refused = λ x bytes h. h; failed = λ x bytes h. h; unwritten = λ x bytes h. h; wanting = λ x bytes h. h }) a r
+
+pub lsas_reported : (Given : List Taken → Type 0) (name : List ℕ) (configs : List (List ℕ)) (made : Result Report Stop) (result : Result Report OutOfMemory) →
+    Gave Given (λ came. IsReadAs (identified_read (files_of name configs)) came (λ report d. MayLsas d report.status (bytes_in report.text)) made) → ReportsAny made result → ReportsJob Given (read.Lsas name configs) result
+lsas_reported Given name configs made result a r =
+    reported Given (identified_read (files_of name configs)) MayLsas made result (record { refused = λ x bytes h. h; failed = λ x bytes h. h; unwritten = λ x bytes h. h; wanting = λ x bytes h. h }) a r
+
+pub route_reported : (Given : List Taken → Type 0) (lsas : List ℕ) (from to : ℕ) (made : Result Report Stop) (result : Result Report OutOfMemory) →
+    Gave Given (λ came. IsReadAs (route_read lsas from to) came (λ report said. MayRoute from to said report.status (bytes_in report.text)) made) → ReportsAny made result → ReportsJob Given (read.Route lsas from to) result
+route_reported Given lsas from to made result a r =
+    reported Given (route_read lsas from to) (MayRoute from to) made result (record { refused = λ x bytes h. h; failed = λ x bytes h. h; unwritten = λ x bytes h. h; wanting = λ x bytes h. h }) a r
+
+-- a job with these words reports what a command with them does
+pub job_reported : (Given : List Taken → Type 0) (job : Job) (said : JobRead) (result : Result Report OutOfMemory) → seen job ≡ said → ReportsJob Given said result → ReportsJob Given (seen job) result
+job_reported Given job said result is made = subst (λ (j : JobRead). ReportsJob Given j result) (sym is) made
+
+-- a trial asks for no file
+pub trial_reported : (Given : List Taken → Type 0) (blocks start : ℕ) (result : Result Report OutOfMemory) → Given [] →
+    IfOk result (λ report. MayWrite (Some (read.Trial blocks start)) [] report.status (bytes_in report.text)) → ReportsJob Given (read.Trial blocks start) result
+trial_reported Given blocks start result none tried = record { came = []; given = none; so = tried }
+
+-- the words of a command that isn't built are refused, and no file is asked for
+pub spread_refused : (Given : List Taken → Type 0) (job : Job) (request sets : List ℕ) (limits : Bounds) (configs : List (List ℕ)) (report : Report) → Given [] → seen job ≡ read.Spread request sets limits configs →
+    Reports status.WordsRefused usage report → ReportsJob Given (seen job) (Ok report)
+spread_refused Given job request sets limits configs report none is refused =
+    subst (λ (j : JobRead). ReportsJob Given j (Ok report)) (sym is)
+    (record { came = []; given = none; so = may_report (MayWrite (Some (read.Spread request sets limits configs)) []) status.WordsRefused usage report refused (refl, refl) })

@@ -25,6 +25,11 @@ use Rattle.case_maker.specs.Cases.{made_case}
 use Rattle.config_writer.specs.Rewriting.{first_missing}
 use Rattle.answer_commands.specs.Checks.{Claim, claim_read}
 use Rattle.answer_commands.specs.Rewrites.{Revision, new_costs, revision_read}
+use Rattle.wish_commands.specs.Conflicts.{MayConflict}
+use Rattle.lsa_bytes.specs.declared.Lsa.{Lsa}
+use Rattle.lsa_commands.specs.Lsas.{MayLsas, identified_read}
+use Rattle.lsa_commands.specs.Routes.{MayRoute, route_read}
+use Rattle.designer_command.specs.TotalRuns.{MayTotal}
 use Rattle.designer_command.specs.Trials.{MayTrial, case_end, trial_limits}
 use Rattle.designer_command.specs.Runs.{MayAfter, MayAudit, MayCheck, MayDesign, MayRewrite}
 
@@ -88,3 +93,33 @@ HeadedCostsAreWritten =
     EndsAs (revision_read config answer) came (Says r) → IsAnswerValue a → r.bytes ≡ text a → a.costs ≡ Some costs →
     first_missing (new_costs r.config costs.lines) r.config.bytes ≡ None →
     MayAfter (revision_read config answer) MayRewrite came end bytes → end ≡ status.Done
+
+-- a budget of twice as many entries as the box at the greatest upper bound has points, less one
+abbrev pub IsLarge : Bounds → DesignProblem → Type 0
+IsLarge limits p = 2 * points (capped (box_of p) (greatest_bound p)) ≤ limits.nodes + 1
+
+-- Where its files say a problem, `conflict` may write nothing but what it found: that is settled where the budget is large.
+abbrev pub ConflictsAreFound : Type 0
+ConflictsAreFound =
+    (limits : Bounds) (names : InputFiles) (came : List Taken) (d : Input) (end : Status) (bytes : List ℕ) →
+    EndsAs (outcome AsRequested names) came (Says d) → MayAfter (outcome AsRequested names) (MayConflict limits) came end bytes →
+    ((end ≡ status.Done) ⊎ (end ≡ status.Undecided)) × (IsProblem d.problem → IsLarge limits d.problem → end ≡ status.Done)
+
+-- So with `total`: Done where there are fit costs, and Impossible where there are none.
+abbrev pub TotalsAreFound : Type 0
+TotalsAreFound =
+    (limits : Bounds) (names : InputFiles) (came : List Taken) (d : Input) (end : Status) (bytes : List ℕ) →
+    EndsAs (outcome AsRequested names) came (Says d) → MayAfter (outcome AsRequested names) (MayTotal limits) came end bytes →
+    ((end ≡ status.Done) ⊎ (end ≡ status.Impossible) ⊎ (end ≡ status.Undecided)) × (IsProblem d.problem → IsLarge limits d.problem → IsSettled d.problem end)
+
+-- Where the files of `lsas` say a problem, and each configuration a router ID of its own, nothing may be written but the LSAs.
+abbrev pub IdentifiedInputIsWritten : Type 0
+IdentifiedInputIsWritten =
+    (names : InputFiles) (came : List Taken) (d : Input) (end : Status) (bytes : List ℕ) →
+    EndsAs (identified_read names) came (Says d) → MayAfter (identified_read names) MayLsas came end bytes → end ≡ status.Done
+
+-- Where the file of `route` says LSAs among which both routers have one, nothing may be written but the route.
+abbrev pub KnownRoutersAreRouted : Type 0
+KnownRoutersAreRouted =
+    (file : List ℕ) (from to : ℕ) (came : List Taken) (lsas : List Lsa) (end : Status) (bytes : List ℕ) →
+    EndsAs (route_read file from to) came (Says lsas) → MayAfter (route_read file from to) (MayRoute from to) came end bytes → end ≡ status.Done

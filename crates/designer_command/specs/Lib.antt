@@ -4,5 +4,6 @@ pub mod Designs
 pub mod Trials
 pub mod Audits
 pub mod Reported
+pub mod TotalRuns
 pub mod Runs
 pub mod Completeness

@@ -1,24 +1,31 @@
 -- What a run may write, with the status that it ends with.
-use Rattle.std.specs.Prelude.{◌≡◌, ℕ, List, [], take, Option, Some}
+use Rattle.std.specs.Prelude.{◌≡◌, ℕ, List, [], take, Option, None, Some, Result, IfOk}
+use Rattle.cost_base.specs.declared.OutOfMemory.{OutOfMemory as NoMemory}
 use Rattle.cost_base.specs.declared.Status.{Status}
 use Rattle.cost_base.specs.declared.Status.TheVariants.{Done, Impossible, Undecided, InputRefused, ReadFault, WriteFault, OutOfMemory, WordsRefused, EvidenceRefused}
 use Rattle.cost_base.specs.Outside.{Rose, GotWhole}
 use Rattle.cost_base.specs.Histories.{Taken, AreTold, CountsFailures}
 use Rattle.evidence_checker.specs.declared.stop.Accepted.{Accepted}
-use Rattle.command_words.specs.Jobs.{Bounds, JobRead, Design, Check, Audit, Rewrite, Trial}
+use Rattle.command_words.specs.Jobs.{Bounds, JobRead, Design, Check, Audit, Rewrite, Trial, Conflict, Spread, Total, Lsas, Route}
 use Rattle.command_words.specs.Commands.{job_of}
 use Rattle.input_files.specs.declared.problem.View.TheVariants.{AsRequested, AtPresent}
 use Rattle.input_files.specs.Inputs.{InputFiles}
-use Rattle.input_files.specs.Readings.{Refusal, Reading, Says, Faulty, Failed, EndsAs}
+use Rattle.input_files.specs.Readings.{Refusal, Reading, Says, Faulty, Failed, EndsAs, Gave}
 use Rattle.input_files.specs.Outcomes.{Input, outcome}
 use Rattle.answer_commands.specs.declared.rejection.Rejection.{Rejection}
 use Rattle.answer_commands.specs.Checks.{Claim, IsAccepted, IsRejected, claim_read}
 use Rattle.answer_commands.specs.Rewrites.{Revision, IsRewritten, IsUnfit, revision_read}
+use Rattle.lsa_commands.specs.Lsas.{MayLsas, identified_read}
+use Rattle.lsa_commands.specs.Routes.{MayRoute, route_read}
+use Rattle.report_writer.specs.declared.report.Report.{Report}
+use Rattle.report_writer.specs.Reports.{bytes_in}
 use Rattle.report_writer.specs.Texts.{refused_line, read_fault_line, accepted_line, rejected_line}
+use Rattle.wish_commands.specs.Conflicts.{MayConflict}
 use Rattle.designer_command.specs.Usage.{usage}
 use Rattle.designer_command.specs.Designs.{IsDesigned, IsShownImpossible, IsShownUndecided}
 use Rattle.designer_command.specs.Trials.{MayTrial}
 use Rattle.designer_command.specs.Audits.{IsAudit}
+use Rattle.designer_command.specs.TotalRuns.{MayTotal}
 
 -- What each command may write of what its files say, with which status.
 
@@ -84,15 +91,24 @@ MayRefuse came status bytes = ⊥
 abbrev pub files_of : List ℕ → List (List ℕ) → InputFiles
 files_of request configs = record { request = request; configs = configs }
 
--- The whole text that a run writes with a status, where this came of its files. For now the words of a command that isn't
--- built are refused.
+-- The whole text that a run writes with a status, where this came of its files. For now the words of `spread`, which isn't
+-- built, are refused.
 abbrev pub MayWrite : Option JobRead → List Taken → Status → List ℕ → Type 0
 MayWrite (Some (Design request limits configs)) came status bytes = MayAfter (outcome AsRequested (files_of request configs)) (MayDesign limits) came status bytes
 MayWrite (Some (Check request answer configs)) came status bytes = MayAfter (claim_read (files_of request configs) answer) MayCheck came status bytes
 MayWrite (Some (Audit request configs)) came status bytes = MayAfter (outcome AtPresent (files_of request configs)) MayAudit came status bytes
 MayWrite (Some (Rewrite answer config)) came status bytes = MayAfter (revision_read config answer) MayRewrite came status bytes
 MayWrite (Some (Trial blocks start)) came status bytes = (came ≡ []) × MayTrial blocks start status bytes
-MayWrite _ came status bytes = MayRefuse came status bytes
+MayWrite (Some (Conflict request limits configs)) came status bytes = MayAfter (outcome AsRequested (files_of request configs)) (MayConflict limits) came status bytes
+MayWrite (Some (Spread request sets limits configs)) came status bytes = MayRefuse came status bytes
+MayWrite (Some (Total request limits configs)) came status bytes = MayAfter (outcome AsRequested (files_of request configs)) (MayTotal limits) came status bytes
+MayWrite (Some (Lsas request configs)) came status bytes = MayAfter (identified_read (files_of request configs)) MayLsas came status bytes
+MayWrite (Some (Route lsas from to)) came status bytes = MayAfter (route_read lsas from to) (MayRoute from to) came status bytes
+MayWrite None came status bytes = MayRefuse came status bytes
+
+-- what a job reports, where memory suffices, is right for what came of its files
+abbrev pub ReportsJob : (List Taken → Type 0) → JobRead → Result Report NoMemory → Type 0
+ReportsJob given job made = Gave given (λ came. IfOk made (λ report. MayWrite (Some job) came report.status (bytes_in report.text)))
 
 -- the sink was handed a text that may be written, and no more
 pub record WritesWhole (may : Status → List ℕ → Type 0) (handed : List ℕ → Type 0) (got_before got_now : Option (List ℕ)) (status : Status) : Type 0 where

@@ -17,9 +17,10 @@ use area_graph::{Graph, Point, path_cost};
 use cost_base::{Listed, OutOfMemory, Shelf, Status};
 use input_files::{FileWords, Stop, View, read_problem};
 use path_rows::{Problem, Request};
-use report_writer::{Report, push_bytes, push_number};
+use report_writer::Report;
 use spf_ties::Room;
 use std::alloc::Global;
+use text_parts::{push_bytes, push_number};
 
 /// How a requested path stands among the simple paths of its request.
 #[derive(Clone, Copy, Debug, PartialEq, Eq)]

@@ -1,6 +1,6 @@
 //! When a run has to answer: each law is the contract of a function, most of them of one that does nothing.
 ghost use Rattle.std.specs.Prelude.{◌≢◌};
-ghost use Rattle.designer_command.specs.Completeness.{DesignsAreAccepted, HeadedCostsAreWritten, LargeBudgetsSuffice, MadeCasesAreDesigned, ValidAnswersAreAccepted, WellFormedInputIsAudited, WellFormedInputIsDesigned};
+ghost use Rattle.designer_command.specs.Completeness.{ConflictsAreFound, DesignsAreAccepted, HeadedCostsAreWritten, IdentifiedInputIsWritten, KnownRoutersAreRouted, LargeBudgetsSuffice, MadeCasesAreDesigned, TotalsAreFound, ValidAnswersAreAccepted, WellFormedInputIsAudited, WellFormedInputIsDesigned};
 
 use crate::run;
 use advisor_box::Advisor;
@@ -41,6 +41,26 @@ pub fn well_formed_input_is_audited()
 /// A rewrite with an answer's costs, whose interfaces of the router have heads, may write nothing but the configuration.
 pub fn headed_costs_are_written()
     ensures { HeadedCostsAreWritten }
+{}
+
+/// `conflict` on well-formed input may write nothing but what it found, and that it is undecided not with a large budget.
+pub fn conflicts_are_found()
+    ensures { ConflictsAreFound }
+{}
+
+/// So with `total`: with a large budget it writes that there are no fit costs exactly where there are none.
+pub fn totals_are_found()
+    ensures { TotalsAreFound }
+{}
+
+/// `lsas` on well-formed input with router IDs may write nothing but the LSAs.
+pub fn identified_input_is_written()
+    ensures { IdentifiedInputIsWritten }
+{}
+
+/// `route` on LSAs without a fault, among which both routers have one, may write nothing but the route.
+pub fn known_routers_are_routed()
+    ensures { KnownRoutersAreRouted }
 {}
 
 /// A run over a shelf and a sink that never fail, which ends with no fault of theirs.

@@ -2,6 +2,7 @@
 ghost use Rattle.std.specs.Prelude.{◌≡◌, ℕ, List, IfOk};
 ghost use Rattle.command_words.specs.Jobs.{bounds};
 ghost use Rattle.path_rows.specs.Text.{text};
+ghost use Rattle.form_search.specs.Advised.{AreLeft, IsCalled};
 ghost use Rattle.input_files.specs.Readings.{Gave};
 ghost use Rattle.input_files.specs.Outcomes.{outcome};
 ghost use Rattle.input_files.specs.Stops.{IsReadAs, files_named};
@@ -16,8 +17,9 @@ use cost_base::{OutOfMemory, Shelf, Status};
 use input_files::{FileWords, Stop, View, read_problem};
 use least_bound::least;
 use path_rows::{Answer, Problem, Verdict};
-use report_writer::{Report, text_of_answer};
+use report_writer::Report;
 use std::alloc::Global;
+use text_parts::text_of_answer;
 use wide_fraction::Limits;
 
 /// The status of a run that prints an answer with this verdict.
@@ -32,7 +34,7 @@ pub(crate) fn status_of(verdict: Verdict) -> Status
 }
 
 /// The report of an answer: its text.
-fn report_of_answer(alloc: Global, answer: &Answer) -> Result<Report, OutOfMemory>
+pub(crate) fn report_of_answer(alloc: Global, answer: &Answer) -> Result<Report, OutOfMemory>
     ensures { IfOk result (Reports (status_of answer.now.verdict) (text answer.now)) }
 {
     let text = text_of_answer(alloc, answer)?;
@@ -47,7 +49,10 @@ pub(crate) fn answer_to(
     advisors: &mut Vec<Box<dyn Advisor>>,
 ) -> Result<Answer, OutOfMemory>
     requires itself { problem.now ≡ problem.now }
-    ensures { IfOk result (IsAnswerTo (bounds limits.now) problem.now) }
+    ensures answered { IfOk result (IsAnswerTo (bounds limits.now) problem.now) }
+    ensures advisors { AreLeft
+        (IsCalled (λ b c. c.vtable ≡ b.vtable) (λ b. state b) (λ b. (⟦<dyn Advisor as Advisor>⟧ b.vtable).left) (λ b. (⟦<dyn Advisor as Advisor>⟧ b.vtable).after))
+        advisors.old.items advisors.new.items }
 {
     let _bounds = &problem.low;
     let answer = least(alloc, problem, limits, advisors)?;
@@ -63,7 +68,10 @@ pub(crate) fn design_report<'a, S: Shelf>(
     shelf: &mut S,
     advisors: &mut Vec<Box<dyn Advisor>>,
 ) -> Result<Report, Stop<'a>>
-    ensures { Gave (S.gave shelf.old shelf.new) (λ came. IsReadAs (outcome View.AsRequested (files_named words.entry)) came (λ report d. MayDesign (bounds limits.now) d report.status (bytes_in report.text)) result) }
+    ensures read { Gave (S.gave shelf.old shelf.new) (λ came. IsReadAs (outcome View.AsRequested (files_named words.entry)) came (λ report d. MayDesign (bounds limits.now) d report.status (bytes_in report.text)) result) }
+    ensures advisors { AreLeft
+        (IsCalled (λ b c. c.vtable ≡ b.vtable) (λ b. state b) (λ b. (⟦<dyn Advisor as Advisor>⟧ b.vtable).left) (λ b. (⟦<dyn Advisor as Advisor>⟧ b.vtable).after))
+        advisors.old.items advisors.new.items }
 {
     let problem = read_problem(alloc, View::AsRequested, words, shelf)?;
     let answer = answer_to(alloc, &problem, limits, advisors)?;

@@ -5,6 +5,8 @@ mod audit;
 mod check;
 pub mod completeness;
 mod design;
+mod job_reports;
+mod least_sum;
 mod made_files;
 mod rewrite;
 mod rivals;

@@ -4,8 +4,8 @@ ghost use Rattle.cost_base.specs.Decimal.{decimal};
 ghost use Rattle.designer_command.specs.Trials.{case_part, costless_line, summary_line};
 
 use cost_base::OutOfMemory;
-use report_writer::{push_bytes, push_number};
 use std::alloc::Global;
+use text_parts::{push_bytes, push_number};
 
 /// A trial: how many blocks its case has, 1 to 125, and the number from which the sides of the blocks are chosen.
 #[derive(Clone, Copy)]

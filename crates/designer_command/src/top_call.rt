@@ -1,24 +1,19 @@
 //! The top call.
-ghost use Rattle.std.specs.Prelude.{◌≡◌, ℕ, List, IfOk, MatchResult, Some};
-ghost use Rattle.cost_base.specs.Histories.{Taken};
+ghost use Rattle.std.specs.Prelude.{◌≡◌, ℕ, List, MatchResult};
+ghost use Rattle.form_search.specs.Advised.{AreLeft, IsCalled};
 ghost use Rattle.command_words.specs.Words.{texts};
-ghost use Rattle.input_files.specs.Readings.{Gave};
 ghost use Rattle.command_words.specs.Jobs.{IsInRange, seen};
 ghost use Rattle.report_writer.specs.Reports.{IsWritten, Reports, bytes_in};
-ghost use Rattle.designer_command.specs.Runs.{MayWrite, RunMeets};
+ghost use Rattle.designer_command.specs.Runs.{ReportsJob, RunMeets};
 ghost use Rattle.designer_command.specs.Usage.{usage};
 
-use crate::audit::audit_report;
-use crate::check::check_report;
-use crate::design::design_report;
-use crate::rewrite::rewrite_report;
-use crate::summary::Trial;
-use crate::trial::trial_report;
+use crate::job_reports::{
+    of_audit, of_check, of_conflict, of_design, of_lsas, of_rewrite, of_route, of_total, of_trial,
+};
 use advisor_box::Advisor;
 use command_words::{Job, WordsStop, read_words};
 use cost_base::{OutOfMemory, Shelf, Sink, Status};
-use input_files::FileWords;
-use report_writer::{Report, Text, report_of, write_report};
+use report_writer::{Report, Text, write_report};
 use std::alloc::Global;
 
 /// The lines that tell how the program is called, each with its LF.
@@ -45,7 +40,7 @@ fn usage_report() -> Report
     }
 }
 
-/// The report of a job. For now the words of a command that isn't built are refused.
+/// The report of a job. For now the words of `spread`, which isn't built, are refused.
 fn job_report<S: Shelf>(
     alloc: Global,
     job: &Job,
@@ -53,50 +48,38 @@ fn job_report<S: Shelf>(
     advisors: &mut Vec<Box<dyn Advisor>>,
 ) -> Result<Report, OutOfMemory>
     requires { IsInRange (seen job.now) }
-    ensures { Gave (S.gave shelf.old shelf.new) (λ came. IfOk result (λ report. MayWrite (Some (seen job.now)) came report.status (bytes_in report.text))) }
+    ensures reported { ReportsJob (S.gave shelf.old shelf.new) (seen job.now) result }
+    ensures advisors { AreLeft
+        (IsCalled (λ b c. c.vtable ≡ b.vtable) (λ b. state b) (λ b. (⟦<dyn Advisor as Advisor>⟧ b.vtable).left) (λ b. (⟦<dyn Advisor as Advisor>⟧ b.vtable).after))
+        advisors.old.items advisors.new.items }
 {
     match job {
         Job::Design {
             request,
             limits,
             configs,
-        } => {
-            let words = FileWords {
-                request: request.as_str(),
-                configs: configs.as_slice(),
-            };
-            report_of(alloc, design_report(alloc, words, limits, shelf, advisors))
-        }
+        } => of_design(alloc, request, limits, configs, shelf, advisors),
         Job::Check {
             request,
             answer,
             configs,
-        } => {
-            let words = FileWords {
-                request: request.as_str(),
-                configs: configs.as_slice(),
-            };
-            report_of(alloc, check_report(alloc, words, answer.as_str(), shelf))
-        }
-        Job::Audit { request, configs } => {
-            let words = FileWords {
-                request: request.as_str(),
-                configs: configs.as_slice(),
-            };
-            report_of(alloc, audit_report(alloc, words, shelf))
-        }
-        Job::Rewrite { answer, config } => report_of(
-            alloc,
-            rewrite_report(alloc, answer.as_str(), config.as_str(), shelf),
-        ),
-        Job::Trial { blocks, start } => {
-            let trial = Trial {
-                blocks: *blocks,
-                start: *start,
-            };
-            trial_report(alloc, trial, advisors)
-        }
-        _ => Ok(usage_report()),
+        } => of_check(alloc, request, answer, configs, shelf),
+        Job::Audit { request, configs } => of_audit(alloc, request, configs, shelf),
+        Job::Rewrite { answer, config } => of_rewrite(alloc, answer, config, shelf),
+        Job::Trial { blocks, start } => of_trial(alloc, *blocks, *start, advisors),
+        Job::Conflict {
+            request,
+            limits,
+            configs,
+        } => of_conflict(alloc, request, limits, configs, shelf, advisors),
+        Job::Spread { .. } => Ok(usage_report()),
+        Job::Total {
+            request,
+            limits,
+            configs,
+        } => of_total(alloc, request, limits, configs, shelf, advisors),
+        Job::Lsas { request, configs } => of_lsas(alloc, request, configs, shelf),
+        Job::Route { lsas, from, to } => of_route(alloc, lsas, *from, *to, shelf),
     }
 }
 
@@ -129,10 +112,23 @@ fn write_made<K: Sink>(made: Result<Report, OutOfMemory>, out: &mut K) -> Status
 /// `rewrite --answer A CONFIG` reads the configuration and then the answer's file. It writes the configuration with the
 /// answer's costs of its router, with status `Done`; else `rejected NUMBER PLACE`, with status `EvidenceRefused`.
 ///
-/// The advisors are asked where a box is shared out, and told of each entry of a tree. Whatever they answer, all of this
-/// holds.
+/// `conflict --request F CONFIG..` writes costs that are fit for all requests, or a least conflict: requests for which no
+/// costs are fit, with costs for each set without one of them. Its status is `Done`, or `Undecided`.
 ///
-/// The other commands aren't built yet: their words are refused.
+/// `total --request F CONFIG..` writes the best costs with the least total. Where it finds no best costs it writes what
+/// `design` does; where the budget was used up below a total, it tells the total that it found, with status `Undecided`.
+///
+/// `lsas --request F CONFIG..` writes the router-LSAs and network-LSAs of the configurations at present costs (RFC 2328,
+/// A.4), with status `Done`. Each is put by itself; all other texts are put line by line.
+///
+/// `route --lsas L --from A.B.C.D --to A.B.C.D` reads a file of LSAs, as `lsas` writes them, and writes the least cost from one
+/// router to the other and where the first edges of the cheapest paths lead, with status `Done`.
+///
+/// `spread` isn't built yet: its words are refused.
+///
+/// The advisors are asked where a box is shared out, and told of each entry of a tree. Whatever they answer, all of this
+/// holds. Some of the first may be gone after the call, since they answered out of range; every other is left in its place,
+/// and stands as these calls left it.
 ///
 /// Each file is asked for once, in its turn, and only where no fault stands before it. What is written is right for what
 /// came of the files, also where the shelf keeps nothing of their content.
@@ -151,6 +147,9 @@ pub fn run<S: Shelf, K: Sink>(
 ) -> Status
     ensures meets { RunMeets (texts words.now) (S.gave shelf.old shelf.new) (S.held shelf.old) (S.faults shelf.old) (S.faults shelf.new) (K.handed out.old out.new) (K.got out.old) (K.got out.new) (K.faults out.old) (K.faults out.new) result }
     ensures held { (name : List ℕ) → S.held shelf.new name ≡ S.held shelf.old name }
+    ensures advisors { AreLeft
+        (IsCalled (λ b c. c.vtable ≡ b.vtable) (λ b. state b) (λ b. (⟦<dyn Advisor as Advisor>⟧ b.vtable).left) (λ b. (⟦<dyn Advisor as Advisor>⟧ b.vtable).after))
+        advisors.old.items advisors.new.items }
 {
     match read_words(alloc, words) {
         Ok(job) => write_made(job_report(alloc, &job, shelf, advisors), out),

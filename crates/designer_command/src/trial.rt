@@ -4,6 +4,7 @@ ghost use Rattle.std.specs.List.{sum};
 ghost use Rattle.cost_base.specs.Decimal.{decimal};
 ghost use Rattle.command_words.specs.Jobs.{bounds};
 ghost use Rattle.path_rows.specs.Text.{text};
+ghost use Rattle.form_search.specs.Advised.{AreLeft, IsCalled};
 ghost use Rattle.input_files.specs.Readings.{Gave};
 ghost use Rattle.input_files.specs.Outcomes.{Input, outcome};
 ghost use Rattle.input_files.specs.Stops.{IsReadAs, files_named};
@@ -22,8 +23,9 @@ use case_maker::make_case;
 use cost_base::{OutOfMemory, Shelf, Status};
 use input_files::{FileWords, Stop, View, read_problem};
 use path_rows::{Answer, CostLine, Costs, Problem, Verdict};
-use report_writer::{Report, push_bytes, report_of, text_of_answer};
+use report_writer::{Report, report_of};
 use std::alloc::Global;
+use text_parts::{push_bytes, text_of_answer};
 use wide_fraction::{Limits, Top};
 
 /// The limits of a trial: a budget of 100,000 entries, and numbers of 127 bits.
@@ -106,7 +108,10 @@ fn report_on_texts<'a, S: Shelf>(
     advisors: &mut Vec<Box<dyn Advisor>>,
 ) -> Result<Report, Stop<'a>>
     requires { trial.blocks ≤ 125 }
-    ensures { Gave (S.gave shelf.old shelf.new) (λ came. IsReadAs (outcome View.AsRequested (files_named words.entry)) came (λ report d. MayTry trial.blocks trial.start d report.status (bytes_in report.text)) result) }
+    ensures read { Gave (S.gave shelf.old shelf.new) (λ came. IsReadAs (outcome View.AsRequested (files_named words.entry)) came (λ report d. MayTry trial.blocks trial.start d report.status (bytes_in report.text)) result) }
+    ensures advisors { AreLeft
+        (IsCalled (λ b c. c.vtable ≡ b.vtable) (λ b. state b) (λ b. (⟦<dyn Advisor as Advisor>⟧ b.vtable).left) (λ b. (⟦<dyn Advisor as Advisor>⟧ b.vtable).after))
+        advisors.old.items advisors.new.items }
 {
     let problem = read_problem(alloc, View::AsRequested, words, shelf)?;
     let answer = answer_to(alloc, &problem, &trial_limits(), advisors)?;
@@ -122,7 +127,10 @@ pub(crate) fn trial_report(
     requires some { 1 ≤ trial.blocks }
     requires most { trial.blocks ≤ 125 }
     requires start { trial.start < 2 ^ 31 }
-    ensures { IfOk result (λ report. MayTrial trial.blocks trial.start report.status (bytes_in report.text)) }
+    ensures tried { IfOk result (λ report. MayTrial trial.blocks trial.start report.status (bytes_in report.text)) }
+    ensures advisors { AreLeft
+        (IsCalled (λ b c. c.vtable ≡ b.vtable) (λ b. state b) (λ b. (⟦<dyn Advisor as Advisor>⟧ b.vtable).left) (λ b. (⟦<dyn Advisor as Advisor>⟧ b.vtable).after))
+        advisors.old.items advisors.new.items }
 {
     let case = make_case(alloc, trial.blocks, trial.start)?;
     let mut shelf = shelf_of(alloc, &case)?;

@@ -1,6 +1,7 @@
 -- What was written of the report is right for what came of the files.
 use Rattle.std.proofs.Common.{◌≡◌, refl, sym, ap, subst, [], Err, Some, None}
 use Rattle.std.specs.Prelude.{Option}
+use Rattle.form_search.proofs.AdvisorLaws.{left_alike}
 use Rattle.cost_base.specs.declared.Status.TheVariants as status
 use Rattle.command_words.specs.declared.job.WordsStop.{WordsStop}
 use Rattle.command_words.specs.Jobs.{JobRead, seen}
@@ -18,7 +19,7 @@ returns-in-Ok g c =
     let b = c.job_report.new.shelf in
     let o = c.args.out.now in
     let p = c.write_made.new.out in
-    let did = c.job_report.ensures in
+    let did = c.job_report.ensures.reported in
     record {
       meets = record {
         came = did.came;
@@ -33,6 +34,7 @@ returns-in-Ok g c =
             did.so c.write_made.ensures);
       };
       held = g.met.S.Shelf.gave_held a b did.came did.given;
+      advisors = c.job_report.ensures.advisors;
     }
 
 pub returns-in-Err-Refused-clause-meets : goal.returns-in-Err-Refused-clause-meets
@@ -52,3 +54,9 @@ returns-in-Err-Refused-clause-meets g c =
           (may_report (MayWrite (job_of words) []) status.WordsRefused usage c.usage_report.result c.usage_report.ensures (subst (λ (job : Option JobRead). MayWrite job [] status.WordsRefused usage) (sym none) (refl, refl)))
           c.write_report.ensures;
     }
+
+pub returns-in-Err-Refused-clause-advisors : goal.returns-in-Err-Refused-clause-advisors
+returns-in-Err-Refused-clause-advisors g c = left_alike _ _ _ refl
+
+pub returns-in-Err-OutOfMemory-clause-advisors : goal.returns-in-Err-OutOfMemory-clause-advisors
+returns-in-Err-OutOfMemory-clause-advisors g c = left_alike _ _ _ refl

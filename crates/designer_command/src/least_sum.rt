@@ -1,0 +1,157 @@
+//! `total`: the least total among the best costs.
+ghost use Rattle.std.specs.Prelude.{◌≡◌, ◌++◌, ◌∷◌, [], ◌≤◌, IfOk, OnOk, Some, codes};
+ghost use Rattle.cost_base.specs.Decimal.{decimal};
+ghost use Rattle.form_search.specs.Advised.{AreLeft, IsCalled};
+ghost use Rattle.command_words.specs.Jobs.{bounds};
+ghost use Rattle.path_rows.specs.Text.{spaced, text, tree_lines};
+ghost use Rattle.evidence_text.specs.Lines.{text_of};
+ghost use Rattle.evidence_text.specs.Parts.{part_word, rows_lines};
+ghost use Rattle.input_files.specs.Readings.{Gave};
+ghost use Rattle.input_files.specs.Outcomes.{outcome};
+ghost use Rattle.input_files.specs.Stops.{IsReadAs, files_named};
+ghost use Rattle.report_writer.specs.Reports.{bytes_in};
+ghost use Rattle.least_total.specs.Results.{FitText};
+ghost use Rattle.designer_command.specs.Designs.{IsAnswerTo};
+ghost use Rattle.designer_command.specs.TotalRuns.{CanPrint, MayTotal, CanReport, ReportsFoundAs, ReportsTotal, shown_lines};
+
+use crate::design::{answer_to, report_of_answer};
+use advisor_box::Advisor;
+use answer_commands::keeps_answer;
+use cost_base::{OutOfMemory, Shelf, Status};
+use evidence_text::TreePart;
+use input_files::{FileWords, Stop, View, read_problem};
+use least_total::{Total, TotalProof, least_total};
+use path_rows::{Answer, CapTree, Problem, Row, Tree, Verdict};
+use report_writer::Report;
+use std::alloc::Global;
+use text_parts::{push_bytes, push_number, push_rows, push_tree, text_of_answer};
+use wide_fraction::Limits;
+
+/// Adds a line of a word and a number.
+fn push_line(text: &mut Vec<u8>, word: &[u8], number: u64) -> Result<(), OutOfMemory>
+    ensures { OnOk result (text.new.items ≡ text.old.items ++ word.now ++ 32 ∷ decimal number ++ 10 ∷ []) }
+{
+    push_bytes(text, word)?;
+    push_bytes(text, b" ")?;
+    push_number(text, u128::from(number))?;
+    push_bytes(text, b"\n")
+}
+
+/// The text up to the line of the total: the whole text of the answer stands in it.
+fn begun_text(alloc: Global, answer: &Answer, total: u64) -> Result<Vec<u8>, OutOfMemory>
+    ensures { IfOk result (λ bytes.
+        bytes.items ≡ text_of (codes "ospfcost total 1" ∷ []) ++ text answer.now ++ text_of (spaced (codes "total" ∷ decimal total ∷ []) ∷ [])) }
+{
+    let mut text = Vec::new(alloc);
+    push_bytes(&mut text, b"ospfcost total 1\n")?;
+    let inside = text_of_answer(alloc, answer)?;
+    push_bytes(&mut text, &inside)?;
+    push_line(&mut text, b"total", total)?;
+    Ok(text)
+}
+
+/// Adds the parts of rows and of a tree over the box at a cap.
+fn push_evidence(
+    alloc: Global,
+    text: &mut Vec<u8>,
+    rows: &[Row],
+    part: TreePart,
+    tree: CapTree,
+) -> Result<(), OutOfMemory>
+    requires { FitText tree.cap rows.now tree.tree }
+    ensures { OnOk result (text.new.items ≡ text.old.items ++ text_of (rows_lines rows.now ++ tree_lines (part_word part) (Some tree))) }
+{
+    push_rows(alloc, text, rows)?;
+    push_tree(alloc, text, part, Some(&tree))
+}
+
+/// Adds the lines that show that a total is the least.
+fn push_proof(
+    alloc: Global,
+    text: &mut Vec<u8>,
+    cap: u16,
+    proof: TotalProof,
+) -> Result<(), OutOfMemory>
+    requires { CanPrint cap proof }
+    ensures { OnOk result (text.new.items ≡ text.old.items ++ text_of (shown_lines cap proof)) }
+{
+    match proof {
+        TotalProof::Floor => push_bytes(text, b"floor total\n"),
+        TotalProof::Tree { rows, tree } => {
+            push_evidence(alloc, text, &rows, TreePart::Proof, CapTree { cap, tree })
+        }
+    }
+}
+
+/// The report of what was found from a valid optimal answer of this greatest cost.
+fn report_of_found(alloc: Global, cap: u16, found: Total) -> Result<Report, OutOfMemory>
+    requires { CanReport cap found }
+    ensures { IfOk result (ReportsFoundAs cap found) }
+{
+    match found {
+        Total::Least {
+            answer,
+            total,
+            proof,
+        } => {
+            keeps_answer(&answer);
+            let mut text = begun_text(alloc, &answer, total)?;
+            push_proof(alloc, &mut text, cap, proof)?;
+            push_bytes(&mut text, b"end\n")?;
+            Ok(Report::made(Status::Done, text))
+        }
+        Total::Unknown {
+            answer,
+            total,
+            bound,
+            rows,
+            tree,
+        } => {
+            keeps_answer(&answer);
+            let mut text = begun_text(alloc, &answer, total)?;
+            push_line(&mut text, b"bound", bound)?;
+            let tree = CapTree { cap, tree };
+            push_evidence(alloc, &mut text, &rows, TreePart::Unfinished, tree)?;
+            push_bytes(&mut text, b"end\n")?;
+            Ok(Report::made(Status::Undecided, text))
+        }
+    }
+}
+
+/// The report of an answer to a problem: where it is optimal, that of the least total among the best costs.
+fn report_of_total(
+    alloc: Global,
+    problem: &Problem,
+    answer: Answer,
+    limits: &Limits,
+) -> Result<Report, OutOfMemory>
+    requires { IsAnswerTo (bounds limits.now) problem.now answer }
+    ensures { IfOk result (ReportsTotal (bounds limits.now) problem.now answer answer.verdict) }
+{
+    match answer.verdict {
+        Verdict::Optimal(cap) => {
+            let found = least_total(alloc, problem, answer, limits)?;
+            report_of_found(alloc, cap, found)
+        }
+        Verdict::Impossible | Verdict::Budget(_) => report_of_answer(alloc, &answer),
+    }
+}
+
+/// The report of `total` from the files of words.
+pub(crate) fn total_report<'a, S: Shelf>(
+    alloc: Global,
+    words: FileWords<'a>,
+    limits: &Limits,
+    shelf: &mut S,
+    advisors: &mut Vec<Box<dyn Advisor>>,
+) -> Result<Report, Stop<'a>>
+    ensures read { Gave (S.gave shelf.old shelf.new) (λ came. IsReadAs (outcome View.AsRequested (files_named words.entry)) came
+        (λ report d. MayTotal (bounds limits.now) d report.status (bytes_in report.text)) result) }
+    ensures advisors { AreLeft
+        (IsCalled (λ b c. c.vtable ≡ b.vtable) (λ b. state b) (λ b. (⟦<dyn Advisor as Advisor>⟧ b.vtable).left) (λ b. (⟦<dyn Advisor as Advisor>⟧ b.vtable).after))
+        advisors.old.items advisors.new.items }
+{
+    let problem = read_problem(alloc, View::AsRequested, words, shelf)?;
+    let answer = answer_to(alloc, &problem, limits, advisors)?;
+    Ok(report_of_total(alloc, &problem, answer, limits)?)
+}

@@ -1,0 +1,6 @@
+//! Lines that tell that a search is at work.
+#![tactic(auto)]
+
+mod progress;
+
+pub use progress::Progress;
