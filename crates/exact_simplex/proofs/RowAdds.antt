@@ -1,4 +1,5 @@
 -- What a tableau keeps while a row is added.
+use Rattle.std.proofs.Common.{◌∙◌}
 use Rattle.path_rows.specs.declared.form.Form.{Form}
 use Rattle.exact_simplex.specs.declared.table.Table.{Table}
 use Rattle.exact_simplex.specs.declared.stage.Stage.TheVariants.{Open}
@@ -13,7 +14,7 @@ room_same old new same room =
 
 pub room_more : (old new : Table) (f : Form) → HoldsRow old f new → HasRoom old → HasRoom new
 room_more old new f more room =
-    record { few = rw more.costs room.few; quotients = rw (more.costs, more.quotients) room.quotients; scratch = rw (more.costs, more.scratch) room.scratch }
+    record { few = rw more.costs room.few; quotients = rw (more.costs, more.quotients) room.quotients; scratch = rw more.costs (more.scratch ∙ room.scratch) }
 
 -- a whole table that wasn't solved yet
 pub opened : (t : Table) → IsWholeTable t → HasRoom t → IsSound t Open

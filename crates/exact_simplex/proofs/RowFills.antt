@@ -1,6 +1,6 @@
 -- A line of zeros is filled from the left.
-use Rattle.std.proofs.Common.{◌≡◌, ℕ, zero, suc, ◌+◌, ◌<◌, ◌≤◌, refl, sym, ◌∙◌, ap, subst, List, ◌∷◌, map, length, arith, inl, inr}
-use Rattle.std.specs.Prelude.{ℤ, Result, Ok, Err, IfErr, slice_set}
+use Rattle.std.proofs.Common.{◌≡◌, ℕ, zero, suc, ◌+◌, ◌-◌, ◌<◌, ◌≤◌, refl, sym, ◌∙◌, ap, subst, List, ◌∷◌, map, length, arith, inl, inr}
+use Rattle.std.specs.Prelude.{ℤ, Result, Ok, Err, IfErr, OnOk, slice_set}
 use Rattle.std.proofs.lemmas.Bool.{cases_lt}
 use Rattle.std.proofs.lemmas.List.{get_or-set_other, get_or-set_same, length-set}
 use Rattle.cost_base.specs.Lists.{numbers_from}
@@ -11,8 +11,8 @@ use Rattle.path_rows.specs.Basis.{entry}
 use Rattle.path_rows.specs.Steps.{start_of_sum}
 use Rattle.wide_fraction.specs.declared.steps.Wide.{Wide}
 use Rattle.fraction_rows.specs.Entries.{IsPassing}
-use Rattle.exact_simplex.specs.RowLines.{IsRowStep, sum_at_place}
-use Rattle.fraction_rows.specs.Sums.{IsSumStep}
+use Rattle.exact_simplex.specs.RowLines.{IsRowLine, IsRowStep, sum_at_place}
+use Rattle.fraction_rows.specs.Sums.{IsSumStep, sum_from}
 use Rattle.fraction_rows.specs.TableRows.{AreNumbers, IsNumber, nothing}
 use Rattle.fraction_rows.proofs.Filled.{length-mapped, numbers_mapped}
 use Rattle.fraction_rows.proofs.Numbers.{nothing_number}
@@ -81,3 +81,42 @@ filled_more top costs form lines column line new q column_in q_is number new_is 
   where
     one_more : (k : ℕ) → k + 1 ≡ suc k
     one_more k = omega arith
+
+-- a line with what each sum starts with
+pub record IsStarted (top : ℕ) (costs : CostBox) (form : Form) (line : List Fraction) : Type 0 where
+  pub long : length line ≡ suc (length costs.low)
+  pub starts : (place : ℕ) → entry line place ≡ start_of_sum costs form place
+  pub numbers : AreNumbers top line
+
+-- a line of zeros with its constant put
+pub started_line : (top : ℕ) (costs : CostBox) (form : Form) (line new : List Fraction) (q : Fraction) → line ≡ nothing ∷ map (λ column. nothing) (numbers_from 0 (length costs.low)) → q ≡ start_of_sum costs form 0 → IsNumber top q → new ≡ slice_set line 0 q → IsStarted top costs form new
+started_line top costs form line new q blank q_is number new_is =
+    let none = nothing_number top q number in
+    subst (IsStarted top costs form) (sym (new_is ∙ ap (λ (l : List Fraction). slice_set l 0 q) blank))
+    (record {
+      long = ap suc (length-mapped (λ column. nothing) 0 (length costs.low));
+      starts = starts (length costs.low);
+      numbers = (number, numbers_mapped top (λ column. nothing) (numbers_from 0 (length costs.low)) (λ k. none));
+    })
+  where
+    starts : (n place : ℕ) → entry (q ∷ map (λ column. nothing) (numbers_from 0 n)) place ≡ start_of_sum costs form place
+    starts n zero = q_is
+    starts n (suc k) = blank_at 0 n k
+
+-- with the terms put to all of it, it is the form's line
+pub gathered_line : {X : Type 0} (r : Result X Wide) (top : ℕ) (costs : CostBox) (form : Form) (lines : List (List Fraction)) (old new : List Fraction) → IsStarted top costs form old → OnOk r ((place : ℕ) → place < length old → entry new place ≡ sum_from (entry old place) form.coefficients lines place) → OnOk r (AreNumbers top new) → length new ≡ length old → OnOk r (IsRowLine top costs form lines new)
+gathered_line (Err wide) top costs form lines old new started sums numbers same = tt
+gathered_line (Ok x) top costs form lines old new started sums numbers same =
+    record {
+      long = same ∙ started.long;
+      sums = λ place place_in. sums place (omega (arith, place_in, started.long)) ∙ ap (λ (q : Fraction). sum_from q form.coefficients lines place) (started.starts place);
+      numbers = numbers;
+    }
+
+-- a line that is made 0 again
+pub blank_again : (costs : CostBox) (old now line : List Fraction) → old ≡ nothing ∷ map (λ column. nothing) (numbers_from 0 (length costs.low)) → length now ≡ length old → line ≡ nothing ∷ map (λ column. nothing) (numbers_from 0 (length now - 1)) → line ≡ nothing ∷ map (λ column. nothing) (numbers_from 0 (length costs.low))
+blank_again costs old now line blank same cleared =
+    cleared ∙ ap (λ (n : ℕ). nothing ∷ map (λ column. nothing) (numbers_from 0 n)) (counted (same ∙ ap length blank ∙ ap suc (length-mapped (λ column. nothing) 0 (length costs.low))))
+  where
+    counted : length now ≡ suc (length costs.low) → length now - 1 ≡ length costs.low
+    counted e = omega arith

@@ -50,4 +50,4 @@ pub record HoldsRow (old : Table) (form : Form) (new : Table) : Type 0 where
   pub rows : new.rows.items ≡ old.rows.items ++ form ∷ []
   pub basis : new.basis.items ≡ old.basis.items
   pub quotients : new.quotients ≡ old.quotients
-  pub scratch : new.scratch ≡ old.scratch
+  pub scratch : length new.scratch ≡ length old.scratch

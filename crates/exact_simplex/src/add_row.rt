@@ -11,7 +11,7 @@ ghost use Rattle.exact_simplex.specs.Wholes.{HasRoom, IsWholeTable};
 
 use crate::table::Table;
 use cost_base::OutOfMemory;
-use fraction_rows::{TableRow, sum_at};
+use fraction_rows::{TableRow, sum_at, sum_lines};
 use path_rows::{CostBox, Form};
 use std::alloc::Global;
 use wide_fraction::{Frac, Top, Wide};
@@ -96,7 +96,7 @@ fn sum_of_form(
 /// # Errors
 ///
 /// `Wide` where a step of one of these sums makes a whole number that passes `top`.
-fn fill_line(
+fn fill_in_order(
     line: &mut TableRow,
     form: &Form,
     costs: &CostBox,
@@ -118,6 +118,66 @@ fn fill_line(
         line.push(column, entry);
     }
     Ok(())
+}
+
+/// Puts the form's line in place of a line of zeros, variable by variable. `scratch` is a line of the same width.
+///
+/// # Errors
+///
+/// `Wide` where a step of one of the sums makes a whole number that passes `top`; which one is found first depends on
+/// the order.
+fn gather_line(
+    line: &mut TableRow,
+    form: &Form,
+    costs: &CostBox,
+    lines: &[TableRow],
+    scratch: &mut TableRow,
+    top: Top,
+) -> Result<(), Wide>
+    requires fits { FitsBox costs.now form.now }
+    requires lines { AreRows top (suc (length costs.now.low)) lines.now }
+    requires many { length costs.now.low ≤ length lines.now }
+    requires blank { line.old ≡ nothing ∷ map (λ column. nothing) (numbers_from 0 (length costs.now.low)) }
+    requires scratch { length scratch.old ≡ suc (length costs.now.low) }
+    ensures line { OnOk result (IsRowLine top costs.now form.now lines.now line.new) }
+    ensures width { length line.new ≡ length line.old }
+    ensures scratch_width { length scratch.new ≡ length scratch.old }
+{
+    line.set_constant(start_at(form, costs, 0, top));
+    sum_lines(line, form, lines, scratch, top)
+}
+
+/// Puts the form's line in place of a line of zeros. Where a step is too wide, the line is made in order, so that the
+/// step that is named is the first one in that order. `scratch` is a line of the same width.
+///
+/// # Errors
+///
+/// `Wide` where a step of one of the sums makes a whole number that passes `top`.
+fn fill_line(
+    line: &mut TableRow,
+    form: &Form,
+    costs: &CostBox,
+    lines: &[TableRow],
+    scratch: &mut TableRow,
+    top: Top,
+) -> Result<(), Wide>
+    requires fits { FitsBox costs.now form.now }
+    requires few { length costs.now.low < 2 ^ 32 }
+    requires lines { AreRows top (suc (length costs.now.low)) lines.now }
+    requires many { length costs.now.low ≤ length lines.now }
+    requires blank { line.old ≡ nothing ∷ map (λ column. nothing) (numbers_from 0 (length costs.now.low)) }
+    requires scratch { length scratch.old ≡ suc (length costs.now.low) }
+    ensures line { OnOk result (IsRowLine top costs.now form.now lines.now line.new) }
+    ensures wide { IfErr result (IsRowStep top costs.now form.now lines.now) }
+    ensures scratch_width { length scratch.new ≡ length scratch.old }
+{
+    match gather_line(line, form, costs, lines, scratch, top) {
+        Ok(()) => Ok(()),
+        Err(_) => {
+            line.clear();
+            fill_in_order(line, form, costs, lines, top)
+        }
+    }
 }
 
 impl Table {
@@ -161,7 +221,8 @@ impl Table {
     {
         let BlankRow { form, mut line } = row;
         let lines = self.lines.as_slice();
-        let filled = fill_line(&mut line, &form, &self.costs, lines, self.top);
+        let scratch = &mut self.scratch;
+        let filled = fill_line(&mut line, &form, &self.costs, lines, scratch, self.top);
         self.rows.push_reserved(form);
         self.lines.push_reserved(line);
         filled

@@ -48,6 +48,11 @@ fn entry_order(
     ensures named { IfErr result (λ wide. wide ≡ record { step = Mul; left = entry line.now (suc column); right = quotient }) }
     ensures passes { IfErr result (λ wide. IsPassing top wide) }
 {
+    if line.lacks(column) {
+        if line.lacks(other) {
+            return Ok(Ordering::Equal);
+        }
+    }
     let own = line.entry(column);
     let others = line.entry(other);
     if own.is_zero() && others.is_zero() {

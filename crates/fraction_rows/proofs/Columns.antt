@@ -109,6 +109,15 @@ pub before_head : (low high past : ℕ) (es : List (ℕ × Fraction)) (k : ℕ) 
 before_head low high past [] k rises before = refl
 before_head low high past (e ∷ es) k rises before = at_below e.0 high (e ∷ es) k (omega arith, rises.1, rises.2, rises.3) before
 
+-- nor does taking that column change it
+pub ahead_nothing : (es : List (ℕ × Fraction)) (c past : ℕ) → c < head_column es past → head_fraction es c ≡ nothing
+ahead_nothing [] c past ahead = refl
+ahead_nothing (e ∷ es) c past ahead = ap (λ b. cond b e.1 nothing) (other_test e.0 c (omega arith))
+
+pub ahead_same : (es : List (ℕ × Fraction)) (c past : ℕ) → c < head_column es past → after_column es c ≡ es
+ahead_same [] c past ahead = refl
+ahead_same (e ∷ es) c past ahead = ap (λ b. cond b es (e ∷ es)) (other_test e.0 c (omega arith))
+
 -- the first column is where the list may rise from
 pub head_from : (low high : ℕ) (es : List (ℕ × Fraction)) → Rises low high es → low ≤ high → low ≤ head_column es high
 head_from low high [] rises ordered = ordered

@@ -8,3 +8,5 @@ pub mod Tops
 pub mod RowLaws
 pub mod PivotSteps
 pub mod Sums
+pub mod MarkLaws
+pub mod Places

@@ -1,8 +1,9 @@
 -- Zero among the fractions: what is 0 is 0/1, products with it are 0, and less it nothing changes.
-use Rattle.std.proofs.Common.{◌≡◌, ℕ, zero, suc, ◌*◌, ◌<◌, refl, sym, ◌∙◌, ap, subst, arith}
-use Rattle.std.specs.Prelude.{ℤ, pos, negsuc, ◌-ℤ◌, ◌*ℤ◌}
+use Rattle.std.proofs.Common.{◌≡◌, ℕ, zero, suc, ◌*◌, ◌<◌, ◌≤◌, refl, sym, ◌∙◌, ap, subst, arith}
+use Rattle.std.specs.Prelude.{ℤ, pos, negsuc, ◌-ℤ◌, ◌*ℤ◌, nat_abs}
 use Rattle.std.proofs.lemmas.Int.{ints}
-use Rattle.whole_numbers.specs.Fractions.{Fraction, IsLowest, StandsFor, minus, times, divided, inverse, inverted}
+use Rattle.whole_numbers.specs.Fractions.{Fraction, IsLowest, StandsFor, minus, times, divided, inverse, inverted, whole}
+use Rattle.whole_numbers.proofs.Divisors.{gcd-one}
 use Rattle.whole_numbers.proofs.Sums.{lowest_unique}
 use Rattle.whole_numbers.proofs.FractionLaws.{reduced_lowest, product_positive, times_stands}
 use Rattle.whole_numbers.proofs.Multiples.{minus_stands_over}
@@ -79,3 +80,33 @@ divided_lowest p q p_positive = times_lowest p (inverse q) p_positive (inverse_p
 pub divided_number : (top : ℕ) (p q r : Fraction) → 0 < p.denominator → r ≡ divided p q → IsWithin top r → IsNumber top r
 divided_number top p q r p_positive r_is r_within =
     record { lowest = subst IsLowest (sym r_is) (divided_lowest p q p_positive); within = r_within }
+
+pub whole_lowest : (n : ℤ) → IsLowest (whole n)
+whole_lowest n = record { positive = omega arith; lowest = gcd-one (nat_abs n) }
+
+-- a whole number less the product of two is a whole number
+pub whole_crossed : (a b c : ℤ) → minus (whole a) (times (whole b) (whole c)) ≡ whole (a -ℤ (b *ℤ c))
+whole_crossed a b c =
+    let t_lowest = times_lowest (whole b) (whole c) (omega arith) (omega arith) in
+    let product = times_stands (whole b) (whole c) b c 1 1 (omega arith) (omega arith) refl refl in
+    let stands = minus_stands_over (whole a) (times (whole b) (whole c)) a (b *ℤ c) 1 (omega arith) t_lowest.positive (omega arith) refl product in
+    lowest_unique (minus (whole a) (times (whole b) (whole c))) (whole (a -ℤ (b *ℤ c)))
+    (minus_lowest (whole a) (times (whole b) (whole c)) (omega arith) t_lowest.positive) (whole_lowest (a -ℤ (b *ℤ c))) stands
+
+-- by other names, and within the top
+pub short_number : (top : ℕ) (old factor quotient : Fraction) (a b c : ℤ) (q : Fraction) → old ≡ whole a → factor ≡ whole b → quotient ≡ whole c → (q ≡ minus (whole a) (times (whole b) (whole c))) × IsNumber top q → (q ≡ minus old (times factor quotient)) × IsNumber top q
+short_number top old factor quotient a b c q old_is factor_is quotient_is found = (
+  found.0 ∙ sym (ap (λ (p : Fraction). minus p (times factor quotient)) old_is ∙ ap (λ (p : Fraction). minus (whole a) (times p quotient)) factor_is ∙ ap (λ (p : Fraction). minus (whole a) (times (whole b) p)) quotient_is),
+  found.1,
+)
+
+pub whole_within : (top : ℕ) (n : ℤ) → 1 ≤ top → nat_abs n ≤ top → IsNumber top (whole n)
+whole_within top n some small =
+    record { lowest = whole_lowest n; within = record { numerator = small; denominator = some } }
+
+-- what the short way makes
+pub short_value : (top size : ℕ) (a b c p v w : ℤ) (q : Fraction) → q ≡ whole v → p ≡ (b *ℤ c) → v ≡ (w -ℤ p) → w ≡ a → nat_abs v ≤ size → size ≡ top → 1 ≤ top → (q ≡ minus (whole a) (times (whole b) (whole c))) × IsNumber top q
+short_value top size a b c p v w q q_is p_is v_is w_is small size_is some = (
+  q_is ∙ ap (λ (z : ℤ). whole z) (v_is ∙ ap (λ (z : ℤ). z -ℤ p) w_is ∙ ap (λ (z : ℤ). a -ℤ z) p_is) ∙ sym (whole_crossed a b c),
+  subst (IsNumber top) (sym q_is) (whole_within top v some (subst (λ (n : ℕ). nat_abs v ≤ n) size_is small)),
+)

@@ -1,15 +1,20 @@
 -- The fractions of a row at a place, after a write, and after two rows were crossed.
-use Rattle.std.proofs.Common.{◌≡◌, ◌≢◌, ℕ, zero, suc, ◌*◌, ◌<◌, refl, sym, ◌∙◌, ap, subst, List, [], ◌∷◌, ◌++◌, length, map, take, drop, arith}
-use Rattle.std.specs.Prelude.{ℤ, pos, negsuc, ◌*ℤ◌, slice_index_or, slice_set}
-use Rattle.whole_numbers.specs.Fractions.{Fraction, IsLowest, minus, times, whole}
+use Rattle.std.proofs.Common.{◌≡◌, ◌≢◌, ℕ, zero, suc, ◌*◌, ◌/◌, ◌^◌, ◌<◌, ◌≤◌, refl, sym, ◌∙◌, ap, subst, List, [], ◌∷◌, ◌++◌, length, map, take, drop, arith}
+use Rattle.std.specs.Prelude.{ℤ, pos, negsuc, neg_ℤ, nat_abs, ◌*ℤ◌, slice_index_or, slice_set}
+use Rattle.whole_numbers.specs.Fractions.{Fraction, IsLowest, gcd, minus, negated, plus, reduced, times, whole}
 use Rattle.whole_numbers.proofs.Ring.{var, num, ◌⊗◌, neg, ring_by, nothing as no_more, using}
+use Rattle.std.proofs.Math.Nat.{zero-div}
+use Rattle.std.proofs.Math.IntN.{neg_ℤ-neg_ℤ}
+use Rattle.whole_numbers.proofs.Laws.{neg-mul}
 use Rattle.whole_numbers.proofs.FractionLaws.{cancel, times_stands}
-use Rattle.wide_fraction.specs.Widths.{IsWithin}
+use Rattle.wide_fraction.specs.Widths.{IsTop, IsWithin}
 use Rattle.wide_fraction.proofs.Quotients.{zero_stands}
 use Rattle.path_rows.specs.Basis.{entry}
 use Rattle.fraction_rows.specs.TableRows.{AreNumbers, IsNumber, crossed_by, nothing}
+use Rattle.fraction_rows.specs.Sums.{ArePut}
 use Rattle.fraction_rows.specs.Turns.{AreRows}
 use Rattle.fraction_rows.proofs.Numbers.{times_lowest, crossed_nothing}
+use Rattle.fraction_rows.proofs.Tops.{whole_number}
 
 pub number_at : (top : ℕ) (qs : List Fraction) (k : ℕ) → AreNumbers top qs → k < length qs → IsNumber top (entry qs k)
 number_at top [] k numbers k_in = absurd (omega arith)
@@ -79,3 +84,36 @@ later_same f [] zero d = refl
 later_same f [] (suc k) d = refl
 later_same f (fs ∷ rows) zero d = refl
 later_same f (fs ∷ rows) (suc k) d = later_same f rows k d
+
+-- a difference with the negated multiple is a sum
+reduced_negated : (m : ℤ) (d : ℕ) → negated (reduced (neg_ℤ m) d) ≡ reduced m d
+reduced_negated (pos zero) d =
+    ap (λ (z : ℤ). record { numerator = z; denominator = d / gcd 0 d }) (none (0 / gcd 0 d) (zero-div (gcd 0 d)))
+  where
+    none : (n : ℕ) → n ≡ 0 → neg_ℤ (pos n) ≡ pos n
+    none n is = ap (λ (k : ℕ). neg_ℤ (pos k)) is ∙ ap pos (sym is)
+reduced_negated (pos (suc n)) d =
+    ap (λ (z : ℤ). record { numerator = z; denominator = d / gcd (suc n) d }) (neg_ℤ-neg_ℤ (pos (suc n / gcd (suc n) d)))
+reduced_negated (negsuc n) d = refl
+
+minus_negated : (p q : Fraction) (c : ℤ) → minus p (times (whole (neg_ℤ c)) q) ≡ plus p (times (whole c) q)
+minus_negated p q c =
+    ap (λ (t : Fraction). plus p t)
+    (ap (λ (z : ℤ). negated (reduced z (1 * q.denominator))) (neg-mul c q.numerator) ∙ reduced_negated (c *ℤ q.numerator) (1 * q.denominator))
+
+pub crossed_put : (factor : Fraction) (c : ℤ) (fs ts new : List Fraction) → factor ≡ whole (neg_ℤ c) → length ts ≡ length fs → new ≡ crossed_by factor fs ts → ArePut (whole c) ts fs new
+crossed_put factor c fs ts new factor_is same new_is place place_in =
+    ap (λ (l : List Fraction). entry l place) new_is
+    ∙ crossed_entry factor fs ts place same place_in
+    ∙ ap (λ (q : Fraction). minus (entry fs place) (times q (entry ts place))) factor_is
+    ∙ minus_negated (entry fs place) (entry ts place) c
+
+-- a small coefficient with the other sign is a number of the table
+pub negated_number : (top : ℕ) (factor : Fraction) (c : ℤ) → IsTop top → nat_abs c ≤ 2 ^ 26 → factor ≡ whole (neg_ℤ c) → IsNumber top factor
+negated_number top factor c is_top small factor_is =
+    subst (IsNumber top) (sym factor_is) (whole_number top (neg_ℤ c) is_top (omega (arith, turned c, small)))
+  where
+    turned : (z : ℤ) → nat_abs (neg_ℤ z) ≡ nat_abs z
+    turned (pos zero) = refl
+    turned (pos (suc n)) = refl
+    turned (negsuc n) = refl

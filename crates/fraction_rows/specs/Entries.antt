@@ -1,5 +1,5 @@
 -- Words on lists of columns that the work on a row goes along.
-use Rattle.std.specs.Prelude.{◌≡◌, ◌≢◌, ◌⊎◌, ℕ, ◌==◌, ◌<◌, List, [], ◌∷◌, ◌++◌, pos, if◌then◌else◌, Any}
+use Rattle.std.specs.Prelude.{◌≡◌, ◌≢◌, ◌⊎◌, ℕ, ◌==◌, ◌<◌, ◌≤◌, List, [], ◌∷◌, ◌++◌, length, pos, if◌then◌else◌, All, Any}
 use Rattle.cost_base.specs.declared.StepName.TheVariants.{Sub, Mul, Div}
 use Rattle.whole_numbers.specs.Fractions.{Fraction, minus, times, divided, listed}
 use Rattle.wide_fraction.specs.declared.steps.Wide.{Wide}
@@ -63,3 +63,18 @@ AreRising es = (high : ℕ) × Rises 0 high es
 -- the pair with another fraction, where it is that of the column
 abbrev pub replaced : ℕ → Fraction → (ℕ × Fraction) → ℕ × Fraction
 replaced column value e = if e.0 == column then (e.0, value) else e
+
+-- the list doesn't have the column
+abbrev pub IsWithout : ℕ → List (ℕ × Fraction) → Type 0
+IsWithout column es = All (λ e. e.0 ≢ column) es
+
+-- the list has the column nowhere but at the place
+pub record IsPlaceOf (es : List (ℕ × Fraction)) (column place : ℕ) : Type 0 where
+  pub before : List (ℕ × Fraction)
+  pub left : List (ℕ × Fraction)
+  pub after : List (ℕ × Fraction)
+  pub whole : es ≡ before ++ (left ++ after)
+  pub place_is : place ≡ length before
+  pub few : length left ≤ 1
+  pub early : IsWithout column before
+  pub late : IsWithout column after

@@ -2,3 +2,4 @@ pub mod TableRows
 pub mod Entries
 pub mod Turns
 pub mod Sums
+pub mod Marks

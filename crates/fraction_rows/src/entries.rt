@@ -1,9 +1,9 @@
 //! Lists of columns that rise, each with its fraction.
-ghost use Rattle.std.specs.Prelude.{◌≡◌, ◌≢◌, ℕ, ◌<◌, ◌≤◌, [], map, min, pos, vec_len, IfOk, IfErr, OnOk};
+ghost use Rattle.std.specs.Prelude.{◌≡◌, ◌≢◌, ℕ, ◌<◌, ◌≤◌, [], map, min, nat_abs, pos, ◌-ℤ◌, ◌*ℤ◌, vec_len, IfOk, IfErr, IfSome, OnOk};
 ghost use Rattle.std.specs.Vec.{vec_capacity};
-ghost use Rattle.whole_numbers.specs.Fractions.{minus, times};
+ghost use Rattle.whole_numbers.specs.Fractions.{minus, times, whole};
 ghost use Rattle.fraction_rows.specs.TableRows.{IsNumber, Rises, fraction_at, nothing};
-ghost use Rattle.fraction_rows.specs.Entries.{AllNumbers, AreRising, IsMade, IsPassing, IsPut, IsQuotientStep, IsTermStep, after_column, crossed_at, divided_at, head_column, head_fraction, replaced};
+ghost use Rattle.fraction_rows.specs.Entries.{AllNumbers, AreRising, IsMade, IsPassing, IsPlaceOf, IsPut, IsQuotientStep, IsTermStep, after_column, crossed_at, divided_at, head_column, head_fraction, replaced};
 
 use wide_fraction::{Frac, Top, Wide, div, mul, sub};
 
@@ -66,7 +66,94 @@ pub fn crossed(old: Frac, factor: Frac, quotient: Frac, top: Top) -> Result<Frac
     sub(old, mul(factor, quotient, top)?, top)
 }
 
-/// Makes the list that has at each column the fraction of `olds` less the factor times that of `quotients`.
+/// The number of a whole fraction, where it is a word.
+#[inline]
+fn word_of(value: Frac) -> Option<i64>
+    ensures { IfSome result (λ n. value ≡ whole n) }
+{
+    if value.denominator() != 1 {
+        return None;
+    }
+    match i64::try_from(value.numerator()) {
+        Ok(word) => Some(word),
+        Err(_) => None,
+    }
+}
+
+/// The product of two words, where its size is at most `most`.
+#[inline]
+fn bounded_product(left: i64, right: i64, most: u128) -> Option<i128>
+    ensures { IfSome result (λ p. p ≡ left *ℤ right) }
+{
+    let product = i128::from(left) * i128::from(right);
+    if product.unsigned_abs() <= most {
+        Some(product)
+    } else {
+        None
+    }
+}
+
+/// The difference, where its size is at most `most`.
+#[inline]
+fn bounded_difference(left: i128, right: i128, most: u128) -> Option<i128>
+    ensures { IfSome result (λ d. (d ≡ left -ℤ right) × (nat_abs d ≤ most)) }
+{
+    match left.checked_sub(right) {
+        Some(difference) => {
+            if difference.unsigned_abs() <= most {
+                Some(difference)
+            } else {
+                None
+            }
+        }
+        None => None,
+    }
+}
+
+/// A word less the product of two, where both this and the product are within `top`.
+#[inline]
+fn word_crossed(old: i64, factor: i64, quotient: i64, top: Top) -> Option<Frac>
+    ensures { IfSome result (λ q. (q ≡ minus (whole old) (times (whole factor) (whole quotient))) × IsNumber top q) }
+{
+    let _ = top.value();
+    match bounded_product(factor, quotient, top.size()) {
+        Some(product) => match bounded_difference(i128::from(old), product, top.size()) {
+            Some(value) => Some(Frac::whole_wide(value)),
+            None => None,
+        },
+        None => None,
+    }
+}
+
+/// A fraction less the factor times another one, where all three are words and no number on the way passes `top`.
+#[inline]
+fn short_crossed(old: Frac, factor: Frac, quotient: Frac, top: Top) -> Option<Frac>
+    ensures { IfSome result (λ q. (q ≡ minus old (times factor quotient)) × IsNumber top q) }
+{
+    match (word_of(old), word_of(factor), word_of(quotient)) {
+        (Some(old), Some(factor), Some(quotient)) => word_crossed(old, factor, quotient, top),
+        _ => None,
+    }
+}
+
+/// A fraction less the factor times another one, by the short way where there is one.
+fn crossed_entry(old: Frac, factor: Frac, quotient: Frac, top: Top) -> Result<Frac, Wide>
+    requires old { IsNumber top old }
+    requires factor { IsNumber top factor }
+    requires quotient { IsNumber top quotient }
+    ensures exact { IfOk result (λ q. q ≡ minus old (times factor quotient)) }
+    ensures number { IfOk result (λ q. IsNumber top q) }
+    ensures step { IfErr result (λ wide. IsTermStep old factor quotient wide) }
+    ensures passes { IfErr result (λ wide. IsPassing top wide) }
+{
+    match short_crossed(old, factor, quotient, top) {
+        Some(value) => Ok(value),
+        None => crossed(old, factor, quotient, top),
+    }
+}
+
+/// Makes the list that has at each column the fraction of `olds` less the factor times that of `quotients`. A fraction of
+/// `olds` with no other one at its column is copied.
 pub fn cross_entries(
     olds: &[(u32, Frac)],
     factor: Frac,
@@ -97,11 +184,16 @@ pub fn cross_entries(
             return Ok(());
         }
         let (old, olds_rest) = take_at(olds_left, column);
-        let (quotient, quotients_rest) = take_at(quotients_left, column);
-        let value = crossed(old, factor, quotient, top)?;
-        put_entry(made, column, value);
-        olds_left = olds_rest;
-        quotients_left = quotients_rest;
+        if column < next_column(quotients_left, width) {
+            put_entry(made, column, old);
+            olds_left = olds_rest;
+        } else {
+            let (quotient, quotients_rest) = take_at(quotients_left, column);
+            let value = crossed_entry(old, factor, quotient, top)?;
+            put_entry(made, column, value);
+            olds_left = olds_rest;
+            quotients_left = quotients_rest;
+        }
     }
 }
 
@@ -163,6 +255,7 @@ pub fn divide_entries(
 }
 
 /// The fraction of a column, found by halving.
+#[inline(never)]
 pub fn find_fraction(entries: &[(u32, Frac)], column: u32) -> Frac
     requires { AreRising entries.now }
     ensures { result ≡ fraction_at entries.now column }
@@ -188,11 +281,34 @@ fn replaced(entry: (u32, Frac), column: u32, value: Frac) -> (u32, Frac)
     if at == column { (at, value) } else { (at, old) }
 }
 
+/// The place before which and behind which the list doesn't have the column, found by halving.
+fn place_of(entries: &[(u32, Frac)], column: u32) -> usize
+    requires { AreRising entries.now }
+    ensures { IsPlaceOf entries.now column result }
+{
+    let mut place = 0;
+    let mut left = entries;
+    'halves: while 1 < left.len() {
+        let middle = left.len() / 2;
+        let (first, second) = left.split_at(middle);
+        if column < next_column(second, column) {
+            left = first;
+        } else {
+            left = second;
+            place += middle;
+        }
+    }
+    place
+}
+
 /// Puts another fraction at a column.
 pub fn replace_fraction(entries: &mut [(u32, Frac)], column: u32, value: Frac)
+    requires { AreRising entries.old }
     ensures { entries.new ≡ map (replaced column value) entries.old }
 {
-    for entry in entries.iter_mut() {
-        *entry = replaced(*entry, column, value);
+    let place = place_of(entries, column);
+    if place < entries.len() {
+        let entry = entries[place];
+        entries[place] = replaced(entry, column, value);
     }
 }

@@ -2,10 +2,11 @@
 #![tactic(auto)]
 
 mod entries;
+mod marks;
 mod row;
 mod sum;
 mod turn;
 
 pub use row::TableRow;
-pub use sum::sum_at;
+pub use sum::{sum_at, sum_lines};
 pub use turn::{take_quotients, turn_row, turn_rows};

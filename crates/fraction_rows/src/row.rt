@@ -1,5 +1,5 @@
 //! A row of the table: a constant beside a list of columns that rise, with no zero.
-ghost use Rattle.std.specs.Prelude.{◌≡◌, ◌≢◌, ℕ, suc, ◌<◌, ◌≤◌, ◌-◌, ◌∷◌, length, map, pos, slice_set, IfOk, IfErr, OnOk};
+ghost use Rattle.std.specs.Prelude.{◌≡◌, ◌≢◌, ℕ, suc, true, ◌<◌, ◌≤◌, ◌-◌, ◌∷◌, length, map, pos, slice_set, IfOk, IfErr, OnOk};
 ghost use Rattle.cost_base.specs.Lists.{numbers_from};
 ghost use Rattle.whole_numbers.specs.Fractions.{IsLowest};
 ghost use Rattle.path_rows.specs.Basis.{entry};
@@ -8,18 +8,20 @@ ghost use Rattle.fraction_rows.specs.TableRows.{AreNumbers, IsCrossStep, IsDivid
 use crate::entries::{
     cross_entries, crossed, divide_entries, find_fraction, put_entry, replace_fraction,
 };
+use crate::marks::{Marks, is_marked, marked, marks_of, no_marks};
 use cost_base::OutOfMemory;
 use std::alloc::Global;
 use std::marker::Model;
 use wide_fraction::{Frac, Top, Wide, div};
 
 /// A row of the table. Contracts see the list of its fractions: the constant at place 0, and after it the entry of each
-/// column, zeros too. It holds the columns that aren't 0 alone, and has room for all of them, so that no step on it
-/// takes memory.
+/// column, zeros too. It holds the columns that aren't 0 alone, with marks that most zeros lack, and has room for all of
+/// them, so that no step on it takes memory.
 #[derive(Drop)]
 pub struct TableRow {
     constant: Frac,
     width: u32,
+    marks: Marks,
     entries: Vec<(u32, Frac)>,
 }
 
@@ -28,6 +30,7 @@ impl Model for TableRow {
     ghost use Rattle.std.specs.Vec.{vec_capacity};
     ghost use Rattle.whole_numbers.specs.Fractions.{Fraction};
     ghost use Rattle.fraction_rows.specs.TableRows.{Rises, filled};
+    ghost use Rattle.fraction_rows.specs.Marks.{AllMarked};
 
     ghost Value = { List Fraction };
 
@@ -36,6 +39,7 @@ impl Model for TableRow {
     ghost invariant = { λ r. record {
       rises : Rises 0 r.width r.entries.items;
       room : r.width ≤ vec_capacity r.entries;
+      marked : AllMarked r.marks r.entries.items;
     } };
 }
 
@@ -52,6 +56,7 @@ impl TableRow {
             Ok(entries) => Ok(TableRow {
                 constant: Frac::whole(0),
                 width,
+                marks: no_marks(),
                 entries,
             }),
             Err(_) => Err(OutOfMemory),
@@ -76,12 +81,25 @@ impl TableRow {
         }
     }
 
+    /// Whether the entry of a column is 0 by the marks alone, which tell it of most zeros.
+    #[inline]
+    pub fn lacks(&self, column: u32) -> bool
+        requires { suc column < length self.now }
+        ensures { result ≡ true → entry self.now (suc column) ≡ nothing }
+    {
+        !is_marked(self.marks, column)
+    }
+
     /// The entry of a column.
     pub fn entry(&self, column: u32) -> Frac
         requires { suc column < length self.now }
         ensures { result ≡ entry self.now (suc column) }
     {
-        find_fraction(self.entries.as_slice(), column)
+        if is_marked(self.marks, column) {
+            find_fraction(self.entries.as_slice(), column)
+        } else {
+            Frac::whole(0)
+        }
     }
 
     /// The columns that aren't 0, in rising order.
@@ -115,6 +133,7 @@ impl TableRow {
         ensures { self.new ≡ slice_set self.old (suc column) value }
     {
         put_entry(&mut self.entries, column, value);
+        self.marks = marked(self.marks, column);
     }
 
     /// Puts another entry, none of which is 0, at a column.
@@ -153,14 +172,16 @@ impl TableRow {
     {
         into.entries.clear();
         into.constant = crossed(self.constant, factor, quotients.constant, top)?;
-        cross_entries(
+        let made = cross_entries(
             self.entries.as_slice(),
             factor,
             quotients.entries.as_slice(),
             self.width,
             &mut into.entries,
             top,
-        )
+        );
+        into.marks = marks_of(into.entries.as_slice());
+        made
     }
 
     /// Makes the row whose fractions are those of this one over the divisor, with 0 at the column that is left out. The
@@ -187,13 +208,15 @@ impl TableRow {
     {
         into.entries.clear();
         into.constant = div(self.constant, divisor, top)?;
-        divide_entries(
+        let made = divide_entries(
             self.entries.as_slice(),
             divisor,
             left_out,
             self.width,
             &mut into.entries,
             top,
-        )
+        );
+        into.marks = marks_of(into.entries.as_slice());
+        made
     }
 }

@@ -1,14 +1,15 @@
 //! The sum of a row's terms at a place of the table.
-ghost use Rattle.std.specs.Prelude.{◌≡◌, ℕ, ◌^◌, ◌<◌, ◌≤◌, length, nat_abs, All, IfErr, IfOk};
+ghost use Rattle.std.specs.Prelude.{◌≡◌, ℕ, ◌^◌, ◌<◌, ◌≤◌, length, nat_abs, All, IfErr, IfOk, OnOk};
 ghost use Rattle.whole_numbers.specs.Fractions.{plus, times, whole};
 ghost use Rattle.path_rows.specs.Basis.{entry};
 ghost use Rattle.fraction_rows.specs.Entries.{IsPassing};
-ghost use Rattle.fraction_rows.specs.Sums.{IsSumStep, IsTermSum, sum_from};
+ghost use Rattle.fraction_rows.specs.Sums.{ArePut, IsSumStep, IsTermSum, sum_from};
 ghost use Rattle.fraction_rows.specs.TableRows.{AreNumbers, IsNumber};
 ghost use Rattle.fraction_rows.specs.Turns.{AreRows};
 
 use crate::row::TableRow;
 use path_rows::Form;
+use std::mem;
 use wide_fraction::{Frac, Top, Wide, add, mul};
 
 /// The sum with the term of one more coefficient, by the line of its variable. No step is taken where the line has 0 at
@@ -67,4 +68,64 @@ pub fn sum_at(
         sum = add_term(sum, term.coefficient, &lines[var], place, top)?;
     }
     Ok(sum)
+}
+
+/// Puts a coefficient times another row to a row, place by place. `scratch` is a row of the same width, in which the new
+/// row is made.
+///
+/// # Errors
+///
+/// `Wide` where a step makes a whole number that passes `top`. Then the row is as before.
+fn put_line(
+    row: &mut TableRow,
+    coefficient: i64,
+    line: &TableRow,
+    scratch: &mut TableRow,
+    top: Top,
+) -> Result<(), Wide>
+    requires line { length line.now ≡ length row.old }
+    requires scratch { length scratch.old ≡ length row.old }
+    requires numbers { AreNumbers top row.old }
+    requires line_numbers { AreNumbers top line.now }
+    requires small { nat_abs coefficient ≤ 2 ^ 26 }
+    ensures sums { OnOk result (ArePut (whole coefficient) line.now row.old row.new) }
+    ensures numbers { OnOk result (AreNumbers top row.new) }
+    ensures width { length row.new ≡ length row.old }
+    ensures scratch_width { length scratch.new ≡ length scratch.old }
+{
+    let _ = top.value();
+    row.cross(Frac::whole(-coefficient), line, scratch, top)?;
+    mem::swap(row, scratch);
+    Ok(())
+}
+
+/// Puts the form's terms to a row, by the lines of its variables, variable by variable. It takes the steps of `sum_at`
+/// at all places, in another order. `scratch` is a row of the same width.
+///
+/// # Errors
+///
+/// `Wide` where one of these steps makes a whole number that passes `top`. Then the row has some of the terms.
+pub fn sum_lines(
+    row: &mut TableRow,
+    form: &Form,
+    lines: &[TableRow],
+    scratch: &mut TableRow,
+    top: Top,
+) -> Result<(), Wide>
+    requires small { All (λ c. nat_abs c ≤ 2 ^ 26) form.now.coefficients }
+    requires lines { AreRows top (length row.old) lines.now }
+    requires many { length form.now.coefficients ≤ length lines.now }
+    requires scratch { length scratch.old ≡ length row.old }
+    requires numbers { AreNumbers top row.old }
+    ensures sums { OnOk result ((place : ℕ) → place < length row.old → entry row.new place ≡ sum_from (entry row.old place) form.now.coefficients lines.now place) }
+    ensures numbers { OnOk result (AreNumbers top row.new) }
+    ensures width { length row.new ≡ length row.old }
+    ensures scratch_width { length scratch.new ≡ length scratch.old }
+{
+    let terms = form.terms();
+    for term in terms {
+        let var = term.var as usize;
+        put_line(row, term.coefficient, &lines[var], scratch, top)?;
+    }
+    Ok(())
 }

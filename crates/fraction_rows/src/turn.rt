@@ -38,6 +38,9 @@ pub fn turn_row(
     ensures scratch_width { length scratch.new ≡ length scratch.old }
     ensures wide { IfErr result (λ wide. IsWideStep top (IsTurnStep row.old quotients.now (suc column) inverse) wide.step wide.left wide.right) }
 {
+    if row.lacks(column) {
+        return Ok(());
+    }
     let own = row.entry(column);
     if own.is_zero() {
         return Ok(());

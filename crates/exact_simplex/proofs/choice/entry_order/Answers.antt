@@ -20,6 +20,17 @@ returns-in_err-multiple-clause-passes c =
     let p = err_from_is_err_and c.from_residual.result c.from_residual.ensures.1 in
     rw (p.1, p.2) (subst (IsPassing c.args.top) (sym c.in_err-multiple.ensures.named) c.in_err-multiple.ensures.passes)
 
+pub returns-then-lacks-2-clause-order : goal.returns-then-lacks-2-clause-order
+returns-then-lacks-2-clause-order c =
+    let fs = c.args.line.now in
+    let q = c.args.quotient in
+    let own : entry fs (suc c.args.column) ≡ nothing = c.lacks.ensures c.if-lacks.true in
+    let others : entry fs (suc c.args.other) ≡ nothing = c.lacks-then-lacks.ensures c.if-lacks-2.true in
+    sym
+    (ap (λ (p : Fraction). order p (times (entry fs (suc c.args.column)) q)) others
+    ∙ ap (λ (p : Fraction). order nothing (times p q)) own
+    ∙ ap (order nothing) (nothing_times q c.requires.lowest.positive))
+
 pub returns-then-is_zero-2-clause-order : goal.returns-then-is_zero-2-clause-order
 returns-then-is_zero-2-clause-order c =
     let fs = c.args.line.now in

@@ -1,13 +1,18 @@
--- One more pair is replaced.
-use Rattle.std.proofs.Common.{ℕ, ◌∙◌, ap, sym, arith}
+-- The pair at the place is the only one that may be replaced.
+use Rattle.std.proofs.Common.{ℕ, ◌∙◌, ap, arith}
 use Rattle.std.specs.Prelude.{slice_set}
-use Rattle.std.proofs.lemmas.List.Edits.{map_over_more}
 use Rattle.whole_numbers.specs.Fractions.{Fraction}
 use Rattle.fraction_rows.specs.Entries.{replaced}
+use Rattle.fraction_rows.proofs.Places.{place_beyond, place_written}
 use Rattle.fraction_rows.proofs.entries.replace_fraction.Goals as goal
 
-pub loop-entry-preserved : goal.loop-entry-preserved
-loop-entry-preserved c =
-    ap (slice_set c.loop-entry.entries c.loop-entry.entry-index) c.replaced.ensures
-    ∙ ap (λ (e : ℕ × Fraction). slice_set c.loop-entry.entries c.loop-entry.entry-index (replaced c.args.column c.args.value e)) (sym c.entry-item.is)
-    ∙ map_over_more (replaced c.args.column c.args.value) c.args.entries.now c.loop-entry.entries c.loop-entry.entry-index c.entry-item.result (omega arith) c.loop-entry.invariant c.entry-item.is
+pub returns-then-place-entries : goal.returns-then-place-entries
+returns-then-place-entries c =
+    let es = c.args.entries.now in
+    let place = c.place_of-place.result in
+    ap (λ (e : ℕ × Fraction). slice_set es place e) (c.replaced.ensures ∙ ap (λ (e : ℕ × Fraction). replaced c.args.column c.args.value e) c.index-entries-place.is)
+    ∙ place_written c.args.column c.args.value es place _ c.place_of-place.ensures (omega (arith, c.if-place-entries.true))
+
+pub returns-else-place-entries : goal.returns-else-place-entries
+returns-else-place-entries c =
+    place_beyond c.args.column c.args.value c.args.entries.now c.place_of-place.result c.place_of-place.ensures (omega (arith, c.if-place-entries.false))

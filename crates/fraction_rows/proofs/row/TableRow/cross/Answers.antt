@@ -4,6 +4,7 @@ use Rattle.std.proofs.lemmas.Result.{err_from_is_err_and}
 use Rattle.whole_numbers.specs.Fractions.{Fraction}
 use Rattle.path_rows.specs.Basis.{entry}
 use Rattle.fraction_rows.specs.TableRows.{AreNumbers, Rises, crossed_by, filled}
+use Rattle.fraction_rows.specs.Marks.{AllMarked}
 use Rattle.fraction_rows.specs.Entries.{IsMade, crossed_at}
 use Rattle.fraction_rows.proofs.Filled.{row_crossed_as, row_numbers, entry_numbers, term_step, crossed_wide, width_is, same_width, on_ok, always_ok}
 use Rattle.fraction_rows.proofs.row.TableRow.cross.Goals as goal
@@ -20,26 +21,26 @@ returns-in_err-into-inside-clause-wide c =
       c.in_err-into-inside.ensures.passes,
     )
 
-pub cross_entries-requires-clause-quotients : goal.cross_entries-requires-clause-quotients
-cross_entries-requires-clause-quotients c =
+pub cross_entries-made-requires-clause-quotients : goal.cross_entries-made-requires-clause-quotients
+cross_entries-made-requires-clause-quotients c =
     let s = c.self.inside in
     let q = c.quotients.inside in
     let width = same_width q.constant s.constant q.width s.width q.entries.items s.entries.items c.args.quotients.now c.args.self.now c.quotients.view_is c.self.view_is c.requires.quotients in
     rw c.as_slice-2.ensures.value (subst (λ (w : ℕ). Rises 0 w q.entries.items) width c.quotients.invariant.rises)
 
-pub cross_entries-requires-clause-old_numbers : goal.cross_entries-requires-clause-old_numbers
-cross_entries-requires-clause-old_numbers c =
+pub cross_entries-made-requires-clause-old_numbers : goal.cross_entries-made-requires-clause-old_numbers
+cross_entries-made-requires-clause-old_numbers c =
     let s = c.self.inside in
     rw c.as_slice.ensures.value (entry_numbers c.args.top s.constant s.width s.entries.items c.self.invariant.rises (subst (AreNumbers c.args.top) (sym c.self.view_is) c.requires.numbers))
 
-pub cross_entries-requires-clause-quotient_numbers :
-    goal.cross_entries-requires-clause-quotient_numbers
-cross_entries-requires-clause-quotient_numbers c =
+pub cross_entries-made-requires-clause-quotient_numbers :
+    goal.cross_entries-made-requires-clause-quotient_numbers
+cross_entries-made-requires-clause-quotient_numbers c =
     let q = c.quotients.inside in
     rw c.as_slice-2.ensures.value (entry_numbers c.args.top q.constant q.width q.entries.items c.quotients.invariant.rises (subst (AreNumbers c.args.top) (sym c.quotients.view_is) c.requires.quotient_numbers))
 
-pub cross_entries-requires-clause-room : goal.cross_entries-requires-clause-room
-cross_entries-requires-clause-room c =
+pub cross_entries-made-requires-clause-room : goal.cross_entries-made-requires-clause-room
+cross_entries-made-requires-clause-room c =
     let s = c.self.inside in
     let i = c.into.inside in
     let width = same_width i.constant s.constant i.width s.width i.entries.items s.entries.items c.args.into.now c.args.self.now c.into.view_is c.self.view_is c.requires.into in
@@ -51,8 +52,9 @@ invariant_of-into-2 c =
     let i = c.into.inside in
     let width = same_width i.constant s.constant i.width s.width i.entries.items s.entries.items c.args.into.now c.args.self.now c.into.view_is c.self.view_is c.requires.into in
     record {
-      rises = subst (λ (w : ℕ). Rises 0 w c.cross_entries.new.made.items) (sym width) c.cross_entries.ensures.rises;
-      room = omega (arith, c.cross_entries.ensures.room);
+      rises = subst (λ (w : ℕ). Rises 0 w c.cross_entries-made.new.made.items) (sym width) c.cross_entries-made.ensures.rises;
+      room = omega (arith, c.cross_entries-made.ensures.room);
+      marked = subst (AllMarked c.marks_of-into-inside.result) c.as_slice-3.ensures.value c.marks_of-into-inside.ensures;
     }
 
 pub returns-clause-crossed : goal.returns-clause-crossed
@@ -62,23 +64,23 @@ returns-clause-crossed c =
     let i = c.into.inside in
     let into_width = same_width i.constant s.constant i.width s.width i.entries.items s.entries.items c.args.into.now c.args.self.now c.into.view_is c.self.view_is c.requires.into in
     let width = same_width q.constant s.constant q.width s.width q.entries.items s.entries.items c.args.quotients.now c.args.self.now c.quotients.view_is c.self.view_is c.requires.quotients in
-    on_ok c.cross_entries.result
-    (IsMade s.width (crossed_at c.args.factor) c.as_slice.result.now c.as_slice-2.result.now c.cross_entries.new.made.items)
-    (c.in_ok-into-inside.field-0 ∷ filled i.width c.cross_entries.new.made.items ≡ crossed_by c.args.factor c.args.self.now c.args.quotients.now)
-    (row_crossed_as c.in_ok-into-inside.field-0 c.args.factor s.constant q.constant s.width i.width q.width s.entries.items q.entries.items c.cross_entries.new.made.items c.as_slice.result.now c.as_slice-2.result.now c.args.self.now c.args.quotients.now
+    on_ok c.cross_entries-made.result
+    (IsMade s.width (crossed_at c.args.factor) c.as_slice.result.now c.as_slice-2.result.now c.cross_entries-made.new.made.items)
+    (c.in_ok-into-inside.field-0 ∷ filled i.width c.cross_entries-made.new.made.items ≡ crossed_by c.args.factor c.args.self.now c.args.quotients.now)
+    (row_crossed_as c.in_ok-into-inside.field-0 c.args.factor s.constant q.constant s.width i.width q.width s.entries.items q.entries.items c.cross_entries-made.new.made.items c.as_slice.result.now c.as_slice-2.result.now c.args.self.now c.args.quotients.now
     c.in_ok-into-inside.ensures.exact into_width width c.as_slice.ensures.value c.as_slice-2.ensures.value c.self.view_is c.quotients.view_is)
-    c.cross_entries.ensures.made
+    c.cross_entries-made.ensures.made
 
 pub returns-clause-numbers : goal.returns-clause-numbers
 returns-clause-numbers c =
     let i = c.into.inside in
-    always_ok c.cross_entries.result (AreNumbers c.args.top (c.in_ok-into-inside.field-0 ∷ filled i.width c.cross_entries.new.made.items))
-    (row_numbers c.args.top c.in_ok-into-inside.field-0 i.width c.cross_entries.new.made.items c.in_ok-into-inside.ensures.number c.cross_entries.ensures.numbers)
+    always_ok c.cross_entries-made.result (AreNumbers c.args.top (c.in_ok-into-inside.field-0 ∷ filled i.width c.cross_entries-made.new.made.items))
+    (row_numbers c.args.top c.in_ok-into-inside.field-0 i.width c.cross_entries-made.new.made.items c.in_ok-into-inside.ensures.number c.cross_entries-made.ensures.numbers)
 
 pub returns-clause-wide : goal.returns-clause-wide
 returns-clause-wide c =
     let s = c.self.inside in
     let q = c.quotients.inside in
     let width = same_width q.constant s.constant q.width s.width q.entries.items s.entries.items c.args.quotients.now c.args.self.now c.quotients.view_is c.self.view_is c.requires.quotients in
-    crossed_wide c.cross_entries.result c.args.top c.args.factor s.constant q.constant s.width q.width s.entries.items q.entries.items c.as_slice.result.now c.as_slice-2.result.now c.args.self.now c.args.quotients.now
-    width c.as_slice.ensures.value c.as_slice-2.ensures.value c.self.view_is c.quotients.view_is c.cross_entries.ensures.step c.cross_entries.ensures.passes
+    crossed_wide c.cross_entries-made.result c.args.top c.args.factor s.constant q.constant s.width q.width s.entries.items q.entries.items c.as_slice.result.now c.as_slice-2.result.now c.args.self.now c.args.quotients.now
+    width c.as_slice.ensures.value c.as_slice-2.ensures.value c.self.view_is c.quotients.view_is c.cross_entries-made.ensures.step c.cross_entries-made.ensures.passes

@@ -5,6 +5,7 @@ use Rattle.cost_base.specs.declared.StepName.TheVariants.{Div}
 use Rattle.whole_numbers.specs.Fractions.{Fraction}
 use Rattle.path_rows.specs.Basis.{entry}
 use Rattle.fraction_rows.specs.TableRows.{AreNumbers, IsNumber, Rises, divided_without, filled}
+use Rattle.fraction_rows.specs.Marks.{AllMarked}
 use Rattle.fraction_rows.specs.Entries.{IsMade, divided_at}
 use Rattle.fraction_rows.proofs.Numbers.{divided_number}
 use Rattle.fraction_rows.proofs.Passing.{named_passes}
@@ -22,13 +23,13 @@ returns-in_err-into-inside-clause-wide c =
       named_passes {X = Fraction} (Err wide) c.args.top Div s.constant c.args.divisor c.in_err-into-inside.ensures.named c.in_err-into-inside.ensures.passes,
     )
 
-pub divide_entries-requires-clause-old_numbers : goal.divide_entries-requires-clause-old_numbers
-divide_entries-requires-clause-old_numbers c =
+pub divide_entries-made-requires-clause-old_numbers : goal.divide_entries-made-requires-clause-old_numbers
+divide_entries-made-requires-clause-old_numbers c =
     let s = c.self.inside in
     rw c.as_slice.ensures.value (entry_numbers c.args.top s.constant s.width s.entries.items c.self.invariant.rises (subst (AreNumbers c.args.top) (sym c.self.view_is) c.requires.numbers))
 
-pub divide_entries-requires-clause-room : goal.divide_entries-requires-clause-room
-divide_entries-requires-clause-room c =
+pub divide_entries-made-requires-clause-room : goal.divide_entries-made-requires-clause-room
+divide_entries-made-requires-clause-room c =
     let s = c.self.inside in
     let i = c.into.inside in
     let width = same_width i.constant s.constant i.width s.width i.entries.items s.entries.items c.args.into.now c.args.self.now c.into.view_is c.self.view_is c.requires.into in
@@ -40,8 +41,9 @@ invariant_of-into-2 c =
     let i = c.into.inside in
     let width = same_width i.constant s.constant i.width s.width i.entries.items s.entries.items c.args.into.now c.args.self.now c.into.view_is c.self.view_is c.requires.into in
     record {
-      rises = subst (λ (w : ℕ). Rises 0 w c.divide_entries.new.made.items) (sym width) c.divide_entries.ensures.rises;
-      room = omega (arith, c.divide_entries.ensures.room);
+      rises = subst (λ (w : ℕ). Rises 0 w c.divide_entries-made.new.made.items) (sym width) c.divide_entries-made.ensures.rises;
+      room = omega (arith, c.divide_entries-made.ensures.room);
+      marked = subst (AllMarked c.marks_of-into-inside.result) c.as_slice-2.ensures.value c.marks_of-into-inside.ensures;
     }
 
 pub returns-clause-divided : goal.returns-clause-divided
@@ -49,12 +51,12 @@ returns-clause-divided c =
     let s = c.self.inside in
     let i = c.into.inside in
     let into_width = same_width i.constant s.constant i.width s.width i.entries.items s.entries.items c.args.into.now c.args.self.now c.into.view_is c.self.view_is c.requires.into in
-    on_ok c.divide_entries.result
-    (IsMade s.width (divided_at c.args.left_out c.args.divisor) c.as_slice.result.now [] c.divide_entries.new.made.items)
-    (c.in_ok-into-inside.field-0 ∷ filled i.width c.divide_entries.new.made.items ≡ divided_without (suc c.args.left_out) c.args.divisor c.args.self.now 0)
-    (row_divided_as c.args.left_out c.in_ok-into-inside.field-0 c.args.divisor s.constant s.width i.width s.entries.items c.divide_entries.new.made.items c.as_slice.result.now c.args.self.now
+    on_ok c.divide_entries-made.result
+    (IsMade s.width (divided_at c.args.left_out c.args.divisor) c.as_slice.result.now [] c.divide_entries-made.new.made.items)
+    (c.in_ok-into-inside.field-0 ∷ filled i.width c.divide_entries-made.new.made.items ≡ divided_without (suc c.args.left_out) c.args.divisor c.args.self.now 0)
+    (row_divided_as c.args.left_out c.in_ok-into-inside.field-0 c.args.divisor s.constant s.width i.width s.entries.items c.divide_entries-made.new.made.items c.as_slice.result.now c.args.self.now
     c.in_ok-into-inside.ensures.exact into_width c.as_slice.ensures.value c.self.view_is)
-    c.divide_entries.ensures.made
+    c.divide_entries-made.ensures.made
 
 pub returns-clause-numbers : goal.returns-clause-numbers
 returns-clause-numbers c =
@@ -62,11 +64,11 @@ returns-clause-numbers c =
     let i = c.into.inside in
     let first = subst (AreNumbers c.args.top) (sym c.self.view_is) c.requires.numbers in
     let value_is : IsNumber c.args.top c.in_ok-into-inside.field-0 = divided_number c.args.top s.constant c.args.divisor c.in_ok-into-inside.field-0 first.0.lowest.positive c.in_ok-into-inside.ensures.exact c.in_ok-into-inside.ensures.within in
-    always_ok c.divide_entries.result (AreNumbers c.args.top (c.in_ok-into-inside.field-0 ∷ filled i.width c.divide_entries.new.made.items))
-    (row_numbers c.args.top c.in_ok-into-inside.field-0 i.width c.divide_entries.new.made.items value_is c.divide_entries.ensures.numbers)
+    always_ok c.divide_entries-made.result (AreNumbers c.args.top (c.in_ok-into-inside.field-0 ∷ filled i.width c.divide_entries-made.new.made.items))
+    (row_numbers c.args.top c.in_ok-into-inside.field-0 i.width c.divide_entries-made.new.made.items value_is c.divide_entries-made.ensures.numbers)
 
 pub returns-clause-wide : goal.returns-clause-wide
 returns-clause-wide c =
     let s = c.self.inside in
-    divided_wide c.divide_entries.result c.args.top c.args.divisor s.constant s.width s.entries.items c.as_slice.result.now c.args.self.now
-    c.as_slice.ensures.value c.self.view_is c.divide_entries.ensures.step c.divide_entries.ensures.passes
+    divided_wide c.divide_entries-made.result c.args.top c.args.divisor s.constant s.width s.entries.items c.as_slice.result.now c.args.self.now
+    c.as_slice.ensures.value c.self.view_is c.divide_entries-made.ensures.step c.divide_entries-made.ensures.passes

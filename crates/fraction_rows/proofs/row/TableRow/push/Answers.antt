@@ -6,6 +6,7 @@ use Rattle.path_rows.specs.Basis.{entry}
 use Rattle.fraction_rows.specs.TableRows.{Rises, filled, nothing}
 use Rattle.fraction_rows.proofs.Columns.{rises_until, rises_widen, rises_length, put_rises, put_here, put_other}
 use Rattle.fraction_rows.proofs.Filled.{row_entry, row_written, width_is}
+use Rattle.fraction_rows.proofs.MarkLaws.{put_marked}
 use Rattle.fraction_rows.proofs.row.TableRow.push.Goals as goal
 
 -- a row that has 0 from a column on
@@ -30,6 +31,7 @@ invariant_of-self c =
     record {
       rises = rises_widen 0 (suc c.args.column) s.width c.put_entry.new.entries.items (put_rises c.args.column c.args.column c.args.value s.entries.items c.put_entry.new.entries.items rises (omega arith) c.put_entry.ensures.put) column_in;
       room = omega (arith, c.put_entry.ensures.capacity, c.self.invariant.room);
+      marked = put_marked s.marks c.marked-self-inside.result c.args.column c.args.value s.entries.items c.put_entry.new.entries.items c.marked-self-inside.ensures.kept c.marked-self-inside.ensures.here c.self.invariant.marked c.put_entry.ensures.put;
     }
 
 apart : (a b : ℕ) → a ≢ b → b ≢ a

@@ -5,10 +5,15 @@ use Rattle.std.proofs.lemmas.List.{with_items_is, length-map}
 use Rattle.whole_numbers.specs.Fractions.{Fraction}
 use Rattle.path_rows.specs.Basis.{entry}
 use Rattle.fraction_rows.specs.TableRows.{Rises, filled}
-use Rattle.fraction_rows.specs.Entries.{replaced}
+use Rattle.fraction_rows.specs.Entries.{AreRising, replaced}
+use Rattle.fraction_rows.specs.Marks.{AllMarked}
 use Rattle.fraction_rows.proofs.Columns.{replaced_rises, replaced_here, replaced_other}
 use Rattle.fraction_rows.proofs.Filled.{row_entry, row_written, width_is}
+use Rattle.fraction_rows.proofs.MarkLaws.{replaced_marked}
 use Rattle.fraction_rows.proofs.row.TableRow.replace.Goals as goal
+
+pub replace_fraction-requires : goal.replace_fraction-requires
+replace_fraction-requires c = subst AreRising (sym c.deref_mut.ensures.value) (c.self.inside.width, c.self.invariant.rises)
 
 pub invariant_of-self : goal.invariant_of-self
 invariant_of-self c =
@@ -19,6 +24,7 @@ invariant_of-self c =
     record {
       rises = subst (λ (l : List (ℕ × Fraction)). Rises 0 s.width l) (sym kept) (replaced_rises 0 s.width c.args.column c.args.value s.entries.items c.requires.not_zero c.self.invariant.rises);
       room = c.self.invariant.room;
+      marked = subst (AllMarked s.marks) (sym kept) (replaced_marked s.marks c.args.column c.args.value s.entries.items c.self.invariant.marked);
     }
 
 apart : (a b : ℕ) → a ≢ b → b ≢ a
