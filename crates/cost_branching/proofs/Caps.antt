@@ -22,7 +22,7 @@ pub lows_from : (p : DesignProblem) → IsProblem p → All (λ low. 1 ≤ low) 
 lows_from p kept = All-from_get_or (λ low. 1 ≤ low) p.low 0 (λ k k_in. (kept.ordered k k_in).0)
 
 -- costs of the box at a cap are costs of the box
-uncapped : (box : CostBox) (cap : ℕ) (w : List ℕ) → IsInBox (capped box cap) w → IsInBox box w
+pub uncapped : (box : CostBox) (cap : ℕ) (w : List ℕ) → IsInBox (capped box cap) w → IsInBox box w
 uncapped box cap w inside =
     let count = length-map box.high (λ h. min h cap) in
     record {

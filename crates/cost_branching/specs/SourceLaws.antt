@@ -13,7 +13,8 @@ use Rattle.cost_base.proofs.ListLemmas.{length-numbers_from, get_or-numbers_from
 use Rattle.area_graph.specs.declared.Point.{Point}
 use Rattle.area_graph.specs.declared.Price.{Price}
 use Rattle.area_graph.specs.declared.Price.TheVariants.{Fixed, Var, Zero}
-use Rattle.area_graph.specs.Area.{Area, edge_at}
+use Rattle.area_graph.specs.Area.{Area, FitsGraph, edge_at}
+use Rattle.area_graph.specs.Paths.{Ends, IsPathOf}
 use Rattle.area_graph.specs.Costs.{IsPriced, LeadsBy, at_costs, cost, price_at}
 use Rattle.path_rows.specs.declared.problem.Request.{Request}
 use Rattle.path_rows.specs.declared.form.Row.{Row}
@@ -57,7 +58,7 @@ pub paths_of_row : (p : DesignProblem) (row : Row) → IsProblem p → IsRivalOf
 paths_of_row p row kept rival =
     row_paths p row no_request (path_at p row) row.rival.edges kept (route_of_rival p.graph (slice_get p.paths row.request) row.rival.edges rival) refl refl
 
-at_least : (rival wanted scale : ℕ) → wanted + scale ≤ rival → pos 0 ≤ℤ ((pos rival -ℤ pos wanted) -ℤ pos scale)
+pub at_least : (rival wanted scale : ℕ) → wanted + scale ≤ rival → pos 0 ≤ℤ ((pos rival -ℤ pos wanted) -ℤ pos scale)
 at_least rival wanted scale dearer = omega (arith, ints)
 
 -- a row's form is at least 0 where each path leads
@@ -83,7 +84,7 @@ true_forms_hold p form is =
 
 -- Every true form stands in the list of the candidates.
 
-contains-map : {X Y : Type 0} (f : X → Y) (xs : List X) (x : X) → Contains xs x → Contains (map f xs) (f x)
+pub contains-map : {X Y : Type 0} (f : X → Y) (xs : List X) (x : X) → Contains xs x → Contains (map f xs) (f x)
 contains-map f xs x has = (has.0, omega (arith, length-map xs f, has.1), get_or-map f xs has.0 x (f x) has.1 ∙ ap f has.2)
 
 begun-at : (xs : List ℕ) (lists : List (List ℕ)) (y : ℕ) (ys : List ℕ) (k : ℕ) → k < length xs → get_or xs k y ≡ y → Contains lists ys → Contains (begun_by xs lists) (y ∷ ys)
@@ -115,13 +116,18 @@ form-listed p (r ∷ rs) (suc k) es rival has =
     Contains-append_right (map (form_between p.graph (length p.low) r.path.edges) (edge_lists p)) (forms_of_requests p rs) (form_between p.graph (length p.low) (path_edges (slice_get rs k)) es)
     (form-listed p rs k es rival has)
 
+-- the edges of a simple path are one of the short lists
+pub path_listed : (p : DesignProblem) (ends : Ends) (es : List ℕ) → FitsGraph p.graph → IsPathOf p.graph ends es → Contains (edge_lists p) es
+path_listed p ends es fits path =
+    let known = path-known p.graph ends es path in
+    let short = simple-short p.graph ends.start es ends.end fits path.simple in
+    within-listed (numbers_from 0 (length p.graph.edges)) (length p.graph.vertices) es (λ k d k_in. number-listed (length p.graph.edges) (get_or es k d) (known k d k_in)) (omega (arith, short))
+
 pub true_forms_listed : (p : DesignProblem) (form : Form) → IsTrueOf p form → Contains (candidate_forms p) form
 true_forms_listed p form is =
     let row = is.of_row.row in
     let path = (paths_of_row p row is.kept.problem is.of_row.is_row).rival_path in
-    let known = path-known p.graph _ row.rival.edges path in
-    let short = simple-short p.graph _ row.rival.edges _ is.kept.graph path.simple in
-    let has = within-listed (numbers_from 0 (length p.graph.edges)) (length p.graph.vertices) row.rival.edges (λ k d k_in. number-listed (length p.graph.edges) (get_or row.rival.edges k d) (known k d k_in)) (omega (arith, short)) in
+    let has = path_listed p _ row.rival.edges is.kept.graph path in
     subst (λ (f : Form). Contains (candidate_forms p) f) is.of_row.same (form-listed p p.paths row.request row.rival.edges is.of_row.is_row has)
 
 -- A path that leads at multiples of costs leads at the costs.
@@ -136,7 +142,7 @@ scaled_price w scale (Fixed c) = omega arith
 scaled_price w scale (Var v) = scaled_at w scale v
 scaled_price w scale Zero = omega arith
 
-scaled_cost : (g : Area) (w : List ℕ) (scale : ℕ) (es : List ℕ) → cost g (scaled w scale) es ≡ cost g (at_costs w) es * scale
+pub scaled_cost : (g : Area) (w : List ℕ) (scale : ℕ) (es : List ℕ) → cost g (scaled w scale) es ≡ cost g (at_costs w) es * scale
 scaled_cost g w scale [] = omega arith
 scaled_cost g w scale (e ∷ es) =
     let here = scaled_price w scale (edge_at g e).price in
@@ -144,7 +150,7 @@ scaled_cost g w scale (e ∷ es) =
     rw (sum_by-cons (λ x. price_at (scaled w scale) (edge_at g x).price) e es, sum_by-cons (λ x. price_at (at_costs w) (edge_at g x).price) e es)
     (omega arith)
 
-divided : (a b scale : ℕ) → 0 < scale → a * scale + scale ≤ b * scale → a + 1 ≤ b
+pub divided : (a b scale : ℕ) → 0 < scale → a * scale + scale ≤ b * scale → a + 1 ≤ b
 divided a b scale some more =
     elim (cases_lt a b) [
       | inl less ↦ omega arith

@@ -90,7 +90,11 @@ fn is_beaten(problem: &Problem, request: u32, point: &Point, room: &mut Room) ->
 }
 
 /// The row of a request and a rival's edges. Its own start plays no part.
-fn row_of(alloc: Global, request: u32, edges: &[u32]) -> Result<Row, OutOfMemory>
+///
+/// # Errors
+///
+/// `OutOfMemory`.
+pub fn row_of(alloc: Global, request: u32, edges: &[u32]) -> Result<Row, OutOfMemory>
     ensures request { IfOk result (λ row. row.request ≡ request) }
     ensures edges { IfOk result (λ row. row.rival.edges ≡ edges.now) }
 {

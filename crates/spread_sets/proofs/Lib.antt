@@ -1,0 +1,9 @@
+pub mod SetLaws
+pub mod SpreadLaws
+pub mod PrintedSets
+pub mod Ties
+pub mod AskedSets
+pub mod MadeSets
+pub mod TieForms
+pub mod Separations
+pub mod Findings

@@ -1,0 +1,62 @@
+-- What is answered of the sets of a problem.
+use Rattle.std.specs.Prelude.{◌≡◌, ℕ, ◌≤◌, List, [], ◌∷◌, map, length, codes, All, Some}
+use Rattle.cost_base.specs.Decimal.{decimal}
+use Rattle.path_rows.specs.declared.form.CostBox.{CostBox}
+use Rattle.path_rows.specs.declared.tree.Entry.{Entry}
+use Rattle.path_rows.specs.Problems.{DesignProblem}
+use Rattle.path_rows.specs.Boxes.{capped}
+use Rattle.path_rows.specs.Rows.{box_of}
+use Rattle.path_rows.specs.Trees.{IsClosed}
+use Rattle.path_rows.specs.Answers.{greatest_bound}
+use Rattle.path_rows.specs.Text.{row_line, spaced, tree_lines}
+use Rattle.printed_rows.specs.PrintedTrees.{IsPrintedOver, IsSpentOver}
+use Rattle.spread_sets.specs.declared.spread.SetRow.{SetRow}
+use Rattle.spread_sets.specs.declared.spread.SetRow.TheVariants.{Rival, Same}
+use Rattle.spread_sets.specs.declared.spread.Spread.{Spread}
+use Rattle.spread_sets.specs.declared.spread.Spread.TheVariants.{Fit, Impossible, Unknown}
+use Rattle.spread_sets.specs.Spreads.{IsFormOfSetRow, IsSetRow, IsSpreadFit, SharesEach, all_sets, forms_of_set_rows}
+
+-- the box at the greatest upper bound
+abbrev pub whole_box : DesignProblem → CostBox
+whole_box p = capped (box_of p) (greatest_bound p)
+
+-- how a row is printed
+abbrev pub set_row_line : SetRow → List ℕ
+set_row_line (Rival name rival) = row_line (record { request = name; rival = rival })
+set_row_line (Same name i j) = spaced (codes "same" ∷ decimal name ∷ decimal i ∷ decimal j ∷ [])
+
+-- rows and a tree that fit a text: no line of them passes 65,536 bytes
+abbrev pub IsLine : List ℕ → Type 0
+IsLine line = length line ≤ 65536
+
+pub record FitText (cap : ℕ) (rows : List SetRow) (tree : List Entry) : Type 0 where
+  pub rows_fit : All IsLine (spaced (codes "rows" ∷ decimal (length rows) ∷ []) ∷ map set_row_line rows)
+  pub proof_fits : All IsLine (tree_lines (codes "proof") (Some (record { cap = cap; tree = tree })))
+  pub open_fits : All IsLine (tree_lines (codes "open") (Some (record { cap = cap; tree = tree })))
+
+-- no costs are spread-fit
+abbrev pub HasNoSpread : DesignProblem → List (List ℕ) → Type 0
+HasNoSpread p sets = (w : List ℕ) → IsSpreadFit p sets w → ⊥
+
+-- Rows and a tree of them over the box at the greatest upper bound: each row is one of the sets', the tree is earnest, and
+-- both fit a text.
+pub record IsTreeOfSets (p : DesignProblem) (sets : List (List ℕ)) (top nodes : ℕ) (rows : List SetRow) (tree : List Entry) : Type 0 where
+  pub true_rows : All (IsSetRow p sets) rows
+  pub printed : IsPrintedOver (SharesEach p sets) (IsFormOfSetRow p sets) top nodes (forms_of_set_rows p rows) (whole_box p) tree
+  pub fits : FitText (greatest_bound p) rows tree
+
+-- one of spent budget: it has an Undone and exactly N entries
+pub record IsSpentOfSets (p : DesignProblem) (sets : List (List ℕ)) (top nodes : ℕ) (rows : List SetRow) (tree : List Entry) : Type 0 where
+  pub true_rows : All (IsSetRow p sets) rows
+  pub spent : IsSpentOver (SharesEach p sets) (IsFormOfSetRow p sets) top nodes (forms_of_set_rows p rows) (whole_box p) tree
+  pub fits : FitText (greatest_bound p) rows tree
+
+-- what is found of sets: spread-fit costs; a closed tree, and there are none; or a tree of spent budget
+abbrev pub IsFoundOf : DesignProblem → List (List ℕ) → ℕ → ℕ → Spread → Type 0
+IsFoundOf p sets top nodes (Fit w) = IsSpreadFit p sets w
+IsFoundOf p sets top nodes (Impossible rows tree) = IsTreeOfSets p sets top nodes rows.items tree × IsClosed tree × HasNoSpread p sets
+IsFoundOf p sets top nodes (Unknown rows tree) = IsSpentOfSets p sets top nodes rows.items tree
+
+-- what is answered of the sets of lines and the paths in no line
+abbrev pub IsSpreadFound : DesignProblem → List (List ℕ) → ℕ → ℕ → Spread → Type 0
+IsSpreadFound p lines top nodes found = IsFoundOf p (all_sets p lines) top nodes found

@@ -1,0 +1,7 @@
+pub mod Spreads
+pub mod Answers
+pub mod Laws
+pub mod MemberSets
+pub mod Sources
+pub mod Asking
+pub mod SourceLaws

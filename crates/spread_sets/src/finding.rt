@@ -1,0 +1,116 @@
+//! Costs that spread traffic over sets of wanted paths.
+ghost use Rattle.std.specs.Prelude.{◌≡◌, ℕ, ◌≤◌, List, length, All, IfOk};
+ghost use Rattle.path_rows.specs.Answers.{greatest_bound};
+ghost use Rattle.path_rows.specs.Boxes.{IsBox};
+ghost use Rattle.set_reader.specs.SpreadSets.{AreSetsOf};
+ghost use Rattle.spread_sets.specs.Answers.{IsFoundOf, IsSpreadFound, whole_box};
+ghost use Rattle.spread_sets.specs.MemberSets.{AreMemberSets, HasTree, sets_in};
+ghost use Rattle.spread_sets.specs.Sources.{IsSought};
+
+use crate::member_sets::{MemberSet, all_sets, with_trees};
+use crate::source::{Begun, Spreads};
+use crate::spread::{SetRow, Spread};
+use cost_base::OutOfMemory;
+use cost_branching::keeps_conditions;
+use form_search::{FormPool, Found, search};
+use path_rows::{CostBox, Problem, box_at};
+use printed_rows::{PrintedTree, greatest_of, printed};
+use set_reader::Sets;
+use std::alloc::Global;
+use std::marker::Brand;
+use wide_fraction::Limits;
+
+/// What a search found, and the rows of the forms that it knew.
+#[derive(Drop)]
+pub(crate) struct Sought {
+    pub(crate) rows: Vec<SetRow>,
+    pub(crate) found: Found,
+}
+
+/// Searches a box for costs at which the members of each set tie and every other path is dearer.
+fn search_sets<B: Begun>(
+    alloc: Global,
+    problem: &Problem,
+    sets: Vec<MemberSet>,
+    costs: &CostBox,
+    limits: &Limits,
+) -> Result<Sought, OutOfMemory>
+    requires problem { problem.now ≡ B.problem }
+    requires sets { sets_in sets.items ≡ B.sets }
+    requires trees { All (HasTree problem.now) sets.items }
+    requires ranges { IsBox (length problem.now.low) costs.now }
+    requires lows { All (λ low. 1 ≤ low) costs.now.low }
+    ensures { IfOk result (IsSought problem.now (sets_in sets.items) limits.now.top limits.now.nodes costs.now) }
+{
+    keeps_conditions(problem);
+    let mut source = Spreads::<B>::new(alloc, problem, sets)?;
+    let mut pool = FormPool::new(alloc);
+    source.begin(alloc, &mut pool)?;
+    let mut advisors = Vec::new(alloc);
+    let found = search(alloc, &mut source, costs, limits, &mut pool, &mut advisors)?;
+    Ok(Sought {
+        rows: source.into_rows(),
+        found,
+    })
+}
+
+/// What was found, with the rows that a tree names and the tree with their new numbers.
+fn answered(
+    alloc: Global,
+    problem: &Problem,
+    limits: &Limits,
+    sought: Sought,
+) -> Result<Spread, OutOfMemory>
+    requires ceiling { greatest_bound problem.now ≤ 65535 }
+    requires sought { (sets : List (List ℕ)) × AreMemberSets problem.now sets × IsSought problem.now sets limits.now.top limits.now.nodes (whole_box problem.now) sought }
+    ensures { (sets : List (List ℕ)) → AreMemberSets problem.now sets → IsSought problem.now sets limits.now.top limits.now.nodes (whole_box problem.now) sought
+        → IfOk result (IsFoundOf problem.now sets limits.now.top limits.now.nodes) }
+{
+    keeps_conditions(problem);
+    let Sought { rows, found } = sought;
+    match found {
+        Found::Costs(costs) => Ok(Spread::Fit(costs)),
+        Found::Refuted(tree) => {
+            let PrintedTree { rows, tree } = printed(alloc, rows, &tree)?;
+            Ok(Spread::Impossible { rows, tree })
+        }
+        Found::Spent(tree) => {
+            let PrintedTree { rows, tree } = printed(alloc, rows, &tree)?;
+            Ok(Spread::Unknown { rows, tree })
+        }
+    }
+}
+
+/// How many wanted paths there are.
+fn path_count(problem: &Problem) -> u32
+    ensures { result ≡ length problem.now.paths }
+{
+    problem.paths.as_slice().len() as u32
+}
+
+/// Looks for costs at which the members of each set cost the same and every other simple path between their ends costs
+/// more. `sets` are those of the `set` lines; each path in none of them is a set by itself.
+///
+/// Fit has such costs. Impossible comes with a closed earnest tree over the box at the greatest upper bound, and Unknown
+/// with an earnest tree over that box that has an Undone and exactly `limits.nodes` entries.
+///
+/// # Errors
+///
+/// `OutOfMemory`.
+pub fn find_spread(
+    alloc: Global,
+    problem: &Problem,
+    sets: &Sets,
+    limits: &Limits,
+) -> Result<Spread, OutOfMemory>
+    requires { AreSetsOf problem.now sets.now }
+    ensures { IfOk result (IsSpreadFound problem.now sets.now limits.now.top limits.now.nodes) }
+{
+    keeps_conditions(problem);
+    let all = all_sets(alloc, sets.as_slice(), path_count(problem))?;
+    let grown = with_trees(alloc, problem, all)?;
+    let cap = greatest_of(problem.high.as_slice());
+    let costs = box_at(alloc, problem, cap)?;
+    let sought = search_sets::<Brand>(alloc, problem, grown, &costs, limits)?;
+    answered(alloc, problem, limits, sought)
+}

@@ -1,0 +1,46 @@
+//! The forms of the rows of sets.
+ghost use Rattle.std.specs.Prelude.{◌≡◌, ◌^◌, ◌<◌, pos, ◌+ℤ◌, nat_abs, length, slice_get, IfOk};
+ghost use Rattle.path_rows.specs.Rows.{IsRouteOf};
+ghost use Rattle.spread_sets.specs.Spreads.{edges_of, form_of_tie};
+
+use crate::member_sets::request_of;
+use cost_base::OutOfMemory;
+use cost_branching::row_of;
+use path_rows::{Form, Problem, Term, form_of};
+use std::alloc::Global;
+
+/// The same terms.
+fn copied(alloc: Global, terms: &[Term]) -> Result<Vec<Term>, OutOfMemory>
+    ensures { IfOk result (λ copy. copy.items ≡ terms.now) }
+{
+    match terms.to_vec(alloc) {
+        Ok(copy) => Ok(copy),
+        Err(_) => Err(OutOfMemory),
+    }
+}
+
+/// The form with 1 more.
+fn with_one_more(alloc: Global, form: &Form) -> Result<Form, OutOfMemory>
+    requires { nat_abs form.now.constant < 2 ^ 27 }
+    ensures { IfOk result (λ more. more ≡ record form.now { constant = form.now.constant +ℤ pos 1 }) }
+{
+    let terms = copied(alloc, form.terms())?;
+    Ok(Form::from_terms(form.variables(), form.constant() + 1, terms))
+}
+
+/// The form cost(second) - cost(first) of two paths that lead between the same ends.
+pub(crate) fn form_of_tie(
+    alloc: Global,
+    problem: &Problem,
+    first: u32,
+    second: u32,
+) -> Result<Form, OutOfMemory>
+    requires second { second < length problem.now.paths }
+    requires same_ends { IsRouteOf problem.now.graph (slice_get problem.now.paths first) (edges_of problem.now second) }
+    ensures { IfOk result (λ form. form ≡ form_of_tie problem.now.graph (length problem.now.low) (edges_of problem.now first) (edges_of problem.now second)) }
+{
+    let other = request_of(problem, second);
+    let row = row_of(alloc, first, other.path.edges.as_slice())?;
+    let form = form_of(alloc, problem, &row)?;
+    with_one_more(alloc, &form)
+}

@@ -1,0 +1,429 @@
+//! The rivals and the ties of a problem's sets, as the source of a search.
+ghost use Rattle.std.specs.Prelude.{◌≡◌, ◌<◌, ◌++◌, ◌∷◌, [], length, slice_index, All, Contains, IfOk, IsTrue, MatchBool, OnErr, OnOk, ◌↔◌};
+ghost use Rattle.area_graph.specs.Costs.{cost};
+ghost use Rattle.spf_ties.specs.Distances.{IsRoomFor};
+ghost use Rattle.form_search.specs.Sources.{AreMet, Grows, IsCostPoint};
+ghost use Rattle.spread_sets.specs.declared.spread.SetRow.TheVariants.{Same};
+ghost use Rattle.spread_sets.specs.Spreads.{AreTied, Shares, SharesEach, edges_of, first_of, form_of_set_row, forms_of_set_rows};
+ghost use Rattle.cost_branching.specs.Rivals.{IsKept};
+ghost use Rattle.spread_sets.specs.MemberSets.{AreMemberSets, HasTree, IsReady, sets_in};
+ghost use Rattle.spread_sets.specs.Sources.{AreInStep, IsDearer, IsTooCheap, IsTrueOfSets, both_ways, set_at, tie_rows, ties_in};
+ghost use Rattle.spread_sets.specs.Asking.{AreAllAsked, IsAskedOf};
+
+use crate::member_sets::{MemberSet, first_of, most_places, request_of};
+use crate::row_forms::form_of_tie;
+use crate::spread::SetRow;
+use area_graph::{Point, path_cost};
+use cost_base::OutOfMemory;
+use cost_branching::{keeps_conditions, row_of};
+use form_search::{Asked, FormPool, RowSource};
+use path_rows::{Form, Problem, form_of};
+use set_separation::find_outsider;
+use spf_ties::Room;
+use std::alloc::Global;
+use std::marker::{Brand, Model, PhantomData};
+
+/// The problem of a search and its sets, for proofs alone: each call of a search picks its own.
+pub(crate) trait Begun {
+    ghost use Rattle.std.specs.Prelude.{ℕ, List};
+    ghost use Rattle.path_rows.specs.Problems.{DesignProblem};
+
+    ghost problem: { DesignProblem };
+
+    ghost sets: { List (List ℕ) };
+}
+
+impl Begun for Brand {
+    ghost use Rattle.std.specs.Prelude.{[]};
+    ghost use Rattle.cost_branching.specs.Rivals.{no_problem};
+
+    ghost problem = { no_problem };
+
+    ghost sets = { [] };
+}
+
+/// The source whose accepted points are those at which each set's members cost the same and every other simple path of
+/// their request costs at least the scale more. Its true forms are those of the rows of the sets. Contracts see the
+/// problem, the sets and the rows that are known.
+///
+/// It keeps room for distances, a cost for each place of the largest tree, and the rows of the pool's forms, in the same
+/// order.
+#[derive(Drop)]
+pub(crate) struct Spreads<'a, B: Begun> {
+    problem: &'a Problem,
+    sets: Vec<MemberSet>,
+    room: Room,
+    costs: Vec<u128>,
+    rows: Vec<SetRow>,
+    begun: PhantomData<B>,
+}
+
+impl<'a, B: Begun> Model for Spreads<'a, B> {
+    ghost use Rattle.std.specs.Prelude.{◌≡◌, length, All};
+    ghost use Rattle.spf_ties.specs.Distances.{IsRoomFor};
+    ghost use Rattle.spread_sets.specs.MemberSets.{IsReady, sets_in};
+    ghost use Rattle.spread_sets.specs.Sources.{KnownSets};
+
+    ghost Value = { KnownSets };
+
+    ghost view = { λ s. record { problem = s.problem.now; sets = sets_in s.sets.items; rows = s.rows.items } };
+
+    ghost invariant = { λ s. record {
+      problem : s.problem.now ≡ B.problem;
+      sets : sets_in s.sets.items ≡ B.sets;
+      room : IsRoomFor s.problem.now.graph s.room;
+      ready : All (IsReady s.problem.now (length s.costs.items)) s.sets.items;
+    } };
+}
+
+/// What a wanted path costs at a point.
+fn cost_of(problem: &Problem, path: u32, point: &Point) -> u128
+    requires point { IsCostPoint (length problem.now.low) point.now }
+    requires path { path < length problem.now.paths }
+    ensures { result ≡ cost problem.now.graph point.now (edges_of problem.now path) }
+{
+    keeps_conditions(problem);
+    path_cost(&problem.graph, &request_of(problem, path).path, point)
+}
+
+/// Whether the members of a set cost the same at a point.
+fn cost_the_same(problem: &Problem, members: &[u32], point: &Point) -> bool
+    requires point { IsCostPoint (length problem.now.low) point.now }
+    requires some { 0 < length members.now }
+    requires members { All (λ path. path < length problem.now.paths) members.now }
+    ensures { MatchBool result (AreTied problem.now point.now members.now) (AreTied problem.now point.now members.now → ⊥) }
+{
+    let first = cost_of(problem, first_of(members), point);
+    for member in members {
+        if cost_of(problem, *member, point) != first {
+            return false;
+        }
+    }
+    true
+}
+
+/// Whether a set whose members tie has a rival that costs less than they and the scale. Then the room keeps the edges of
+/// the cheapest.
+fn is_beaten(
+    problem: &Problem,
+    set: &MemberSet,
+    point: &Point,
+    costs: &mut Vec<u128>,
+    room: &mut Room,
+) -> bool
+    requires room { IsRoomFor problem.now.graph room.old }
+    requires point { IsCostPoint (length problem.now.low) point.now }
+    requires ready { IsReady problem.now (length costs.old.items) set.now }
+    requires tied { AreTied problem.now point.now set.now.members }
+    ensures room { IsRoomFor problem.now.graph room.new }
+    ensures count { length costs.new.items ≡ length costs.old.items }
+    ensures rival { MatchBool result (IsTooCheap problem.now point.now set.now.members room.new.path) (IsDearer problem.now point.now set.now.members) }
+{
+    keeps_conditions(problem);
+    let first = first_of(set.members.as_slice());
+    find_outsider(
+        &problem.graph,
+        request_of(problem, first),
+        point,
+        &set.tree,
+        costs.as_mut_slice(),
+        room,
+    )
+}
+
+impl<'a, B: Begun> Spreads<'a, B> {
+    /// The source of a problem's sets, where no row is known yet.
+    pub(crate) fn new(
+        alloc: Global,
+        problem: &'a Problem,
+        sets: Vec<MemberSet>,
+    ) -> Result<Spreads<'a, B>, OutOfMemory>
+        requires problem { problem.now ≡ B.problem }
+        requires sets { sets_in sets.items ≡ B.sets }
+        requires trees { All (HasTree problem.now) sets.items }
+        ensures { IfOk result (λ source. source ≡ record { problem = problem.now; sets = sets_in sets.items; rows = [] }) }
+    {
+        let room = Room::new(alloc, &problem.graph)?;
+        let places = most_places(sets.as_slice());
+        let costs = vec![in alloc; 0; places]?;
+        Ok(Spreads {
+            problem,
+            sets,
+            room,
+            costs,
+            rows: Vec::new(alloc),
+            begun: PhantomData,
+        })
+    }
+
+    /// The rows that are known.
+    pub(crate) fn into_rows(self) -> Vec<SetRow>
+        ensures rows { result.items ≡ self.entry.rows }
+        ensures problem { self.entry.problem ≡ B.problem }
+        ensures sets { self.entry.sets ≡ B.sets }
+    {
+        let Spreads {
+            problem: _,
+            sets: _,
+            room: _,
+            costs: _,
+            rows,
+            begun: _,
+        } = self;
+        rows
+    }
+
+    /// The problem keeps its conditions, and the sets theirs.
+    fn keeps(&self)
+        ensures kept { IsKept self.now.problem }
+        ensures sets { AreMemberSets self.now.problem self.now.sets }
+    {
+        keeps_conditions(self.problem);
+    }
+
+    /// How many sets there are.
+    fn count(&self) -> usize
+        ensures { result ≡ length self.now.sets }
+    {
+        self.sets.len()
+    }
+
+    /// Puts a row at the end, and its form at the end of the pool. Where memory is wanting both are as before.
+    fn push_row(&mut self, row: SetRow, form: Form, pool: &mut FormPool) -> Result<(), OutOfMemory>
+        requires { form ≡ form_of_set_row self.old.problem row }
+        ensures row { OnOk result (self.new ≡ record self.old { rows = self.old.rows ++ row ∷ [] }) }
+        ensures form { OnOk result (pool.new ≡ pool.old ++ form ∷ []) }
+        ensures same_rows { OnErr result (self.new ≡ self.old) }
+        ensures same_forms { OnErr result (pool.new ≡ pool.old) }
+    {
+        if self.rows.reserve(1).is_err() {
+            return Err(OutOfMemory);
+        }
+        pool.push(form)?;
+        self.rows.push_reserved(row);
+        Ok(())
+    }
+
+    /// The number by which the set at a place is named.
+    fn name(&self, place: usize) -> u32
+        requires { place < length self.now.sets }
+        ensures { result ≡ first_of (set_at self.now.sets place) }
+    {
+        first_of(self.sets[place].members.as_slice())
+    }
+
+    /// How many members the set at a place has.
+    fn members(&self, place: usize) -> usize
+        requires { place < length self.now.sets }
+        ensures { result ≡ length (set_at self.now.sets place) }
+    {
+        self.sets[place].members.as_slice().len()
+    }
+
+    /// A member of the set at a place.
+    fn member(&self, place: usize, number: usize) -> u32
+        requires place { place < length self.now.sets }
+        requires number { number < length (set_at self.now.sets place) }
+        ensures { result ≡ slice_index (set_at self.now.sets place) number }
+    {
+        self.sets[place].members.as_slice()[number]
+    }
+
+    /// Puts the row that keeps the second of two members at least as dear as the first.
+    fn push_tie(
+        &mut self,
+        alloc: Global,
+        place: usize,
+        first: u32,
+        second: u32,
+        pool: &mut FormPool,
+    ) -> Result<(), OutOfMemory>
+        requires place { place < length self.old.sets }
+        requires first { Contains (set_at self.old.sets place) first }
+        requires second { Contains (set_at self.old.sets place) second }
+        ensures row { OnOk result (self.new ≡ record self.old { rows = self.old.rows ++ Same (first_of (set_at self.old.sets place)) first second ∷ [] }) }
+        ensures form { OnOk result (pool.new ≡ pool.old ++ form_of_set_row self.old.problem (Same (first_of (set_at self.old.sets place)) first second) ∷ []) }
+    {
+        self.keeps();
+        let name = self.name(place);
+        let form = form_of_tie(alloc, self.problem, first, second)?;
+        self.push_row(SetRow::Same(name, first, second), form, pool)
+    }
+
+    /// Puts the two rows that keep two members of the set at a place at one cost.
+    fn push_both(
+        &mut self,
+        alloc: Global,
+        place: usize,
+        first: u32,
+        second: u32,
+        pool: &mut FormPool,
+    ) -> Result<(), OutOfMemory>
+        requires place { place < length self.old.sets }
+        requires first { Contains (set_at self.old.sets place) first }
+        requires second { Contains (set_at self.old.sets place) second }
+        ensures rows { OnOk result (self.new ≡ record self.old { rows = self.old.rows ++ both_ways (first_of (set_at self.old.sets place)) first second }) }
+        ensures forms { OnOk result (pool.new ≡ pool.old ++ forms_of_set_rows self.old.problem (both_ways (first_of (set_at self.old.sets place)) first second)) }
+    {
+        self.push_tie(alloc, place, first, second, pool)?;
+        self.push_tie(alloc, place, second, first, pool)?;
+        Ok(())
+    }
+
+    /// Puts the rows that keep each two neighbouring members of the set at a place at one cost.
+    fn push_ties(
+        &mut self,
+        alloc: Global,
+        place: usize,
+        pool: &mut FormPool,
+    ) -> Result<(), OutOfMemory>
+        requires { place < length self.old.sets }
+        ensures rows { OnOk result (self.new ≡ record self.old { rows = self.old.rows ++ ties_in (set_at self.old.sets place) }) }
+        ensures forms { OnOk result (pool.new ≡ pool.old ++ forms_of_set_rows self.old.problem (ties_in (set_at self.old.sets place))) }
+    {
+        for number in 1..self.members(place) {
+            let first = self.member(place, number - 1);
+            let second = self.member(place, number);
+            self.push_both(alloc, place, first, second, pool)?;
+        }
+        Ok(())
+    }
+
+    /// Puts the rows with which a search begins, and their forms: those that keep the members of each set at one cost.
+    pub(crate) fn begin(&mut self, alloc: Global, pool: &mut FormPool) -> Result<(), OutOfMemory>
+        requires rows { self.old.rows ≡ [] }
+        requires forms { pool.old ≡ [] }
+        ensures same { OnOk result (self.new ≡ record self.old { rows = tie_rows self.old.sets }) }
+        ensures in_step { OnOk result (AreInStep self.new pool.new) }
+    {
+        for place in 0..self.count() {
+            self.push_ties(alloc, place, pool)?;
+        }
+        Ok(())
+    }
+
+    /// Asks for the cheapest rival of the set at a place, whose members tie. Where it costs less than they and the scale it
+    /// becomes a row.
+    fn ask_one(
+        &mut self,
+        alloc: Global,
+        place: usize,
+        point: &Point,
+        pool: &mut FormPool,
+    ) -> Result<bool, OutOfMemory>
+        requires point { IsCostPoint (length self.old.problem.low) point.now }
+        requires place { place < length self.old.sets }
+        requires tied { AreTied self.old.problem point.now (set_at self.old.sets place) }
+        ensures one { IfOk result (IsAskedOf point.now place self.old pool.old self.new pool.new) }
+        ensures same_rows { OnErr result (self.new ≡ self.old) }
+        ensures same_forms { OnErr result (pool.new ≡ pool.old) }
+    {
+        self.keeps();
+        let set = &self.sets[place];
+        if !is_beaten(self.problem, set, point, &mut self.costs, &mut self.room) {
+            return Ok(false);
+        }
+        let name = first_of(set.members.as_slice());
+        let row = row_of(alloc, name, self.room.path())?;
+        let form = form_of(alloc, self.problem, &row)?;
+        self.push_row(SetRow::Rival(row.request, row.rival), form, pool)?;
+        Ok(true)
+    }
+
+    /// Whether the members of the set at a place tie, and every other path is dearer by the scale.
+    fn shares(&mut self, place: usize, point: &Point) -> bool
+        requires point { IsCostPoint (length self.old.problem.low) point.now }
+        requires place { place < length self.old.sets }
+        ensures same { self.new ≡ self.old }
+        ensures answer { MatchBool result (Shares self.old.problem point.now (set_at self.old.sets place)) (Shares self.old.problem point.now (set_at self.old.sets place) → ⊥) }
+    {
+        let set = &self.sets[place];
+        if !cost_the_same(self.problem, set.members.as_slice(), point) {
+            return false;
+        }
+        if is_beaten(self.problem, set, point, &mut self.costs, &mut self.room) {
+            return false;
+        }
+        true
+    }
+
+    /// Asks each set in order for its cheapest rival. Each that costs less than the members and the scale becomes a row.
+    fn ask_each(
+        &mut self,
+        alloc: Global,
+        point: &Point,
+        pool: &mut FormPool,
+    ) -> Result<Asked, OutOfMemory>
+        requires in_step { AreInStep self.old pool.old }
+        requires point { IsCostPoint (length self.old.problem.low) point.now }
+        requires met { AreMet pool.old point.now }
+        ensures asked { IfOk result (AreAllAsked point.now self.old pool.old self.new pool.new) }
+        ensures grows { Grows (IsTrueOfSets self.old.problem self.old.sets) pool.old pool.new }
+        ensures problem { self.new.problem ≡ self.old.problem }
+        ensures sets { self.new.sets ≡ self.old.sets }
+    {
+        self.keeps();
+        let mut asked = Asked::Nothing;
+        for place in 0..self.count() {
+            if self.ask_one(alloc, place, point, pool)? {
+                asked = Asked::Added;
+            }
+        }
+        Ok(asked)
+    }
+
+    /// Whether the members of each set tie, and every other path is dearer by the scale. It takes no memory.
+    fn shares_each(&mut self, point: &Point) -> bool
+        requires { IsCostPoint (length self.old.problem.low) point.now }
+        ensures same { self.new ≡ self.old }
+        ensures answer { IsTrue result ↔ SharesEach self.old.problem self.old.sets point.now }
+    {
+        for place in 0..self.count() {
+            if !self.shares(place, point) {
+                return false;
+            }
+        }
+        true
+    }
+}
+
+impl<'a, B: Begun> RowSource for Spreads<'a, B> {
+    ghost use Rattle.std.specs.Prelude.{length};
+    ghost use Rattle.spread_sets.specs.Spreads.{SharesEach};
+    ghost use Rattle.spread_sets.specs.Sources.{AreInStep, IsTrueOfSets, candidates_of};
+    ghost use Rattle.spread_sets.specs.SourceLaws.{scale_is_free, true_forms_hold, true_forms_listed};
+
+    ghost count = { λ s. length s.problem.low };
+
+    ghost accepted = { λ s. SharesEach s.problem s.sets };
+
+    ghost true_form = { λ s. IsTrueOfSets s.problem s.sets };
+
+    ghost in_step = { λ s forms. AreInStep s forms };
+
+    ghost candidates = { λ s. candidates_of s.problem };
+
+    fn variables(&self) -> u32 {
+        let problem = self.problem;
+        problem.low.as_slice().len() as u32
+    }
+
+    fn ask(
+        &mut self,
+        alloc: Global,
+        point: &Point,
+        pool: &mut FormPool,
+    ) -> Result<Asked, OutOfMemory> {
+        self.ask_each(alloc, point, pool)
+    }
+
+    fn accepts(&mut self, point: &Point) -> bool {
+        self.shares_each(point)
+    }
+
+    ghost true_forms_hold = { λ s. true_forms_hold s.problem s.sets };
+
+    ghost true_forms_listed = { λ s. true_forms_listed s.problem s.sets };
+
+    ghost scale_is_free = { λ s. scale_is_free s.problem s.sets };
+}

@@ -1,0 +1,35 @@
+//! What is found of the sets of a problem.
+use area_graph::Path;
+use path_rows::{CostList, Tree};
+
+/// A row of a set, which is named by the least number in it.
+#[derive(Drop)]
+pub enum SetRow {
+    /// A rival of a set: a simple path of the request that is no member. Its form is cost(rival) - cost(first member) - 1.
+    /// The rival's edges are taken from the start of the request's path; its own `start` plays no part.
+    Rival(u32, Path),
+    /// Two members of a set, I and J. Its form is cost(J) - cost(I).
+    Same(u32, u32, u32),
+}
+
+/// What is found: costs under which the members of each set tie and every other path is dearer, or why there are none, or
+/// that the budget was used up.
+#[derive(Drop)]
+pub enum Spread {
+    /// Such costs, one for each variable.
+    Fit(CostList),
+    /// There are none.
+    Impossible {
+        /// The rows that the tree uses.
+        rows: Vec<SetRow>,
+        /// A closed tree over the box at the greatest upper bound.
+        tree: Tree,
+    },
+    /// The node budget was used up.
+    Unknown {
+        /// The rows that the tree uses.
+        rows: Vec<SetRow>,
+        /// The unfinished tree over the box at the greatest upper bound.
+        tree: Tree,
+    },
+}
