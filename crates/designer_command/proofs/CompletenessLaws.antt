@@ -1,6 +1,6 @@
 -- When a run has to answer.
 use Rattle.std.proofs.Common.{◌≡◌, ◌∙◌, ℕ, ◌+◌, ◌<◌, ◌≤◌, refl, sym, ap, subst, arith, List, [], ◌∷◌, ◌++◌, Bool, true, cond, inl, inr}
-use Rattle.std.specs.Prelude.{◌⊎◌, All, Option, None, Some, Result, Ok, Err, bytes_eq}
+use Rattle.std.specs.Prelude.{All, Option, None, Some, Result, Ok, Err, bytes_eq}
 use Rattle.std.proofs.lemmas.List.Sums.{sum_by-cons}
 use Rattle.std.proofs.lemmas.Slice.Eq.{bytes_eq-Decides}
 use Rattle.cost_base.specs.declared.ShelfStop.{ShelfStop}
@@ -13,7 +13,7 @@ use Rattle.cost_base.specs.Histories.{Taken, CountsFailures, failure, failures}
 use Rattle.path_rows.specs.declared.answer.CapTree.{CapTree}
 use Rattle.path_rows.specs.declared.answer.Costs.{Costs}
 use Rattle.path_rows.specs.Problems.{DesignProblem}
-use Rattle.path_rows.specs.Rows.{IsFit, IsBest}
+use Rattle.path_rows.specs.Rows.{IsBest}
 use Rattle.path_rows.specs.Answers.{AnswerParts}
 use Rattle.path_rows.specs.ProblemLaws.{HasNoFit}
 use Rattle.path_rows.specs.Text.{text}
@@ -28,59 +28,24 @@ use Rattle.command_words.specs.Jobs.{Bounds, JobRead}
 use Rattle.command_words.specs.Jobs as read
 use Rattle.command_words.specs.Commands.{job_of}
 use Rattle.case_maker.specs.Cases.{made_case}
-use Rattle.input_files.specs.declared.problem.View.TheVariants.{AsRequested, AtPresent}
 use Rattle.input_files.specs.Readings.{Reading, Take, Refused, Ready, End, Says, Faulty, Failed, too_long, OnCame, EndsAs}
-use Rattle.input_files.specs.Outcomes.{Input, outcome}
-use Rattle.input_files.proofs.Readings.{faulty_failed, one_end, one_said, said_faulty, said_failed}
+use Rattle.input_files.specs.Outcomes.{Input}
+use Rattle.input_files.proofs.Readings.{faulty_failed, said_failed}
 use Rattle.answer_commands.specs.declared.rejection.Rejection.{Rejection}
-use Rattle.answer_commands.specs.Checks.{IsTextOf, claim_read}
-use Rattle.answer_commands.specs.Rewrites.{IsUnfit, new_costs, revision_read}
-use Rattle.lsa_commands.specs.Lsas.{identified_read}
-use Rattle.lsa_commands.specs.Routes.{route_read}
+use Rattle.answer_commands.specs.Checks.{IsTextOf}
+use Rattle.answer_commands.specs.Rewrites.{IsUnfit, new_costs}
 use Rattle.designer_command.specs.Designs.{IsDesigned, IsShownImpossible, IsShownUndecided}
 use Rattle.designer_command.specs.Trials.{MayTry, MayTryEnd, case_end, trial_limits}
-use Rattle.designer_command.specs.Runs.{MayAfter, MayAudit, MayCheck, MayDesign, MayRewrite, MayWrite, OnFailure, RunMeets, Writes, files_of}
+use Rattle.designer_command.specs.Runs.{MayAudit, MayCheck, MayDesign, MayRewrite, MayWrite, OnFailure, RunMeets, Writes}
 use Rattle.designer_command.specs.Completeness.{CannotSpend, DesignsAreAccepted, HeadedCostsAreWritten, IsSettled, MadeCasesAreDesigned, ValidAnswersAreAccepted, WellFormedInputIsAudited, WellFormedInputIsDesigned}
-
--- where the files say this, a command writes its own text with a status that it may have
-pub says_so : {A : Type 0} (reading : Reading A) (may : A → Status → List ℕ → Type 0) (came : List Taken) (x : A) (end : Status) (bytes : List ℕ) → EndsAs reading came (Says x) → MayAfter reading may came end bytes → may x end bytes
-says_so {A} reading may came x status.Done bytes ends h = subst (λ (y : A). may y status.Done bytes) (one_said h.said x (one_end reading came (Says h.said) (Says x) h.ends ends)) h.allowed
-says_so {A} reading may came x status.Impossible bytes ends h = subst (λ (y : A). may y status.Impossible bytes) (one_said h.said x (one_end reading came (Says h.said) (Says x) h.ends ends)) h.allowed
-says_so {A} reading may came x status.Undecided bytes ends h = subst (λ (y : A). may y status.Undecided bytes) (one_said h.said x (one_end reading came (Says h.said) (Says x) h.ends ends)) h.allowed
-says_so reading may came x status.InputRefused bytes ends h = absurd (said_faulty x h.fault (one_end reading came (Says x) (Faulty h.fault) ends h.ends))
-says_so reading may came x status.ReadFault bytes ends h = absurd (said_failed x h.file (one_end reading came (Says x) (Failed h.file) ends h.ends))
-says_so reading may came x status.WriteFault bytes ends h = absurd h
-says_so reading may came x status.OutOfMemory bytes ends h = absurd h
-says_so {A} reading may came x status.WordsRefused bytes ends h = subst (λ (y : A). may y status.WordsRefused bytes) (one_said h.said x (one_end reading came (Says h.said) (Says x) h.ends ends)) h.allowed
-says_so {A} reading may came x status.EvidenceRefused bytes ends h = subst (λ (y : A). may y status.EvidenceRefused bytes) (one_said h.said x (one_end reading came (Says h.said) (Says x) h.ends ends)) h.allowed
+use Rattle.designer_command.proofs.OwnStatuses.{only_done, own_audit, own_check, own_design, own_end, own_rewrite, own_try, said_end}
 
 pub audited : WellFormedInputIsAudited
-audited names came d end bytes ends h = done end (says_so _ MayAudit came d end bytes ends h)
-  where
-    done : (end : Status) → MayAudit d end bytes → end ≡ status.Done
-    done status.Done h = refl
-    done status.Impossible h = absurd h
-    done status.Undecided h = absurd h
-    done status.InputRefused h = absurd h
-    done status.ReadFault h = absurd h
-    done status.WriteFault h = absurd h
-    done status.OutOfMemory h = absurd h
-    done status.WordsRefused h = absurd h
-    done status.EvidenceRefused h = absurd h
+audited names came d end bytes ends h = only_done _ MayAudit came d end bytes own_audit (λ h. h) (λ h. h) (λ h. h) ends h
 
 pub accepted : ValidAnswersAreAccepted
-accepted names answer came claim a end bytes ends value spelled valid h = done end (says_so _ MayCheck came claim end bytes ends h)
-  where
-    done : (end : Status) → MayCheck claim end bytes → end ≡ status.Done
-    done status.Done h = refl
-    done status.Impossible h = absurd h
-    done status.Undecided h = absurd h
-    done status.InputRefused h = absurd h
-    done status.ReadFault h = absurd h
-    done status.WriteFault h = absurd h
-    done status.OutOfMemory h = absurd h
-    done status.WordsRefused h = absurd h
-    done status.EvidenceRefused h = absurd (h.1.never a value spelled valid)
+accepted names answer came claim a end bytes ends value spelled valid h =
+    only_done _ MayCheck came claim end bytes own_check (λ h. h) (λ h. h) (λ h. h.1.never a value spelled valid) ends h
 
 -- best costs settle a problem, and so does that there are no fit ones
 pub best_settles : (p : DesignProblem) (w : List ℕ) → IsBest p w → IsSettled p status.Done
@@ -107,32 +72,24 @@ never_undecided limits p bytes never shown = by_tree shown.answer.unfinished sho
         never t.cap shown.answer.rows t.tree (subst (λ (cap : ℕ). All (λ low. low ≤ cap) p.low) (sym h.0) shown.undecided.no_higher) shown.undecided.rows h.1.printed.earnest h.1.undone h.1.spent
 
 pub designed : WellFormedInputIsDesigned
-designed limits names came d end bytes ends never h = settled end (says_so _ (MayDesign limits) came d end bytes ends h)
-  where
-    settled : (end : Status) → MayDesign limits d end bytes → IsSettled d.problem end
-    settled status.Done h = best_settles d.problem h.costs h.best
-    settled status.Impossible h = none_settles d.problem h.none
-    settled status.Undecided h = absurd (never_undecided limits d.problem bytes never h)
-    settled status.InputRefused h = absurd h
-    settled status.ReadFault h = absurd h
-    settled status.WriteFault h = absurd h
-    settled status.OutOfMemory h = absurd h
-    settled status.WordsRefused h = absurd h
-    settled status.EvidenceRefused h = absurd h
+designed limits names came d end bytes ends never h =
+    said_end _ (MayDesign limits) came d end bytes (IsSettled d.problem) (own_design limits)
+    (record {
+      done = λ h. best_settles d.problem h.costs h.best;
+      impossible = λ h. none_settles d.problem h.none;
+      undecided = λ h. absurd (never_undecided limits d.problem bytes never h);
+      rejected = λ h. absurd h;
+    }) ends h
 
 pub cases_designed : MadeCasesAreDesigned
-cases_designed blocks start d end bytes says never h = settled end (subst (λ (e : End Input). MayTryEnd blocks start e end bytes) says h)
-  where
-    settled : (end : Status) → MayTry blocks start d end bytes → IsSettled d.problem end
-    settled status.Done h = best_settles d.problem h.costs h.best
-    settled status.Impossible h = none_settles d.problem h.is_text.none
-    settled status.Undecided h = absurd (never_undecided trial_limits d.problem h.behind never h.is_text)
-    settled status.InputRefused h = absurd h
-    settled status.ReadFault h = absurd h
-    settled status.WriteFault h = absurd h
-    settled status.OutOfMemory h = absurd h
-    settled status.WordsRefused h = absurd h
-    settled status.EvidenceRefused h = absurd h
+cases_designed blocks start d end bytes says never h =
+    own_end (MayTry blocks start) d end bytes (IsSettled d.problem) (own_try blocks start)
+    (record {
+      done = λ h. best_settles d.problem h.costs h.best;
+      impossible = λ h. none_settles d.problem h.is_text.none;
+      undecided = λ h. absurd (never_undecided trial_limits d.problem h.behind never h.is_text);
+      rejected = λ h. absurd h;
+    }) (subst (λ (e : End Input). MayTryEnd blocks start e end bytes) says h)
 
 pub designs_accepted : DesignsAreAccepted
 designs_accepted limits d aim printed (inl is) may names answer came end bytes ends h =
@@ -153,7 +110,8 @@ none_some : (x : Costs) → None ≡ Some x → ⊥
 none_some x e = cc
 
 pub written : HeadedCostsAreWritten
-written config answer came r a costs end bytes ends value spelled printed headed h = done end (says_so _ MayRewrite came r end bytes ends h)
+written config answer came r a costs end bytes ends value spelled printed headed h =
+    only_done _ MayRewrite came r end bytes own_rewrite (λ h. h) (λ h. h) (λ h. fit h.0 h.1) ends h
   where
     fit : (rejection : Rejection) → IsUnfit r rejection → ⊥
     fit rejection (inl off) = texts_read a off.fault rejection.place value (subst (λ (bs : List ℕ). IsRefused AtHead 0 bs off.fault rejection.place) spelled off.refused)
@@ -162,17 +120,6 @@ written config answer came r a costs end bytes ends value spelled printed headed
         missing.missing
         (subst (λ (cs : Costs). first_missing (new_costs r.config cs.lines) r.config.bytes ≡ None)
         (some_costs costs missing.costs (sym printed ∙ sym (same_costs r.bytes a missing.answer value spelled missing.said) ∙ missing.printed)) headed)
-
-    done : (end : Status) → MayRewrite r end bytes → end ≡ status.Done
-    done status.Done h = refl
-    done status.Impossible h = absurd h
-    done status.Undecided h = absurd h
-    done status.InputRefused h = absurd h
-    done status.ReadFault h = absurd h
-    done status.WriteFault h = absurd h
-    done status.OutOfMemory h = absurd h
-    done status.WordsRefused h = absurd h
-    done status.EvidenceRefused h = absurd (fit h.0 h.1)
 
 abbrev mark : Bool → ℕ
 mark b = cond b 1 0
@@ -228,16 +175,16 @@ try_failed blocks start (Failed file) bytes h = h
 
 no_read_fault : (job : Option JobRead) (came : List Taken) (bytes : List ℕ) → CountsFailures (λ name. 0) (λ name. 0) came → MayWrite job came status.ReadFault bytes → ⊥
 no_read_fault None came bytes counted h = h
-no_read_fault (Some (read.Design request limits configs)) came bytes counted h = none_failed (outcome AsRequested (files_of request configs)) came bytes counted h
-no_read_fault (Some (read.Check request answer configs)) came bytes counted h = none_failed (claim_read (files_of request configs) answer) came bytes counted h
-no_read_fault (Some (read.Audit request configs)) came bytes counted h = none_failed (outcome AtPresent (files_of request configs)) came bytes counted h
-no_read_fault (Some (read.Rewrite answer config)) came bytes counted h = none_failed (revision_read config answer) came bytes counted h
+no_read_fault (Some (read.Design request limits configs)) came bytes counted h = none_failed _ came bytes counted h
+no_read_fault (Some (read.Check request answer configs)) came bytes counted h = none_failed _ came bytes counted h
+no_read_fault (Some (read.Audit request configs)) came bytes counted h = none_failed _ came bytes counted h
+no_read_fault (Some (read.Rewrite answer config)) came bytes counted h = none_failed _ came bytes counted h
 no_read_fault (Some (read.Trial blocks start)) came bytes counted h = try_failed blocks start (case_end (made_case blocks start)) bytes h.1
-no_read_fault (Some (read.Conflict request limits configs)) came bytes counted h = none_failed (outcome AsRequested (files_of request configs)) came bytes counted h
-no_read_fault (Some (read.Spread request sets limits configs)) came bytes counted h = h
-no_read_fault (Some (read.Total request limits configs)) came bytes counted h = none_failed (outcome AsRequested (files_of request configs)) came bytes counted h
-no_read_fault (Some (read.Lsas request configs)) came bytes counted h = none_failed (identified_read (files_of request configs)) came bytes counted h
-no_read_fault (Some (read.Route lsas from to)) came bytes counted h = none_failed (route_read lsas from to) came bytes counted h
+no_read_fault (Some (read.Conflict request limits configs)) came bytes counted h = none_failed _ came bytes counted h
+no_read_fault (Some (read.Spread request sets limits configs)) came bytes counted h = none_failed _ came bytes counted h
+no_read_fault (Some (read.Total request limits configs)) came bytes counted h = none_failed _ came bytes counted h
+no_read_fault (Some (read.Lsas request configs)) came bytes counted h = none_failed _ came bytes counted h
+no_read_fault (Some (read.Route lsas from to)) came bytes counted h = none_failed _ came bytes counted h
 
 -- over counts that stay 0 no run ends with a fault of a shelf
 pub sure_shelf : (words : List (List ℕ)) (gave : List Taken → Type 0) (held : List ℕ → Option (List ℕ)) (handed : List ℕ → Type 0) (got_before got_now : Option (List ℕ)) (count_before count_now : ℕ) (end : Status) →

@@ -1,5 +1,5 @@
 -- When the further commands have to answer.
-use Rattle.std.proofs.Common.{◌≡◌, ℕ, ◌+◌, ◌*◌, ◌<◌, ◌≤◌, refl, subst, arith, List, length, inl, inr}
+use Rattle.std.proofs.Common.{◌≡◌, ℕ, ◌<◌, ◌≤◌, refl, arith, List, length, inl, inr}
 use Rattle.std.specs.Prelude.{◌⊎◌, All, Contains, slice_index}
 use Rattle.std.proofs.lemmas.List.{get_or_default}
 use Rattle.cost_base.specs.declared.Status.{Status}
@@ -20,14 +20,20 @@ use Rattle.conflict_core.specs.declared.conflict.Conflict.TheVariants.{Fits, Cor
 use Rattle.conflict_core.specs.Conflicts.{IsConflictFound}
 use Rattle.wish_commands.specs.Conflicts as conflicts
 use Rattle.wish_commands.specs.Conflicts.{MayConflict, ShowsConflict}
+use Rattle.spread_sets.specs.declared.spread.Spread.{Spread}
+use Rattle.spread_sets.specs.declared.spread.Spread.TheVariants.{Fit, Impossible as NoSpread, Unknown as NoSpreadKnown}
+use Rattle.spread_sets.specs.Answers.{IsSpreadFound}
+use Rattle.wish_commands.specs.SetFiles.{Sharing}
+use Rattle.wish_commands.specs.Spreads as spreads
+use Rattle.wish_commands.specs.Spreads.{MaySpread, ShowsSpread}
 use Rattle.input_files.specs.Outcomes.{Input}
-use Rattle.lsa_bytes.specs.declared.Lsa.{Lsa}
 use Rattle.lsa_commands.specs.Lsas.{MayLsas}
 use Rattle.lsa_commands.specs.Routes.{MayRoute}
 use Rattle.designer_command.specs.TotalRuns.{IsTotalUndecided, MayTotal}
-use Rattle.designer_command.specs.Completeness.{ConflictsAreFound, IdentifiedInputIsWritten, IsLarge, IsSettled, KnownRoutersAreRouted, TotalsAreFound}
+use Rattle.designer_command.specs.Completeness.{ConflictsAreFound, IdentifiedInputIsWritten, IsLarge, IsSettled, IsSpreadSettled, KnownRoutersAreRouted, SpreadsAreFound, TotalsAreFound}
 use Rattle.designer_command.proofs.LargeBudgets.{capped-le, capped_box, large_suffice}
-use Rattle.designer_command.proofs.CompletenessLaws.{best_settles, never_undecided, none_settles, says_so}
+use Rattle.designer_command.proofs.CompletenessLaws.{best_settles, never_undecided, none_settles}
+use Rattle.designer_command.proofs.OwnStatuses.{only_done, own_conflict, own_lsas, own_route, own_spread, own_total, said_end}
 
 -- No tree over a box at the greatest of some costs that aren't below the lower bounds has an Undone and just as many entries
 -- as a large budget.
@@ -62,18 +68,18 @@ unknown_conflict limits p bytes kept large shown = by_found shown.conflict shown
     by_found (NoConflictKnown members rows tree) found is = never_whole limits p _ tree kept large found.told.printed.earnest.sound found.undone found.spent
 
 pub conflicts_found : ConflictsAreFound
-conflicts_found limits names came d end bytes ends h = found end (says_so _ (MayConflict limits) came d end bytes ends h)
-  where
-    found : (end : Status) → MayConflict limits d end bytes → ((end ≡ status.Done) ⊎ (end ≡ status.Undecided)) × (IsProblem d.problem → IsLarge limits d.problem → end ≡ status.Done)
-    found status.Done h = (inl refl, λ kept large. refl)
-    found status.Impossible h = absurd h
-    found status.Undecided h = (inr refl, λ kept large. absurd (unknown_conflict limits d.problem bytes kept large h))
-    found status.InputRefused h = absurd h
-    found status.ReadFault h = absurd h
-    found status.WriteFault h = absurd h
-    found status.OutOfMemory h = absurd h
-    found status.WordsRefused h = absurd h
-    found status.EvidenceRefused h = absurd h
+conflicts_found limits names came d end bytes ends h =
+    said_end _ (MayConflict limits) came d end bytes (λ s. ((s ≡ status.Done) ⊎ (s ≡ status.Undecided)) × (IsProblem d.problem → IsLarge limits d.problem → s ≡ status.Done)) (own_conflict limits)
+    (record {
+      done = λ h. (inl refl, λ kept large. refl);
+      impossible = λ h. absurd h;
+      undecided = λ h. (inr refl, λ kept large. absurd (unknown_conflict limits d.problem bytes kept large h));
+      rejected = λ h. absurd h;
+    }) ends h
+
+-- a search found costs, or that there are none, or its budget was used up
+abbrev IsFound : Status → Type 0
+IsFound s = (s ≡ status.Done) ⊎ (s ≡ status.Impossible) ⊎ (s ≡ status.Undecided)
 
 -- `total`
 
@@ -85,45 +91,70 @@ unknown_total limits d bytes kept large shown =
     shown.spent.printed.earnest.sound shown.spent.undone shown.spent.spent
 
 pub totals_found : TotalsAreFound
-totals_found limits names came d end bytes ends h = found end (says_so _ (MayTotal limits) came d end bytes ends h)
+totals_found limits names came d end bytes ends h =
+    said_end _ (MayTotal limits) came d end bytes (λ s. IsFound s × (IsProblem d.problem → IsLarge limits d.problem → IsSettled d.problem s)) (own_total limits)
+    (record {
+      done = λ h. (inl refl, λ kept large. best_settles d.problem h.designed.costs h.designed.best);
+      impossible = λ h. (inr (inl refl), λ kept large. none_settles d.problem h.none);
+      undecided = λ h. (inr (inr refl), λ kept large. absurd (elim h [ inl shown ↦ never_undecided limits d.problem bytes (large_suffice limits d.problem kept large) shown | inr shown ↦ unknown_total limits d bytes kept large shown ]));
+      rejected = λ h. absurd h;
+    }) ends h
+
+-- `spread`
+
+impossible_undecided : status.Impossible ≡ status.Undecided → ⊥
+impossible_undecided is = cc
+
+undecided_done : status.Undecided ≡ status.Done → ⊥
+undecided_done is = cc
+
+undecided_impossible : status.Undecided ≡ status.Impossible → ⊥
+undecided_impossible is = cc
+
+impossible_done : status.Impossible ≡ status.Done → ⊥
+impossible_done is = cc
+
+done_impossible : status.Done ≡ status.Impossible → ⊥
+done_impossible is = cc
+
+fit_settles : (limits : Bounds) (sharing : Sharing) (bytes : List ℕ) → ShowsSpread limits sharing status.Done bytes → IsSpreadSettled sharing status.Done
+fit_settles limits sharing bytes shown = by_found shown.spread shown.found shown.status
   where
-    found : (end : Status) → MayTotal limits d end bytes → ((end ≡ status.Done) ⊎ (end ≡ status.Impossible) ⊎ (end ≡ status.Undecided)) × (IsProblem d.problem → IsLarge limits d.problem → IsSettled d.problem end)
-    found status.Done h = (inl refl, λ kept large. best_settles d.problem h.designed.costs h.designed.best)
-    found status.Impossible h = (inr (inl refl), λ kept large. none_settles d.problem h.none)
-    found status.Undecided h = (inr (inr refl), λ kept large. absurd (elim h [ inl shown ↦ never_undecided limits d.problem bytes (large_suffice limits d.problem kept large) shown | inr shown ↦ unknown_total limits d bytes kept large shown ]))
-    found status.InputRefused h = absurd h
-    found status.ReadFault h = absurd h
-    found status.WriteFault h = absurd h
-    found status.OutOfMemory h = absurd h
-    found status.WordsRefused h = absurd h
-    found status.EvidenceRefused h = absurd h
+    by_found : (spread : Spread) → IsSpreadFound sharing.problem shown.sets limits.top limits.nodes spread → spreads.status_of spread ≡ status.Done → IsSpreadSettled sharing status.Done
+    by_found (Fit w) found is = record { sets = shown.sets; said = shown.said; either = inl refl; fit = λ v fits. refl; unfit = λ none. absurd (none w found) }
+    by_found (NoSpread rows tree) found is = absurd (impossible_done is)
+    by_found (NoSpreadKnown rows tree) found is = absurd (undecided_done is)
+
+none_fit_settles : (limits : Bounds) (sharing : Sharing) (bytes : List ℕ) → ShowsSpread limits sharing status.Impossible bytes → IsSpreadSettled sharing status.Impossible
+none_fit_settles limits sharing bytes shown = by_found shown.spread shown.found shown.status
+  where
+    by_found : (spread : Spread) → IsSpreadFound sharing.problem shown.sets limits.top limits.nodes spread → spreads.status_of spread ≡ status.Impossible → IsSpreadSettled sharing status.Impossible
+    by_found (Fit w) found is = absurd (done_impossible is)
+    by_found (NoSpread rows tree) found is = record { sets = shown.sets; said = shown.said; either = inr refl; fit = λ v fits. absurd (found.2 v fits); unfit = λ none. refl }
+    by_found (NoSpreadKnown rows tree) found is = absurd (undecided_impossible is)
+
+unknown_spread : (limits : Bounds) (sharing : Sharing) (bytes : List ℕ) → IsProblem sharing.problem → IsLarge limits sharing.problem → ShowsSpread limits sharing status.Undecided bytes → ⊥
+unknown_spread limits sharing bytes kept large shown = by_found shown.spread shown.found shown.status
+  where
+    by_found : (spread : Spread) → IsSpreadFound sharing.problem shown.sets limits.top limits.nodes spread → spreads.status_of spread ≡ status.Undecided → ⊥
+    by_found (Fit w) found is = done_undecided is
+    by_found (NoSpread rows tree) found is = impossible_undecided is
+    by_found (NoSpreadKnown rows tree) found is = never_whole limits sharing.problem _ tree kept large found.spent.printed.earnest.sound found.spent.undone found.spent.spent
+
+pub spreads_found : SpreadsAreFound
+spreads_found limits names file came sharing end bytes ends h =
+    said_end _ (MaySpread limits) came sharing end bytes (λ s. IsFound s × (IsProblem sharing.problem → IsLarge limits sharing.problem → IsSpreadSettled sharing s)) (own_spread limits)
+    (record {
+      done = λ h. (inl refl, λ kept large. fit_settles limits sharing bytes h);
+      impossible = λ h. (inr (inl refl), λ kept large. none_fit_settles limits sharing bytes h);
+      undecided = λ h. (inr (inr refl), λ kept large. absurd (unknown_spread limits sharing bytes kept large h));
+      rejected = λ h. absurd h;
+    }) ends h
 
 -- `lsas` and `route`
 
 pub lsas_written : IdentifiedInputIsWritten
-lsas_written names came d end bytes ends h = done end (says_so _ MayLsas came d end bytes ends h)
-  where
-    done : (end : Status) → MayLsas d end bytes → end ≡ status.Done
-    done status.Done h = refl
-    done status.Impossible h = absurd h
-    done status.Undecided h = absurd h
-    done status.InputRefused h = absurd h
-    done status.ReadFault h = absurd h
-    done status.WriteFault h = absurd h
-    done status.OutOfMemory h = absurd h
-    done status.WordsRefused h = absurd h
-    done status.EvidenceRefused h = absurd h
+lsas_written names came d end bytes ends h = only_done _ MayLsas came d end bytes own_lsas (λ h. h) (λ h. h) (λ h. h) ends h
 
 pub routed : KnownRoutersAreRouted
-routed file from to came lsas end bytes ends h = done end (says_so _ (MayRoute from to) came lsas end bytes ends h)
-  where
-    done : (end : Status) → MayRoute from to lsas end bytes → end ≡ status.Done
-    done status.Done h = refl
-    done status.Impossible h = absurd h
-    done status.Undecided h = absurd h
-    done status.InputRefused h = absurd h
-    done status.ReadFault h = absurd h
-    done status.WriteFault h = absurd h
-    done status.OutOfMemory h = absurd h
-    done status.WordsRefused h = absurd h
-    done status.EvidenceRefused h = absurd h
+routed file from to came lsas end bytes ends h = only_done _ (MayRoute from to) came lsas end bytes (own_route from to) (λ h. h) (λ h. h) (λ h. h) ends h

@@ -6,6 +6,7 @@ pub mod LineRuns
 pub mod ReadBackLaws
 pub mod DesignedLaws
 pub mod DesignRuns
+pub mod OwnStatuses
 pub mod Runs
 pub mod Audits
 pub mod OnlyCheapest

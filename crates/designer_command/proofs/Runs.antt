@@ -1,14 +1,13 @@
 -- How a run ends, by what it reports and what of that was put.
-use Rattle.std.proofs.Common.{◌≡◌, ℕ, refl, sym, subst, List, [], inl, inr}
+use Rattle.std.proofs.Common.{◌≡◌, ℕ, sym, subst, List, [], inl, inr}
 use Rattle.std.specs.Prelude.{Option, Result, Ok, Err, Some, None, IfOk, MatchResult, take}
-use Rattle.std.proofs.lemmas.Result.{IfOk-weaker}
 use Rattle.cost_base.specs.declared.OutOfMemory.{OutOfMemory}
 use Rattle.cost_base.specs.declared.Status.{Status}
 use Rattle.cost_base.specs.declared.Status.TheVariants as status
 use Rattle.cost_base.specs.Outside.{GotWhole}
 use Rattle.cost_base.specs.Histories.{Taken}
 use Rattle.command_words.specs.declared.job.Job.{Job}
-use Rattle.command_words.specs.Jobs.{Bounds, JobRead, seen}
+use Rattle.command_words.specs.Jobs.{JobRead, seen}
 use Rattle.command_words.specs.Jobs as read
 use Rattle.input_files.specs.declared.stop.Stop.{Stop}
 use Rattle.input_files.specs.declared.stop.Stop.TheVariants as stops
@@ -16,25 +15,11 @@ use Rattle.input_files.specs.Readings.{Reading, Gave, End, Says, Faulty, Failed}
 use Rattle.input_files.specs.Stops.{StopsAs, IsReadAs, refusal_in}
 use Rattle.report_writer.specs.declared.report.Report.{Report}
 use Rattle.report_writer.specs.Reports.{Reports, ReportsStop, ReportsAny, IsWritten, bytes_in}
-use Rattle.input_files.specs.declared.problem.View.TheVariants.{AsRequested, AtPresent}
-use Rattle.input_files.specs.Outcomes.{Input, outcome}
+use Rattle.input_files.specs.Outcomes.{Input}
 use Rattle.case_maker.specs.Cases.{made_case}
-use Rattle.designer_command.specs.Trials.{MayTrial, MayTryEnd, case_end}
-use Rattle.answer_commands.specs.Checks.{claim_read}
-use Rattle.answer_commands.specs.Rewrites.{revision_read}
-use Rattle.lsa_commands.specs.Lsas.{MayLsas, identified_read}
-use Rattle.lsa_commands.specs.Routes.{MayRoute, route_read}
-use Rattle.wish_commands.specs.Conflicts.{MayConflict}
-use Rattle.designer_command.specs.TotalRuns.{MayTotal}
-use Rattle.designer_command.specs.Usage.{usage}
-use Rattle.designer_command.specs.Runs.{OnSaid, MayAfter, MayDesign, MayAudit, MayCheck, MayRewrite, MayWrite, ReportsJob, WritesNothing, Writes, files_of}
-
--- what a command may write of what its files say goes with no other status than its own
-pub record SaysItsOwn {A : Type 0} (may : A → Status → List ℕ → Type 0) : Type 0 where
-  pub refused : (x : A) (bytes : List ℕ) → may x status.InputRefused bytes → ⊥
-  pub failed : (x : A) (bytes : List ℕ) → may x status.ReadFault bytes → ⊥
-  pub unwritten : (x : A) (bytes : List ℕ) → may x status.WriteFault bytes → ⊥
-  pub wanting : (x : A) (bytes : List ℕ) → may x status.OutOfMemory bytes → ⊥
+use Rattle.designer_command.specs.Trials.{MayTryEnd, case_end}
+use Rattle.designer_command.specs.Runs.{OnSaid, MayAfter, MayWrite, ReportsJob, WritesNothing, WritesWhole, Writes}
+use Rattle.designer_command.proofs.OwnStatuses.{SaysItsOwn}
 
 said_after : {A : Type 0} (reading : Reading A) (may : A → Status → List ℕ → Type 0) (came : List Taken) (s : Status) (bytes : List ℕ) → SaysItsOwn may → OnSaid reading came may s bytes → MayAfter reading may came s bytes
 said_after reading may came status.Done bytes own h = h
@@ -97,24 +82,24 @@ writes_none (Some (read.Lsas request configs)) came = (λ bytes h. h, λ bytes h
 writes_none (Some (read.Route lsas from to)) came = (λ bytes h. h, λ bytes h. h)
 
 -- a text that may be written, written whole
-whole_meets : (may : Status → List ℕ → Type 0) (handed : List ℕ → Type 0) (got_before got_now : Option (List ℕ)) (count_before count_now : ℕ) (aim : Status) (bytes : List ℕ) → WritesNone may →
-    may aim bytes → handed bytes → GotWhole got_before got_now bytes → Writes may handed got_before got_now count_before count_now aim
-whole_meets may handed got_before got_now count_before count_now status.Done bytes none allowed written whole = record { bytes = bytes; allowed = allowed; written = written; whole = whole }
-whole_meets may handed got_before got_now count_before count_now status.Impossible bytes none allowed written whole = record { bytes = bytes; allowed = allowed; written = written; whole = whole }
-whole_meets may handed got_before got_now count_before count_now status.Undecided bytes none allowed written whole = record { bytes = bytes; allowed = allowed; written = written; whole = whole }
-whole_meets may handed got_before got_now count_before count_now status.InputRefused bytes none allowed written whole = record { bytes = bytes; allowed = allowed; written = written; whole = whole }
-whole_meets may handed got_before got_now count_before count_now status.ReadFault bytes none allowed written whole = record { bytes = bytes; allowed = allowed; written = written; whole = whole }
-whole_meets may handed got_before got_now count_before count_now status.WriteFault bytes none allowed written whole = absurd (none.0 bytes allowed)
-whole_meets may handed got_before got_now count_before count_now status.OutOfMemory bytes none allowed written whole = absurd (none.1 bytes allowed)
-whole_meets may handed got_before got_now count_before count_now status.WordsRefused bytes none allowed written whole = record { bytes = bytes; allowed = allowed; written = written; whole = whole }
-whole_meets may handed got_before got_now count_before count_now status.EvidenceRefused bytes none allowed written whole = record { bytes = bytes; allowed = allowed; written = written; whole = whole }
+whole_meets : (may : Status → List ℕ → Type 0) (handed : List ℕ → Type 0) (got_before got_now : Option (List ℕ)) (count_before count_now : ℕ) (aim : Status) → WritesNone may →
+    WritesWhole may handed got_before got_now aim → Writes may handed got_before got_now count_before count_now aim
+whole_meets may handed got_before got_now count_before count_now status.Done none h = h
+whole_meets may handed got_before got_now count_before count_now status.Impossible none h = h
+whole_meets may handed got_before got_now count_before count_now status.Undecided none h = h
+whole_meets may handed got_before got_now count_before count_now status.InputRefused none h = h
+whole_meets may handed got_before got_now count_before count_now status.ReadFault none h = h
+whole_meets may handed got_before got_now count_before count_now status.WriteFault none h = absurd (none.0 h.bytes h.allowed)
+whole_meets may handed got_before got_now count_before count_now status.OutOfMemory none h = absurd (none.1 h.bytes h.allowed)
+whole_meets may handed got_before got_now count_before count_now status.WordsRefused none h = h
+whole_meets may handed got_before got_now count_before count_now status.EvidenceRefused none h = h
 
 -- what was put of a report that may be written ends a run
 pub written_meets : (may : Status → List ℕ → Type 0) (handed : List ℕ → Type 0) (got_before got_now : Option (List ℕ)) (count_before count_now : ℕ) (aim : Status) (bytes : List ℕ) (end : Status) → WritesNone may →
     ((some : List ℕ) → handed some → GotWhole got_before got_now some) → may aim bytes → IsWritten aim bytes handed count_before count_now end → Writes may handed got_before got_now count_before count_now end
 written_meets may handed got_before got_now count_before count_now aim bytes end none got allowed (inl h) =
     subst (λ (s : Status). Writes may handed got_before got_now count_before count_now s) (sym h.0)
-    (whole_meets may handed got_before got_now count_before count_now aim bytes none allowed h.1 (got bytes h.1))
+    (whole_meets may handed got_before got_now count_before count_now aim none (record { bytes = bytes; allowed = allowed; written = h.1; whole = got bytes h.1 }))
 written_meets may handed got_before got_now count_before count_now aim bytes end none got allowed (inr h) =
     subst (λ (s : Status). Writes may handed got_before got_now count_before count_now s) (sym h.0)
     (record { status = aim; bytes = bytes; allowed = allowed; length = h.1.0; written = h.1.1; part = got (take h.1.0 bytes) h.1.1; cause = h.2 })
@@ -132,48 +117,6 @@ made_meets Same may handed got_before got_now count_before count_now (Ok report)
 made_meets Same may handed got_before got_now count_before count_now (Err e) end none got same allowed h =
     subst (λ (s : Status). Writes may handed got_before got_now count_before count_now s) (sym h.0) (same h.1)
 
--- What the commands report, by their words.
-
-pub design_reported : (Given : List Taken → Type 0) (name : List ℕ) (limits : Bounds) (configs : List (List ℕ)) (made : Result Report Stop) (result : Result Report OutOfMemory) →
-    Gave Given (λ came. IsReadAs (outcome AsRequested (files_of name configs)) came (λ report d. MayDesign limits d report.status (bytes_in report.text)) made) → ReportsAny made result → ReportsJob Given (read.Design name limits configs) result
-design_reported Given name limits configs made result a r =
-    reported Given (outcome AsRequested (files_of name configs)) (MayDesign limits) made result (record { refused = λ x bytes h. h; failed = λ x bytes h. h; unwritten = λ x bytes h. h; wanting = λ x bytes h. h }) a r
-
-pub audit_reported : (Given : List Taken → Type 0) (name : List ℕ) (configs : List (List ℕ)) (made : Result Report Stop) (result : Result Report OutOfMemory) →
-    Gave Given (λ came. IsReadAs (outcome AtPresent (files_of name configs)) came (λ report d. MayAudit d report.status (bytes_in report.text)) made) → ReportsAny made result → ReportsJob Given (read.Audit name configs) result
-audit_reported Given name configs made result a r =
-    reported Given (outcome AtPresent (files_of name configs)) MayAudit made result (record { refused = λ x bytes h. h; failed = λ x bytes h. h; unwritten = λ x bytes h. h; wanting = λ x bytes h. h }) a r
-
-pub check_reported : (Given : List Taken → Type 0) (name answer : List ℕ) (configs : List (List ℕ)) (made : Result Report Stop) (result : Result Report OutOfMemory) →
-    Gave Given (λ came. IsReadAs (claim_read (files_of name configs) answer) came (λ report claim. MayCheck claim report.status (bytes_in report.text)) made) → ReportsAny made result → ReportsJob Given (read.Check name answer configs) result
-check_reported Given name answer configs made result a r =
-    reported Given (claim_read (files_of name configs) answer) MayCheck made result (record { refused = λ x bytes h. h; failed = λ x bytes h. h; unwritten = λ x bytes h. h; wanting = λ x bytes h. h }) a r
-
-pub rewrite_reported : (Given : List Taken → Type 0) (answer config : List ℕ) (made : Result Report Stop) (result : Result Report OutOfMemory) →
-    Gave Given (λ came. IsReadAs (revision_read config answer) came (λ report revision. MayRewrite revision report.status (bytes_in report.text)) made) → ReportsAny made result → ReportsJob Given (read.Rewrite answer config) result
-rewrite_reported Given answer config made result a r =
-    reported Given (revision_read config answer) MayRewrite made result (record { refused = λ x bytes h. h; failed = λ x bytes h. h; unwritten = λ x bytes h. h; wanting = λ x bytes h. h }) a r
-
-pub conflict_reported : (Given : List Taken → Type 0) (name : List ℕ) (limits : Bounds) (configs : List (List ℕ)) (made : Result Report Stop) (result : Result Report OutOfMemory) →
-    Gave Given (λ came. IsReadAs (outcome AsRequested (files_of name configs)) came (λ report d. MayConflict limits d report.status (bytes_in report.text)) made) → ReportsAny made result → ReportsJob Given (read.Conflict name limits configs) result
-conflict_reported Given name limits configs made result a r =
-    reported Given (outcome AsRequested (files_of name configs)) (MayConflict limits) made result (record { refused = λ x bytes h. h; failed = λ x bytes h. h; unwritten = λ x bytes h. h; wanting = λ x bytes h. h }) a r
-
-pub total_reported : (Given : List Taken → Type 0) (name : List ℕ) (limits : Bounds) (configs : List (List ℕ)) (made : Result Report Stop) (result : Result Report OutOfMemory) →
-    Gave Given (λ came. IsReadAs (outcome AsRequested (files_of name configs)) came (λ report d. MayTotal limits d report.status (bytes_in report.text)) made) → ReportsAny made result → ReportsJob Given (read.Total name limits configs) result
-total_reported Given name limits configs made result a r =
-    reported Given (outcome AsRequested (files_of name configs)) (MayTotal limits) made result (record { refused = λ x bytes h. h; failed = λ x bytes h. h; unwritten = λ x bytes h. h; wanting = λ x bytes h. h }) a r
-
-pub lsas_reported : (Given : List Taken → Type 0) (name : List ℕ) (configs : List (List ℕ)) (made : Result Report Stop) (result : Result Report OutOfMemory) →
-    Gave Given (λ came. IsReadAs (identified_read (files_of name configs)) came (λ report d. MayLsas d report.status (bytes_in report.text)) made) → ReportsAny made result → ReportsJob Given (read.Lsas name configs) result
-lsas_reported Given name configs made result a r =
-    reported Given (identified_read (files_of name configs)) MayLsas made result (record { refused = λ x bytes h. h; failed = λ x bytes h. h; unwritten = λ x bytes h. h; wanting = λ x bytes h. h }) a r
-
-pub route_reported : (Given : List Taken → Type 0) (lsas : List ℕ) (from to : ℕ) (made : Result Report Stop) (result : Result Report OutOfMemory) →
-    Gave Given (λ came. IsReadAs (route_read lsas from to) came (λ report said. MayRoute from to said report.status (bytes_in report.text)) made) → ReportsAny made result → ReportsJob Given (read.Route lsas from to) result
-route_reported Given lsas from to made result a r =
-    reported Given (route_read lsas from to) (MayRoute from to) made result (record { refused = λ x bytes h. h; failed = λ x bytes h. h; unwritten = λ x bytes h. h; wanting = λ x bytes h. h }) a r
-
 -- a job with these words reports what a command with them does
 pub job_reported : (Given : List Taken → Type 0) (job : Job) (said : JobRead) (result : Result Report OutOfMemory) → seen job ≡ said → ReportsJob Given said result → ReportsJob Given (seen job) result
 job_reported Given job said result is made = subst (λ (j : JobRead). ReportsJob Given j result) (sym is) made
@@ -182,10 +125,3 @@ job_reported Given job said result is made = subst (λ (j : JobRead). ReportsJob
 pub trial_reported : (Given : List Taken → Type 0) (blocks start : ℕ) (result : Result Report OutOfMemory) → Given [] →
     IfOk result (λ report. MayWrite (Some (read.Trial blocks start)) [] report.status (bytes_in report.text)) → ReportsJob Given (read.Trial blocks start) result
 trial_reported Given blocks start result none tried = record { came = []; given = none; so = tried }
-
--- the words of a command that isn't built are refused, and no file is asked for
-pub spread_refused : (Given : List Taken → Type 0) (job : Job) (request sets : List ℕ) (limits : Bounds) (configs : List (List ℕ)) (report : Report) → Given [] → seen job ≡ read.Spread request sets limits configs →
-    Reports status.WordsRefused usage report → ReportsJob Given (seen job) (Ok report)
-spread_refused Given job request sets limits configs report none is refused =
-    subst (λ (j : JobRead). ReportsJob Given j (Ok report)) (sym is)
-    (record { came = []; given = none; so = may_report (MayWrite (Some (read.Spread request sets limits configs)) []) status.WordsRefused usage report refused (refl, refl) })

@@ -26,6 +26,10 @@ use Rattle.config_writer.specs.Rewriting.{first_missing}
 use Rattle.answer_commands.specs.Checks.{Claim, claim_read}
 use Rattle.answer_commands.specs.Rewrites.{Revision, new_costs, revision_read}
 use Rattle.wish_commands.specs.Conflicts.{MayConflict}
+use Rattle.wish_commands.specs.SetFiles.{AreSetsIn, Sharing, spread_read}
+use Rattle.wish_commands.specs.Spreads.{MaySpread}
+use Rattle.spread_sets.specs.Spreads.{IsSpreadFit, all_sets}
+use Rattle.spread_sets.specs.Answers.{HasNoSpread}
 use Rattle.lsa_bytes.specs.declared.Lsa.{Lsa}
 use Rattle.lsa_commands.specs.Lsas.{MayLsas, identified_read}
 use Rattle.lsa_commands.specs.Routes.{MayRoute, route_read}
@@ -104,6 +108,22 @@ ConflictsAreFound =
     (limits : Bounds) (names : InputFiles) (came : List Taken) (d : Input) (end : Status) (bytes : List ℕ) →
     EndsAs (outcome AsRequested names) came (Says d) → MayAfter (outcome AsRequested names) (MayConflict limits) came end bytes →
     ((end ≡ status.Done) ⊎ (end ≡ status.Undecided)) × (IsProblem d.problem → IsLarge limits d.problem → end ≡ status.Done)
+
+-- Done where some costs are spread-fit for the sets that the file says, Impossible where none are, and nothing else
+pub record IsSpreadSettled (sharing : Sharing) (end : Status) : Type 0 where
+  pub sets : List (List ℕ)
+  pub said : AreSetsIn sets sharing
+  pub either : (end ≡ status.Done) ⊎ (end ≡ status.Impossible)
+  pub fit : (w : List ℕ) → IsSpreadFit sharing.problem (all_sets sharing.problem sets) w → end ≡ status.Done
+  pub unfit : HasNoSpread sharing.problem (all_sets sharing.problem sets) → end ≡ status.Impossible
+
+-- Where its files say a problem and sets of its wanted paths, `spread` may write nothing but what it found: that is settled
+-- where the budget is large.
+abbrev pub SpreadsAreFound : Type 0
+SpreadsAreFound =
+    (limits : Bounds) (names : InputFiles) (file : List ℕ) (came : List Taken) (sharing : Sharing) (end : Status) (bytes : List ℕ) →
+    EndsAs (spread_read names file) came (Says sharing) → MayAfter (spread_read names file) (MaySpread limits) came end bytes →
+    ((end ≡ status.Done) ⊎ (end ≡ status.Impossible) ⊎ (end ≡ status.Undecided)) × (IsProblem sharing.problem → IsLarge limits sharing.problem → IsSpreadSettled sharing end)
 
 -- So with `total`: Done where there are fit costs, and Impossible where there are none.
 abbrev pub TotalsAreFound : Type 0

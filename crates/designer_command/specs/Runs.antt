@@ -21,6 +21,8 @@ use Rattle.report_writer.specs.declared.report.Report.{Report}
 use Rattle.report_writer.specs.Reports.{bytes_in}
 use Rattle.report_writer.specs.Texts.{refused_line, read_fault_line, accepted_line, rejected_line}
 use Rattle.wish_commands.specs.Conflicts.{MayConflict}
+use Rattle.wish_commands.specs.SetFiles.{spread_read}
+use Rattle.wish_commands.specs.Spreads.{MaySpread}
 use Rattle.designer_command.specs.Usage.{usage}
 use Rattle.designer_command.specs.Designs.{IsDesigned, IsShownImpossible, IsShownUndecided}
 use Rattle.designer_command.specs.Trials.{MayTrial}
@@ -91,8 +93,7 @@ MayRefuse came status bytes = ⊥
 abbrev pub files_of : List ℕ → List (List ℕ) → InputFiles
 files_of request configs = record { request = request; configs = configs }
 
--- The whole text that a run writes with a status, where this came of its files. For now the words of `spread`, which isn't
--- built, are refused.
+-- The whole text that a run writes with a status, where this came of its files.
 abbrev pub MayWrite : Option JobRead → List Taken → Status → List ℕ → Type 0
 MayWrite (Some (Design request limits configs)) came status bytes = MayAfter (outcome AsRequested (files_of request configs)) (MayDesign limits) came status bytes
 MayWrite (Some (Check request answer configs)) came status bytes = MayAfter (claim_read (files_of request configs) answer) MayCheck came status bytes
@@ -100,7 +101,7 @@ MayWrite (Some (Audit request configs)) came status bytes = MayAfter (outcome At
 MayWrite (Some (Rewrite answer config)) came status bytes = MayAfter (revision_read config answer) MayRewrite came status bytes
 MayWrite (Some (Trial blocks start)) came status bytes = (came ≡ []) × MayTrial blocks start status bytes
 MayWrite (Some (Conflict request limits configs)) came status bytes = MayAfter (outcome AsRequested (files_of request configs)) (MayConflict limits) came status bytes
-MayWrite (Some (Spread request sets limits configs)) came status bytes = MayRefuse came status bytes
+MayWrite (Some (Spread request sets limits configs)) came status bytes = MayAfter (spread_read (files_of request configs) sets) (MaySpread limits) came status bytes
 MayWrite (Some (Total request limits configs)) came status bytes = MayAfter (outcome AsRequested (files_of request configs)) (MayTotal limits) came status bytes
 MayWrite (Some (Lsas request configs)) came status bytes = MayAfter (identified_read (files_of request configs)) MayLsas came status bytes
 MayWrite (Some (Route lsas from to)) came status bytes = MayAfter (route_read lsas from to) (MayRoute from to) came status bytes

@@ -1,6 +1,6 @@
 //! When a run has to answer: each law is the contract of a function, most of them of one that does nothing.
 ghost use Rattle.std.specs.Prelude.{◌≢◌};
-ghost use Rattle.designer_command.specs.Completeness.{ConflictsAreFound, DesignsAreAccepted, HeadedCostsAreWritten, IdentifiedInputIsWritten, KnownRoutersAreRouted, LargeBudgetsSuffice, MadeCasesAreDesigned, TotalsAreFound, ValidAnswersAreAccepted, WellFormedInputIsAudited, WellFormedInputIsDesigned};
+ghost use Rattle.designer_command.specs.Completeness.{ConflictsAreFound, DesignsAreAccepted, HeadedCostsAreWritten, IdentifiedInputIsWritten, KnownRoutersAreRouted, LargeBudgetsSuffice, MadeCasesAreDesigned, SpreadsAreFound, TotalsAreFound, ValidAnswersAreAccepted, WellFormedInputIsAudited, WellFormedInputIsDesigned};
 
 use crate::run;
 use advisor_box::Advisor;
@@ -46,6 +46,12 @@ pub fn headed_costs_are_written()
 /// `conflict` on well-formed input may write nothing but what it found, and that it is undecided not with a large budget.
 pub fn conflicts_are_found()
     ensures { ConflictsAreFound }
+{}
+
+/// `spread` on well-formed input and sets without a fault may write nothing but what it found: with a large budget it writes
+/// spread-fit costs where there are such, and that there are none exactly where there are none.
+pub fn spreads_are_found()
+    ensures { SpreadsAreFound }
 {}
 
 /// So with `total`: with a large budget it writes that there are no fit costs exactly where there are none.

@@ -2,7 +2,7 @@
 ghost use Rattle.std.specs.Prelude.{◌≡◌, ◌≤◌, ◌<◌, ◌^◌, [], IfOk, Some};
 ghost use Rattle.form_search.specs.Advised.{AreLeft, IsCalled};
 ghost use Rattle.command_words.specs.Words.{texts};
-ghost use Rattle.command_words.specs.Jobs.{Audit, Check, Conflict, Design, Lsas, Rewrite, Route, Total, Trial as TrialJob, bounds};
+ghost use Rattle.command_words.specs.Jobs.{Audit, Check, Conflict, Design, Lsas, Rewrite, Route, Spread, Total, Trial as TrialJob, bounds};
 ghost use Rattle.report_writer.specs.Reports.{bytes_in};
 ghost use Rattle.designer_command.specs.Runs.{MayWrite, ReportsJob};
 
@@ -20,7 +20,7 @@ use lsa_commands::{lsas_report, route_report};
 use report_writer::{Report, report_of};
 use std::alloc::Global;
 use wide_fraction::Limits;
-use wish_commands::conflict_report;
+use wish_commands::{conflict_report, spread_report};
 
 /// The report of `design`.
 pub(crate) fn of_design<S: Shelf>(
@@ -118,6 +118,21 @@ pub(crate) fn of_conflict<S: Shelf>(
         alloc,
         conflict_report(alloc, words, limits, shelf, advisors),
     )
+}
+
+/// The report of `spread`.
+pub(crate) fn of_spread<S: Shelf>(
+    alloc: Global,
+    request: &str,
+    sets: &str,
+    limits: &Limits,
+    configs: &[String],
+    shelf: &mut S,
+) -> Result<Report, OutOfMemory>
+    ensures { ReportsJob (S.gave shelf.old shelf.new) (Spread request.now sets.now (bounds limits.now) (texts configs.now)) result }
+{
+    let words = FileWords { request, configs };
+    report_of(alloc, spread_report(alloc, words, sets, limits, shelf))
 }
 
 /// The report of `total`.

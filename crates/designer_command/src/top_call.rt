@@ -8,7 +8,8 @@ ghost use Rattle.designer_command.specs.Runs.{ReportsJob, RunMeets};
 ghost use Rattle.designer_command.specs.Usage.{usage};
 
 use crate::job_reports::{
-    of_audit, of_check, of_conflict, of_design, of_lsas, of_rewrite, of_route, of_total, of_trial,
+    of_audit, of_check, of_conflict, of_design, of_lsas, of_rewrite, of_route, of_spread, of_total,
+    of_trial,
 };
 use advisor_box::Advisor;
 use command_words::{Job, WordsStop, read_words};
@@ -40,7 +41,7 @@ fn usage_report() -> Report
     }
 }
 
-/// The report of a job. For now the words of `spread`, which isn't built, are refused.
+/// The report of a job.
 fn job_report<S: Shelf>(
     alloc: Global,
     job: &Job,
@@ -72,7 +73,12 @@ fn job_report<S: Shelf>(
             limits,
             configs,
         } => of_conflict(alloc, request, limits, configs, shelf, advisors),
-        Job::Spread { .. } => Ok(usage_report()),
+        Job::Spread {
+            request,
+            sets,
+            limits,
+            configs,
+        } => of_spread(alloc, request, sets, limits, configs, shelf),
         Job::Total {
             request,
             limits,
@@ -115,6 +121,10 @@ fn write_made<K: Sink>(made: Result<Report, OutOfMemory>, out: &mut K) -> Status
 /// `conflict --request F CONFIG..` writes costs that are fit for all requests, or a least conflict: requests for which no
 /// costs are fit, with costs for each set without one of them. Its status is `Done`, or `Undecided`.
 ///
+/// `spread --request F --sets G CONFIG..` reads the file of sets after the other files. It writes costs under which the
+/// members of each set cost the same and every other simple path of their request costs more, with status `Done`; with
+/// `Impossible` that there are none, and with `Undecided` that the budget was used up, each with its evidence.
+///
 /// `total --request F CONFIG..` writes the best costs with the least total. Where it finds no best costs it writes what
 /// `design` does; where the budget was used up below a total, it tells the total that it found, with status `Undecided`.
 ///
@@ -123,8 +133,6 @@ fn write_made<K: Sink>(made: Result<Report, OutOfMemory>, out: &mut K) -> Status
 ///
 /// `route --lsas L --from A.B.C.D --to A.B.C.D` reads a file of LSAs, as `lsas` writes them, and writes the least cost from one
 /// router to the other and where the first edges of the cheapest paths lead, with status `Done`.
-///
-/// `spread` isn't built yet: its words are refused.
 ///
 /// The advisors are asked where a box is shared out, and told of each entry of a tree. Whatever they answer, all of this
 /// holds. Some of the first may be gone after the call, since they answered out of range; every other is left in its place,

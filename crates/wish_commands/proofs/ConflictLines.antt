@@ -2,27 +2,22 @@
 use Rattle.std.proofs.Common.{ℕ, ◌≤◌, List, length, arith}
 use Rattle.std.specs.Prelude.{Some}
 use Rattle.area_graph.specs.Area.{FitsGraph}
-use Rattle.path_rows.specs.declared.answer.Costs.{Costs}
 use Rattle.path_rows.specs.declared.form.Row.{Row}
 use Rattle.path_rows.specs.declared.tree.Entry.{Entry}
 use Rattle.path_rows.specs.Problems.{DesignProblem, IsProblem, restricted}
 use Rattle.path_rows.specs.Rows.{LeadsEach, forms_of_rows}
 use Rattle.path_rows.specs.Answers.{greatest_bound}
-use Rattle.path_rows.specs.Text.{costs_lines, tree_lines}
+use Rattle.path_rows.specs.Text.{tree_lines}
 use Rattle.path_rows.proofs.TreeShapes.{sound_whole}
 use Rattle.evidence_text.specs.Lines.{AreShort}
 use Rattle.evidence_text.specs.Parts.{rows_lines}
-use Rattle.printed_rows.specs.PrintedCosts.{ArePrintedCosts}
-use Rattle.printed_rows.proofs.AnswerLines.{costs_short, rows_lines_short, trees_short}
+use Rattle.printed_rows.proofs.AnswerLines.{rows_lines_short, trees_short}
 use Rattle.printed_rows.proofs.CapBoxes.{cost_bounds, floor_below_ceiling}
 use Rattle.printed_rows.proofs.RowLines.{rows_short}
 use Rattle.printed_rows.proofs.TreeCopies.{whole_length}
 use Rattle.printed_rows.proofs.TreeLines.{IsPrintable, tree_short}
 use Rattle.conflict_core.specs.Conflicts.{IsTreeOfSet, whole_box}
-use Rattle.wish_commands.specs.Conflicts.{at_ceiling}
-
-pub costs_part_short : (p : DesignProblem) (w : List ℕ) (costs : Costs) → ArePrintedCosts p w costs → AreShort (costs_lines (Some costs))
-costs_part_short p w costs printed = costs_short (Some costs) (printed.named, printed.small)
+use Rattle.wish_commands.specs.SharedParts.{at_ceiling}
 
 pub rows_part_short : (p : DesignProblem) (top nodes : ℕ) (members : List ℕ) (rows : List Row) (tree : List Entry) → IsProblem p → FitsGraph p.graph → IsTreeOfSet p top nodes members rows tree → AreShort (rows_lines rows)
 rows_part_short p top nodes members rows tree kept graph told = rows_lines_short rows told.few (rows_short p rows kept graph told.true_rows)

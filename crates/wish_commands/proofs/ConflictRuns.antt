@@ -18,7 +18,7 @@ use Rattle.conflict_core.specs.Conflicts.{IsConflictFound}
 use Rattle.wish_commands.specs.Conflicts.{MayConflict, conflict_text, status_of}
 
 -- a report of what may be written
-may_report : (may : Status → List ℕ → Type 0) (aim : Status) (bytes : List ℕ) (report : Report) → Reports aim bytes report → may aim bytes → may report.status (bytes_in report.text)
+pub may_report : (may : Status → List ℕ → Type 0) (aim : Status) (bytes : List ℕ) (report : Report) → Reports aim bytes report → may aim bytes → may report.status (bytes_in report.text)
 may_report may aim bytes report r allowed =
     subst (λ (s : Status). may s (bytes_in report.text)) (sym r.status) (subst (may aim) (sym r.text) allowed)
 

@@ -1,43 +1,24 @@
 -- The text of `conflict`, part by part.
-use Rattle.std.proofs.Common.{◌≡◌, ℕ, ◌+◌, ◌<◌, ◌≤◌, refl, sym, ◌∙◌, ap, subst, List, [], ◌∷◌, ◌++◌, map, length, drop, get_or, append_assoc, arith}
-use Rattle.std.specs.Prelude.{All, codes, slice_index, slice_index_or, Some}
+use Rattle.std.proofs.Common.{◌≡◌, ℕ, ◌+◌, ◌<◌, sym, ◌∙◌, ap, subst, List, [], ◌∷◌, ◌++◌, map, length, drop, get_or, append_assoc, arith}
+use Rattle.std.specs.Prelude.{All, codes, Some}
 use Rattle.std.proofs.lemmas.List.{at_drop_more, get_or_default}
 use Rattle.cost_base.specs.Decimal.{decimal}
-use Rattle.path_rows.specs.declared.problem.VarName.{VarName}
 use Rattle.path_rows.specs.declared.answer.CapTree.{CapTree}
-use Rattle.path_rows.specs.declared.answer.CostLine.{CostLine}
-use Rattle.path_rows.specs.declared.answer.Costs.{Costs}
 use Rattle.path_rows.specs.declared.form.Row.{Row}
 use Rattle.path_rows.specs.declared.tree.Entry.{Entry}
-use Rattle.path_rows.specs.Problems.{DesignProblem, IsProblem}
+use Rattle.path_rows.specs.Problems.{DesignProblem}
 use Rattle.path_rows.specs.Boxes.{IsInBox}
 use Rattle.path_rows.specs.Rows.{box_of}
-use Rattle.path_rows.specs.Text.{costs_lines, tree_lines}
+use Rattle.path_rows.specs.Text.{tree_lines}
 use Rattle.evidence_text.specs.Lines.{text_of, with_words}
 use Rattle.evidence_text.specs.Parts.{rows_lines}
 use Rattle.evidence_text.proofs.TextLaws.{text_of-append}
-use Rattle.evidence_text.proofs.WordLaws.{spaced-with, numbers_turn}
-use Rattle.printed_rows.specs.PrintedCosts.{ArePrintedCosts, CostLinesOf}
+use Rattle.evidence_text.proofs.WordLaws.{spaced-with}
 use Rattle.conflict_core.specs.declared.conflict.Conflict.TheVariants.{Fits, Core, Unknown}
 use Rattle.conflict_core.specs.Conflicts.{IsCore, all_requests}
-use Rattle.wish_commands.specs.Conflicts.{at_ceiling, conflict_text, costs_part, members_line, named_cost, named_costs, without_line, without_parts}
-
--- lines behind lines
-pub joined : (first later : List (List ℕ)) (t u : List ℕ) → t ≡ text_of first → u ≡ t ++ text_of later → u ≡ text_of (first ++ later)
-joined first later t u one two = two ∙ ap (λ (bytes : List ℕ). bytes ++ text_of later) one ∙ sym (text_of-append first later)
-
--- a line with its LF
-pub one_line : (old middle new line : List ℕ) → middle ≡ old ++ line → new ≡ middle ++ 10 ∷ [] → new ≡ old ++ text_of (line ∷ [])
-one_line old middle new line first last = last ∙ ap (λ (bytes : List ℕ). bytes ++ 10 ∷ []) first ∙ append_assoc old line (10 ∷ []) ∙ ap (λ (bytes : List ℕ). old ++ bytes) (no_more (line ++ 10 ∷ []))
-  where
-    no_more : (bytes : List ℕ) → bytes ≡ bytes ++ []
-    no_more [] = refl
-    no_more (b ∷ bytes) = ap (λ (bs : List ℕ). b ∷ bs) (no_more bytes)
-
--- lines behind a text, in two parts
-pub two_parts : (old middle new : List ℕ) (first later : List (List ℕ)) → middle ≡ old ++ text_of first → new ≡ middle ++ text_of later → new ≡ old ++ text_of (first ++ later)
-two_parts old middle new first later one two =
-    two ∙ ap (λ (bytes : List ℕ). bytes ++ text_of later) one ∙ append_assoc old (text_of first) (text_of later) ∙ ap (λ (bytes : List ℕ). old ++ bytes) (sym (text_of-append first later))
+use Rattle.wish_commands.specs.SharedParts.{at_ceiling, costs_part}
+use Rattle.wish_commands.specs.Conflicts.{conflict_text, members_line, without_line, without_parts}
+use Rattle.wish_commands.proofs.TextParts.{joined}
 
 -- The line of the requests.
 
@@ -46,37 +27,6 @@ pub members_begun : (line members : List ℕ) → line ≡ codes "members " ++ d
 members_begun line members is =
     ap (λ (first : List ℕ). with_words first (map decimal members)) is
     ∙ sym (spaced-with (codes "members") (decimal (length members) ∷ map decimal members))
-
--- with one more
-pub members_more : (line more members : List ℕ) (i d member : ℕ) (whole : List ℕ) → i < length members → member ≡ get_or members i d → more ≡ line ++ 32 ∷ decimal member → with_words line (map decimal (drop i members)) ≡ whole → with_words more (map decimal (drop (i + 1) members)) ≡ whole
-members_more line more members i d member whole within is pushed so_far =
-    ap (λ (first : List ℕ). with_words first (map decimal (drop (i + 1) members))) (pushed ∙ ap (λ (m : ℕ). line ++ 32 ∷ decimal m) is)
-    ∙ sym (numbers_turn line members i d within)
-    ∙ so_far
-
--- The costs.
-
-lines_are : (w : List ℕ) (names : List VarName) (lines : List CostLine) → CostLinesOf w names lines → lines ≡ map (named_cost w) names
-lines_are w [] [] zipped = refl
-lines_are w [] (line ∷ lines) zipped = absurd zipped
-lines_are w (name ∷ names) [] zipped = absurd zipped
-lines_are w (name ∷ names) (line ∷ lines) zipped =
-    let here : line ≡ named_cost w name = λ i. record { router = zipped.0.0 i; interface = zipped.0.1 i; cost = zipped.0.2 i } in
-    cc (here, lines_are w names lines zipped.1)
-
--- printed costs are the costs by their names
-pub costs_are : (p : DesignProblem) (w : List ℕ) (costs : Costs) → ArePrintedCosts p w costs → costs ≡ named_costs p w
-costs_are p w costs printed =
-    let lines = lines_are w p.vars costs.lines printed.names in
-    λ i. record { greatest = printed.greatest i; lines = lines i }
-
--- costs within the bounds are from 1
-pub costs_positive : (p : DesignProblem) (w : List ℕ) → IsProblem p → IsInBox (box_of p) w → All (λ cost. 1 ≤ cost) w
-costs_positive p w kept within k d k_in =
-    let low = (kept.ordered k (omega (arith, within.low_count))).0 in
-    let above = within.above k k_in in
-    let same : slice_index_or w k d ≡ slice_index w k = get_or_default w k d 0 k_in in
-    omega arith
 
 -- The whole texts.
 
@@ -120,10 +70,6 @@ without_more p members lists i d none w member old new whole known listed is_mem
     ∙ ap (λ (lines : List (List ℕ)). old ++ text_of lines) (sym (next_member ∙ next_list ∙ same))
     ∙ so_far
 
--- A word behind a space.
-pub word_behind : (old middle new word : List ℕ) → middle ≡ old ++ 32 ∷ [] → new ≡ middle ++ word → new ≡ old ++ 32 ∷ word
-word_behind old middle new word first later = later ∙ ap (λ (bytes : List ℕ). bytes ++ word) first ∙ append_assoc old (32 ∷ []) word
-
 -- the first three lines
 pub head_spelled : (verdict members line none first second third : List ℕ) → none ≡ [] → first ≡ none ++ text_of (codes "ospfcost conflict 1" ∷ []) → second ≡ first ++ text_of (verdict ∷ []) → third ≡ second ++ text_of (line ∷ []) → line ≡ members_line members →
     third ≡ text_of (codes "ospfcost conflict 1" ∷ verdict ∷ members_line members ∷ [])
@@ -132,14 +78,6 @@ head_spelled verdict members line none first second third empty one two three is
     let begun = joined [] (a ∷ []) none first empty one in
     let next = joined (a ∷ []) (verdict ∷ []) first second begun two in
     joined (a ∷ verdict ∷ []) (line ∷ []) second third next three ∙ ap (λ (last : List ℕ). text_of (a ∷ verdict ∷ last ∷ [])) is
-
--- the costs' lines are those of their part
-pub part_pushed : (p : DesignProblem) (w old new : List ℕ) (costs : Costs) → ArePrintedCosts p w costs → new ≡ old ++ text_of (costs_lines (Some costs)) → new ≡ old ++ text_of (costs_part p w)
-part_pushed p w old new costs printed pushed = pushed ∙ ap (λ (c : Costs). old ++ text_of (costs_lines (Some c))) (costs_are p w costs printed)
-
--- a line, and then a part
-pub line_then_part : (old middle new line known : List ℕ) (part : List (List ℕ)) → line ≡ known → middle ≡ old ++ text_of (line ∷ []) → new ≡ middle ++ text_of part → new ≡ old ++ text_of (known ∷ part)
-line_then_part old middle new line known part is first later = two_parts old middle new (line ∷ []) part first later ∙ ap (λ (l : List ℕ). old ++ text_of (l ∷ part)) is
 
 -- the tree of a part by its other name
 pub evidence_pushed : (p : DesignProblem) (rows : List Row) (tree : List Entry) (t : CapTree) (word old new : List ℕ) → t ≡ at_ceiling p tree → new ≡ old ++ text_of (rows_lines rows ++ tree_lines word (Some t)) → new ≡ old ++ text_of (rows_lines rows ++ tree_lines word (Some (at_ceiling p tree)))

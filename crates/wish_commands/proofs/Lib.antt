@@ -1,3 +1,6 @@
+pub mod TextParts
 pub mod ConflictTexts
 pub mod ConflictRuns
 pub mod ConflictLines
+pub mod SpreadTexts
+pub mod SpreadRuns

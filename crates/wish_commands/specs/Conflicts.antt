@@ -1,17 +1,10 @@
 -- The text of `conflict`, and what the command may write.
-use Rattle.std.specs.Prelude.{◌≡◌, ℕ, List, [], ◌∷◌, ◌++◌, map, length, slice_index, codes, Some}
+use Rattle.std.specs.Prelude.{◌≡◌, ℕ, List, [], ◌∷◌, ◌++◌, map, length, codes, Some}
 use Rattle.cost_base.specs.Decimal.{decimal}
 use Rattle.cost_base.specs.declared.Status.{Status}
 use Rattle.cost_base.specs.declared.Status.TheVariants.{Done, Undecided}
-use Rattle.path_rows.specs.declared.problem.VarName.{VarName}
-use Rattle.path_rows.specs.declared.answer.CapTree.{CapTree}
-use Rattle.path_rows.specs.declared.answer.CostLine.{CostLine}
-use Rattle.path_rows.specs.declared.answer.Costs.{Costs}
-use Rattle.path_rows.specs.declared.tree.Entry.{Entry}
 use Rattle.path_rows.specs.Problems.{DesignProblem}
-use Rattle.path_rows.specs.Rows.{greatest_cost}
-use Rattle.path_rows.specs.Answers.{greatest_bound}
-use Rattle.path_rows.specs.Text.{costs_lines, spaced, tree_lines}
+use Rattle.path_rows.specs.Text.{spaced, tree_lines}
 use Rattle.evidence_text.specs.Lines.{text_of}
 use Rattle.evidence_text.specs.Parts.{rows_lines}
 use Rattle.conflict_core.specs.declared.conflict.Conflict.{Conflict}
@@ -19,18 +12,7 @@ use Rattle.conflict_core.specs.declared.conflict.Conflict.TheVariants.{Fits, Cor
 use Rattle.conflict_core.specs.Conflicts.{IsConflictFound, all_requests}
 use Rattle.command_words.specs.Jobs.{Bounds}
 use Rattle.input_files.specs.Outcomes.{Input}
-
--- a free interface with the cost of its variable
-abbrev pub named_cost : List ℕ → VarName → CostLine
-named_cost w name = record { router = name.router; interface = name.interface; cost = slice_index w name.var }
-
--- costs as an answer prints them: their greatest, and for each free interface the cost of its variable
-abbrev pub named_costs : DesignProblem → List ℕ → Costs
-named_costs p w = record { greatest = greatest_cost w; lines = map (named_cost w) p.vars }
-
--- the part `costs`
-abbrev pub costs_part : DesignProblem → List ℕ → List (List ℕ)
-costs_part p w = costs_lines (Some (named_costs p w))
+use Rattle.wish_commands.specs.SharedParts.{at_ceiling, costs_part}
 
 -- `members COUNT I ..`
 abbrev pub members_line : List ℕ → List ℕ
@@ -45,10 +27,6 @@ abbrev pub without_parts : DesignProblem → List ℕ → List (List ℕ) → Li
 without_parts p [] lists = []
 without_parts p (member ∷ members) [] = []
 without_parts p (member ∷ members) (w ∷ lists) = without_line member ∷ costs_part p w ++ without_parts p members lists
-
--- the tree at the greatest upper bound
-abbrev pub at_ceiling : DesignProblem → List Entry → CapTree
-at_ceiling p tree = record { cap = greatest_bound p; tree = tree }
 
 -- the lines between the first and the last one
 abbrev pub found_lines : DesignProblem → Conflict → List (List ℕ)

@@ -1,1 +1,4 @@
+pub mod SharedParts
 pub mod Conflicts
+pub mod SetFiles
+pub mod Spreads

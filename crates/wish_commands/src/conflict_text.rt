@@ -1,8 +1,5 @@
 //! The text of `conflict`.
 ghost use Rattle.std.specs.Prelude.{◌≡◌, ℕ, ◌≤◌, [], ◌∷◌, ◌++◌, length, codes, Some, All, IfOk, OnOk};
-ghost use Rattle.cost_base.specs.Decimal.{decimal};
-ghost use Rattle.area_graph.specs.Area.{FitsGraph};
-ghost use Rattle.path_rows.specs.Problems.{IsProblem};
 ghost use Rattle.path_rows.specs.Boxes.{IsInBox};
 ghost use Rattle.path_rows.specs.Rows.{box_of};
 ghost use Rattle.path_rows.specs.Text.{tree_lines};
@@ -10,39 +7,16 @@ ghost use Rattle.evidence_text.specs.Lines.{text_of, AreShort};
 ghost use Rattle.evidence_text.specs.Parts.{rows_lines, part_word};
 ghost use Rattle.conflict_core.specs.declared.conflict.Conflict.TheVariants.{Core, Fits, Unknown};
 ghost use Rattle.conflict_core.specs.Conflicts.{IsConflictFound, IsCore, IsUnknown};
-ghost use Rattle.wish_commands.specs.Conflicts.{at_ceiling, conflict_text, costs_part, members_line, without_line, without_parts};
+ghost use Rattle.wish_commands.specs.Conflicts.{conflict_text, members_line, without_line, without_parts};
+ghost use Rattle.wish_commands.specs.SharedParts.{costs_part};
 
+use crate::parts::{at_ceiling, costs_by_name, keeps_problem, push_line, push_words};
 use conflict_core::{Conflict, all_requests};
 use cost_base::OutOfMemory;
 use evidence_text::TreePart;
 use path_rows::{CapTree, CostList, Problem, Row, Tree};
-use printed_rows::{greatest_of, printed_costs};
 use std::alloc::Global;
-use text_parts::{push_bytes, push_costs, push_number, push_rows, push_tree};
-
-/// Each problem keeps its conditions, and so does its graph. It takes no time.
-fn keeps_problem(problem: &Problem)
-    ensures problem { IsProblem problem.now }
-    ensures graph { FitsGraph problem.now.graph }
-{
-    problem.graph.keeps_conditions();
-}
-
-/// Adds a line at the end.
-fn push_line(text: &mut Vec<u8>, line: &[u8]) -> Result<(), OutOfMemory>
-    ensures { OnOk result (text.new.items ≡ text.old.items ++ text_of (line.now ∷ [])) }
-{
-    push_bytes(text, line)?;
-    push_bytes(text, b"\n")
-}
-
-/// Adds a word behind a space.
-fn push_word(text: &mut Vec<u8>, number: u32) -> Result<(), OutOfMemory>
-    ensures { OnOk result (text.new.items ≡ text.old.items ++ 32 ∷ decimal number) }
-{
-    push_bytes(text, b" ")?;
-    push_number(text, u128::from(number))
-}
+use text_parts::{push_costs, push_number, push_rows, push_tree};
 
 /// The line of a set of requests.
 fn members_line(alloc: Global, members: &[u32]) -> Result<Vec<u8>, OutOfMemory>
@@ -50,9 +24,7 @@ fn members_line(alloc: Global, members: &[u32]) -> Result<Vec<u8>, OutOfMemory>
 {
     let mut line = Vec::from_slice(alloc, b"members ")?;
     push_number(&mut line, members.len() as u128)?;
-    for member in members {
-        push_word(&mut line, *member)?;
-    }
+    push_words(&mut line, members)?;
     Ok(line)
 }
 
@@ -78,8 +50,7 @@ fn push_costs_part(
     requires { IsInBox (box_of problem.now) costs.now }
     ensures { OnOk result (text.new.items ≡ text.old.items ++ text_of (costs_part problem.now costs.now)) }
 {
-    keeps_problem(problem);
-    let costs = printed_costs(alloc, problem, costs.as_slice())?;
+    let costs = costs_by_name(alloc, problem, costs)?;
     push_costs(alloc, text, Some(&costs))
 }
 
@@ -136,17 +107,6 @@ fn fits_text(alloc: Global, problem: &Problem, costs: &CostList) -> Result<Vec<u
     push_costs_part(alloc, &mut text, problem, costs)?;
     push_line(&mut text, b"end")?;
     Ok(text)
-}
-
-/// The tree over the box at the greatest upper bound.
-fn at_ceiling(problem: &Problem, tree: Tree) -> CapTree
-    ensures same { result ≡ at_ceiling problem.now tree }
-    ensures small { result.cap ≤ 65535 }
-{
-    CapTree {
-        cap: greatest_of(problem.high.as_slice()),
-        tree,
-    }
 }
 
 /// Adds the lines of rows, and of a tree over them.

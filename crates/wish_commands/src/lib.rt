@@ -3,5 +3,10 @@
 
 mod conflict;
 mod conflict_text;
+mod parts;
+mod sets_file;
+mod spread;
+mod spread_text;
 
 pub use conflict::conflict_report;
+pub use spread::spread_report;

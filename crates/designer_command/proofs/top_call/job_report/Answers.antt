@@ -4,7 +4,7 @@ use Rattle.form_search.proofs.AdvisorLaws.{left_alike}
 use Rattle.command_words.specs.Jobs.{bounds}
 use Rattle.command_words.specs.Jobs as read
 use Rattle.command_words.specs.Words.{texts}
-use Rattle.designer_command.proofs.Runs.{job_reported, spread_refused, trial_reported}
+use Rattle.designer_command.proofs.Runs.{job_reported, trial_reported}
 use Rattle.designer_command.proofs.top_call.job_report.Goals as goal
 
 pub returns-in-Design-clause-reported : goal.returns-in-Design-clause-reported
@@ -48,7 +48,8 @@ returns-in-Conflict-clause-reported g c =
 
 pub returns-in-Spread-clause-reported : goal.returns-in-Spread-clause-reported
 returns-in-Spread-clause-reported g c =
-    spread_refused (g.S.Shelf.gave c.args.shelf.now c.args.shelf.now) c.args.job.now _ _ _ _ c.usage_report.result (g.met.S.Shelf.gave_none c.args.shelf.now) (ap read.seen c.in-Spread.is) c.usage_report.ensures
+    job_reported (g.S.Shelf.gave c.args.shelf.now c.of_spread.new.shelf) c.args.job.now (read.Spread c.deref-in-Spread.result.now c.deref-in-Spread-2.result.now (bounds c.in-Spread.limits) (texts c.deref-in-Spread-3.result.now)) c.of_spread.result
+    (rw (c.in-Spread.is, c.deref-in-Spread.ensures, c.deref-in-Spread-2.ensures, c.deref-in-Spread-3.ensures.value) refl) c.of_spread.ensures
 
 pub returns-in-Spread-clause-advisors : goal.returns-in-Spread-clause-advisors
 returns-in-Spread-clause-advisors g c = left_alike _ _ _ refl

@@ -4,7 +4,8 @@ use Rattle.cost_base.specs.Decimal.{decimal}
 use Rattle.wish_commands.proofs.ConflictTexts.{members_begun}
 use Rattle.wish_commands.proofs.conflict_text.members_line.Goals as goal
 
-pub loop-member-init : goal.loop-member-init
-loop-member-init c =
+pub returns : goal.returns
+returns c =
     let members = c.args.members.now in
-    members_begun c.push_number.new.text.items members (c.in_ok-push_number.ensures ∙ ap (λ (first : List ℕ). first ++ decimal (length members)) c.in_ok-line.ensures.items)
+    c.in_ok-push_words.ensures
+    ∙ members_begun c.push_number.new.text.items members (c.in_ok-push_number.ensures ∙ ap (λ (first : List ℕ). first ++ decimal (length members)) c.in_ok-line.ensures.items)

@@ -3,7 +3,7 @@ use Rattle.std.specs.Prelude.{Some}
 use Rattle.std.proofs.lemmas.Result.{on_ok_weaker}
 use Rattle.path_rows.specs.Text.{tree_lines}
 use Rattle.evidence_text.specs.Parts.{rows_lines, part_word}
-use Rattle.wish_commands.proofs.ConflictTexts.{two_parts}
+use Rattle.wish_commands.proofs.TextParts.{two_parts}
 use Rattle.wish_commands.proofs.conflict_text.push_evidence.Goals as goal
 
 pub returns : goal.returns
