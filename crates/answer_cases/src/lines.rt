@@ -1,80 +1,58 @@
 //! Lines of an answer that are read one by one.
+
 use answer_lines::{
     TextLeft, entry_of, floor_next, floor_of, name_after, row_of, rows_next, tree_head_of,
     verdict_next,
 };
+use cost_base::OutOfMemory;
 use evidence_text::TreePart;
-use path_rows::{Floor, Verdict};
-use std::test::Fail;
+use std::alloc::{AllocError, Global};
 
-#[test]
-fn tree_lines_are_read(rt: HostRuntime) -> Result<(), Fail> {
-    let alloc = rt.alloc();
-    let cases: [(&[u8], bool); 16] = [
-        (b"tighten 0 low 2 0", true),
-        (b"tighten 0 low 02 0", false),
-        (b"tighten 0  low 2 0", false),
-        (b"split 4294967295 65535", true),
-        (b"split 4294967296 0", false),
-        (b"halve 1 1 add 1/16384 -1/3 low 0 1 high 1 2 row 7", true),
-        (b"halve 1 1 add 2/4 -1/3 row 7", false),
-        (b"halve 1 1 add -0/1 -1/3 row 7", false),
-        (b"halve 1 1 add 1/4 1/3", false),
-        (b"refute 0 1 2 3", true),
-        (b"refute 0 1 0 3", false),
-        (b"refute 0 0", false),
-        (b"refute", false),
-        (b"refute 0 10000000000000000000000000000000", false),
-        (b"open", true),
-        (b"open ", false),
-    ];
-    for (line, wanted) in cases {
-        assert_eq!(rt; entry_of(alloc, line)?.is_some(), wanted);
-    }
-    Ok(())
-}
-
-#[test]
-fn rows_are_read(rt: HostRuntime) -> Result<(), Fail> {
-    let alloc = rt.alloc();
-    let cases: [(&[u8], bool); 5] = [
-        (b"row 0", true),
-        (b"row 0 1 4", true),
-        (b"row 0 1 ", false),
-        (b"row", false),
-        (b"row 4294967296", false),
-    ];
-    for (line, wanted) in cases {
-        assert_eq!(rt; row_of(alloc, line)?.is_some(), wanted);
-    }
-    Ok(())
-}
-
-#[test]
-fn heads_are_read(rt: HostRuntime) {
-    assert_eq!(rt; floor_of(b"floor 7"), Some(Floor::Var(7)));
-    assert_eq!(rt; tree_head_of(b"proof 1 0", TreePart::Proof), Some((1, 0)));
-    assert_eq!(rt; tree_head_of(b"open 1 0", TreePart::Proof), None);
-}
-
-#[test]
-fn heads_are_read_from_a_text(rt: HostRuntime) {
-    let text = TextLeft::new(b"verdict impossible\nfloor none\nrows 0\nproof none");
+/// The verdict, the floor and the count of rows at the head of a text without costs, and the line behind them.
+fn heads(text: TextLeft<'_>, alloc: Global) -> Result<Option<String>, AllocError> {
     let Some((verdict, text)) = verdict_next(text) else {
-        assert!(rt; false);
-        return;
+        return Ok(None);
     };
-    assert_eq!(rt; verdict, Verdict::Impossible);
     let Some((floor, text)) = floor_next(text) else {
-        assert!(rt; false);
-        return;
+        return Ok(None);
     };
-    assert_eq!(rt; floor, Floor::Absent);
     let Some((count, text)) = rows_next(text) else {
-        assert!(rt; false);
-        return;
+        return Ok(None);
     };
-    assert_eq!(rt; count, 0);
-    assert!(rt; text.line().is_none());
-    assert_eq!(rt; name_after(b"router A", b"router "), Some(b"A".as_slice()));
+    let next = text.line().is_some();
+    let told = format!(in alloc;
+        ": {verdict:?}, floor {floor:?}, {count} rows, another line {next}"
+    )?;
+    Ok(Some(told))
+}
+
+/// `heads`: the heads of the last text.
+pub fn heads_text(alloc: Global, bytes: &[u8]) -> Result<String, AllocError> {
+    if bytes.len() > 100_000 {
+        return String::from_str(alloc, ": too long");
+    }
+    match heads(TextLeft::new(bytes), alloc)? {
+        Some(told) => Ok(told),
+        None => String::from_str(alloc, ": none"),
+    }
+}
+
+/// Whether a line was read.
+fn told(alloc: Global, is_read: bool) -> Result<String, AllocError> {
+    String::from_str(alloc, if is_read { ": read" } else { ": not read" })
+}
+
+/// What is answered to a line that asks of a line: `entry LINE`, `row LINE`, `floor LINE`, `proof LINE` and `router LINE`.
+pub fn line_text(alloc: Global, kind: &str, line: &[u8]) -> Result<String, OutOfMemory> {
+    Ok(match kind {
+        "entry" => told(alloc, entry_of(alloc, line)?.is_some())?,
+        "row" => told(alloc, row_of(alloc, line)?.is_some())?,
+        "floor" => format!(in alloc; ": {:?}", floor_of(line))?,
+        "proof" => format!(in alloc; ": {:?}", tree_head_of(line, TreePart::Proof))?,
+        "router" => match name_after(line, b"router ") {
+            Some(name) => format!(in alloc; ": {}", name.escape_ascii())?,
+            None => String::from_str(alloc, ": none")?,
+        },
+        _ => String::from_str(alloc, "")?,
+    })
 }

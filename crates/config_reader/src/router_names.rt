@@ -55,24 +55,3 @@ fn after_last_slash(file_name: &[u8]) -> &[u8]
     }
     left
 }
-
-#[cfg(test)]
-mod tests {
-    use super::*;
-
-    #[test]
-    fn names_of_files(rt: HostRuntime) {
-        assert!(rt; name_of_file(b"sites/north.1/R1.conf") == b"R1".as_slice());
-        assert!(rt; name_of_file(b"R2") == b"R2".as_slice());
-        assert!(rt; name_of_file(b"a/.conf").is_empty());
-    }
-
-    #[test]
-    fn names_of_routers(rt: HostRuntime) {
-        assert!(rt; is_router_name(b"core-1_A.b"));
-        assert!(rt; !is_router_name(b""));
-        assert!(rt; !is_router_name(b"a b"));
-        assert!(rt; is_router_name([b'a'; 64].as_slice()));
-        assert!(rt; !is_router_name([b'a'; 65].as_slice()));
-    }
-}

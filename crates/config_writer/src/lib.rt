@@ -31,6 +31,3 @@ impl From<OutOfMemory> for RewriteStop {
         RewriteStop::OutOfMemory
     }
 }
-
-#[cfg(test)]
-mod tests;

@@ -9,4 +9,3 @@ pub mod CostLaws
 pub mod StopLaws
 pub mod CostTests
 pub mod AnswerLaws
-pub mod LoneRouter

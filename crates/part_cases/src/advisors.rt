@@ -1,7 +1,9 @@
-//! Advisors that are asked and told.
+//! Lines of a script that ask advisors.
+
 use advisor_box::{Advisor, Candidate, SmallestNumber, WidestFirst, choose, tell};
+use case_scripts::next_number;
 use path_rows::Entry;
-use std::test::Fail;
+use std::alloc::{AllocError, Global};
 
 /// Picks 0 at its first call, and 4000 from then on.
 #[derive(Drop)]
@@ -32,7 +34,7 @@ impl Advisor for TurnsBad {
     fn told(&mut self, _entry: &Entry) {}
 }
 
-/// Picks the number of entries that it was told.
+/// Picks the number of entries that it was told, and a number before them.
 #[derive(Drop)]
 struct Counts {
     told: u32,
@@ -59,89 +61,42 @@ impl Advisor for Counts {
     }
 }
 
-/// Three choices, of the ranges 1 to 4, 1 to 9 and 2 to 10.
-fn three() -> [Candidate; 3] {
-    [
-        Candidate {
-            var: 0,
-            floor: 2,
-            low: 1,
-            high: 4,
-        },
-        Candidate {
-            var: 3,
-            floor: 5,
-            low: 1,
-            high: 9,
-        },
-        Candidate {
-            var: 4,
-            floor: 6,
-            low: 2,
-            high: 10,
-        },
-    ]
+/// A candidate of a range. The search stands between its ends.
+fn candidate(var: u32, low: u16, high: u16) -> Candidate {
+    Candidate {
+        var,
+        floor: low,
+        low,
+        high,
+    }
 }
 
-#[test]
-fn choose_widest(rt: HostRuntime) -> Result<(), Fail> {
-    let mut advisors: Vec<Box<dyn Advisor>> = Vec::new(rt.alloc());
-    advisors.push(Box::new(rt.alloc(), WidestFirst)?)?;
-    let choices = three();
-    assert_eq!(rt; choose(&mut advisors, &choices), 1);
-    assert_eq!(rt; advisors.len(), 1);
-    Ok(())
-}
-
-#[test]
-fn choose_none(rt: HostRuntime) -> Result<(), Fail> {
-    let mut advisors: Vec<Box<dyn Advisor>> = Vec::new(rt.alloc());
-    let choices = three();
-    assert_eq!(rt; choose(&mut advisors, &choices), 0);
-    assert_eq!(rt; advisors.len(), 0);
-    Ok(())
-}
-
-#[test]
-fn choose_turned_bad(rt: HostRuntime) -> Result<(), Fail> {
-    let mut advisors: Vec<Box<dyn Advisor>> = Vec::new(rt.alloc());
-    advisors.push(Box::new(rt.alloc(), TurnsBad { bad: false })?)?;
-    advisors.push(Box::new(rt.alloc(), SmallestNumber)?)?;
-    let choices = three();
-    assert_eq!(rt; choose(&mut advisors, &choices), 0);
-    assert_eq!(rt; advisors.len(), 2);
-    assert_eq!(rt; choose(&mut advisors, &choices), 0);
-    assert_eq!(rt; advisors.len(), 1);
-    Ok(())
-}
-
-/// Each advisor hears of each entry once, and the first one in range answers.
-#[test]
-fn advisors_are_told(rt: HostRuntime) -> Result<(), Fail> {
-    let mut advisors: Vec<Box<dyn Advisor>> = Vec::new(rt.alloc());
-    advisors.push(Box::new(rt.alloc(), Counts { told: 3 })?)?;
-    advisors.push(Box::new(rt.alloc(), Counts { told: 0 })?)?;
-    advisors.push(Box::new(rt.alloc(), WidestFirst)?)?;
-    tell(&mut advisors, &Entry::Undone);
-    tell(&mut advisors, &Entry::Undone);
-    assert_eq!(rt; advisors.len(), 3);
-    let choices = three();
-    assert_eq!(rt; choose(&mut advisors, &choices), 2);
-    assert_eq!(rt; advisors.len(), 2);
-    Ok(())
-}
-
-fn picked<A: Advisor>(mut advisor: A, choices: &[Candidate]) -> u32 {
-    advisor.told(&Entry::Undone);
-    advisor.pick(choices)
-}
-
-#[test]
-fn each_advisor_picks(rt: HostRuntime) -> Result<(), Fail> {
-    let choices = three();
-    assert_eq!(rt; picked(WidestFirst, &choices), 1);
-    assert_eq!(rt; picked(SmallestNumber, &choices), 0);
-    assert_eq!(rt; picked(TurnsBad { bad: true }, &choices), 4000);
-    assert_eq!(rt; picked(Counts { told: 1 }, &choices), 2);
-    Ok(())
+/// `choose TOLD CALLS ADVISOR ..`: tells advisors so many entries, and asks them so often over the ranges 1 to 4, 1 to 9 and
+/// 2 to 10. An advisor is `widest`, `smallest`, `turns` or a number that it adds to what it was told.
+pub fn choose_text(alloc: Global, rest: &str) -> Result<String, AllocError> {
+    let mut words = rest.split_whitespace();
+    let told = next_number(&mut words);
+    let calls = next_number(&mut words);
+    let mut advisors: Vec<Box<dyn Advisor>> = Vec::new(alloc);
+    for word in words {
+        match word {
+            "widest" => advisors.push(Box::new(alloc, WidestFirst)?)?,
+            "smallest" => advisors.push(Box::new(alloc, SmallestNumber)?)?,
+            "turns" => advisors.push(Box::new(alloc, TurnsBad { bad: false })?)?,
+            _ => {
+                let told = word.parse::<u32>().unwrap_or(0);
+                advisors.push(Box::new(alloc, Counts { told })?)?;
+            }
+        }
+    }
+    for _ in 0..told {
+        tell(&mut advisors, &Entry::Undone);
+    }
+    let choices = [candidate(0, 1, 4), candidate(3, 1, 9), candidate(4, 2, 10)];
+    let mut text = String::from_str(alloc, ":")?;
+    for _ in 0..calls {
+        let picked = choose(&mut advisors, &choices);
+        text.push_str(format!(in alloc; " {picked} of {} left", advisors.len())?.as_str())?;
+    }
+    Ok(text)
 }

@@ -1,0 +1,34 @@
+//! What is answered to a line of a script.
+
+use crate::begun::{begun_text, longest_text};
+use crate::lines::{heads_text, line_text};
+use crate::texts::{parts_text, put_text, read_text};
+use case_scripts::Texts;
+use cost_base::OutOfMemory;
+use std::alloc::{AllocError, Global};
+
+/// What is answered to a line that asks of the last text or of a line, in which `more` is what it says.
+fn asked(alloc: Global, texts: &Texts, first: &str, more: &str) -> Result<String, OutOfMemory> {
+    let bytes = texts.with(alloc, more)?;
+    match first {
+        "answer" => read_text(alloc, bytes.as_slice()),
+        "put" => put_text(alloc, bytes.as_slice()),
+        "parts" => parts_text(alloc, bytes.as_slice()),
+        "heads" => Ok(heads_text(alloc, bytes.as_slice())?),
+        "begun" => Ok(begun_text(alloc, more)?),
+        "longest" => Ok(longest_text(alloc)?),
+        _ => line_text(alloc, first, more.as_bytes()),
+    }
+}
+
+/// What is answered to a line, to stand behind it.
+pub fn answer(alloc: Global, texts: &mut Texts, line: &str) -> Result<String, AllocError> {
+    if texts.takes(alloc, line)? {
+        return Ok(String::new(alloc));
+    }
+    let (first, more) = line.split_once(' ').unwrap_or((line, ""));
+    match asked(alloc, texts, first, more) {
+        Ok(text) => Ok(text),
+        Err(_) => Err(AllocError),
+    }
+}

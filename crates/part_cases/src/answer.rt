@@ -1,0 +1,37 @@
+//! What is answered to a line of a script.
+
+use crate::advisors::choose_text;
+use crate::fractions::fraction_text;
+use crate::jobs::{job_text, made_text};
+use crate::numbers::number_text;
+use crate::ranges::{cut_text, over_text};
+use crate::shelves::{file_text, memory_shelf_text, sure_shelf_text};
+use crate::sinks::{memory_sink_text, out_sink_text, sure_sink_text};
+use crate::texts::text_text;
+use std::alloc::AllocError;
+use std::rt::Files;
+
+/// What is answered to a line, to stand behind it. A line that begins with no word of a table is a comment.
+pub fn answer(rt: &(impl Files + AllocGlobal), line: &str) -> Result<String, AllocError> {
+    let alloc = rt.alloc();
+    let (first, rest) = line.split_once(' ').unwrap_or((line, ""));
+    match first {
+        "lines" | "words" | "kind" | "behind" | "tests" => text_text(alloc, first, rest),
+        "number" | "quad" | "prefix" | "area" | "printed" | "digits" => {
+            number_text(alloc, first, rest)
+        }
+        "at" => fraction_text(alloc, rest),
+        "over" => over_text(alloc, rest),
+        "cut" => cut_text(alloc, rest),
+        "job" => job_text(alloc, rest),
+        "made" => made_text(alloc, rest),
+        "choose" => choose_text(alloc, rest),
+        "memory-shelf" => memory_shelf_text(alloc, rest),
+        "sure-shelf" => sure_shelf_text(alloc, rest),
+        "file" => file_text(rt, rest),
+        "memory-sink" => memory_sink_text(alloc, rest),
+        "sure-sink" => sure_sink_text(alloc, rest),
+        "out-sink" => out_sink_text(alloc, rest),
+        _ => String::from_str(alloc, ""),
+    }
+}

@@ -1,0 +1,51 @@
+//! What is answered to a line of a script.
+
+use crate::configs::config_text;
+use crate::networks::{links_text, network_text};
+use crate::problems::{present_text, problem_text};
+use crate::requests::request_text;
+use case_scripts::Texts;
+use lsdb_build::Lsdb;
+use std::alloc::{AllocError, Global};
+
+/// The texts of a script, and the network at hand.
+#[derive(Drop)]
+pub struct Desk {
+    texts: Texts,
+    network: Option<Lsdb>,
+}
+
+impl Desk {
+    /// No text and no network.
+    pub fn new(alloc: Global) -> Desk {
+        Desk {
+            texts: Texts::new(alloc),
+            network: None,
+        }
+    }
+}
+
+/// What is answered to a line that asks of the last text, with more bytes behind it.
+fn asked(alloc: Global, desk: &Desk, first: &str, more: &str) -> Result<String, AllocError> {
+    let bytes = desk.texts.with(alloc, more)?;
+    match (first, &desk.network) {
+        ("config", _) => config_text(alloc, desk.texts.last().name.as_str(), bytes.as_slice()),
+        ("request", _) => request_text(alloc, bytes.as_slice()),
+        ("problem", Some(network)) => problem_text(alloc, bytes.as_slice(), network),
+        ("present", Some(network)) => present_text(alloc, bytes.as_slice(), network),
+        _ => String::from_str(alloc, ""),
+    }
+}
+
+/// What is answered to a line, to stand behind it.
+pub fn answer(alloc: Global, desk: &mut Desk, line: &str) -> Result<String, AllocError> {
+    if desk.texts.takes(alloc, line)? {
+        return Ok(String::new(alloc));
+    }
+    let (first, rest) = line.split_once(' ').unwrap_or((line, ""));
+    match first {
+        "network" => network_text(alloc, &desk.texts, &mut desk.network, rest),
+        "links" => links_text(alloc, &desk.network),
+        _ => asked(alloc, desk, first, rest),
+    }
+}

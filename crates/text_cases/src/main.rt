@@ -1,0 +1,26 @@
+//! Runs scripts of texts: configurations, request files, and the networks and problems that they make. Each line of
+//! standard input, with what is answered to it.
+//!
+//! `text NAME` begins a text, and `| LINE` adds a line to it. `stdin` has the cases, and `stdout` their answers, which were
+//! worked out by hand.
+#![tactic(auto)]
+
+mod answer;
+mod configs;
+mod networks;
+mod problems;
+mod requests;
+
+use crate::answer::{Desk, answer};
+use std::io;
+
+fn main(rt: HostRuntime) -> io::Result<()> {
+    let alloc = rt.alloc();
+    let mut desk = Desk::new(alloc);
+    for line in rt.lines(alloc) {
+        let line = line?;
+        let text = answer(alloc, &mut desk, line.as_str())?;
+        println!(rt; "{line}{text}")?;
+    }
+    Ok(())
+}

@@ -1,0 +1,87 @@
+//! The problem that requests make of a network, as it is written.
+
+use crate::requests::requests_of;
+use area_graph::{Edge, Price};
+use case_scripts::Written;
+use lsdb_build::Lsdb;
+use path_requests::{resolve, resolve_present};
+use path_rows::{Problem, Request};
+use std::alloc::{AllocError, Global};
+use std::fmt;
+use wanted_paths::ResolutionStop;
+
+/// An edge as it is written: `FROM-TO:PRICE`, a variable being `xN`.
+#[derive(Drop)]
+struct Shown<'a>(&'a Edge);
+
+impl<'a> fmt::Display for Shown<'a> {
+    fn fmt<W: fmt::Write>(&self, f: &mut fmt::Formatter<W>) -> fmt::Result {
+        write!(f, " {}-{}:", self.0.from, self.0.to)?;
+        match self.0.price {
+            Price::Fixed(cost) => write!(f, "{cost}"),
+            Price::Var(number) => write!(f, "x{number}"),
+            Price::Zero => write!(f, "0"),
+        }
+    }
+}
+
+/// The variable of each free interface.
+fn variables(alloc: Global, problem: &Problem) -> Result<Vec<u32>, AllocError> {
+    let mut variables = Vec::new(alloc);
+    for name in problem.vars.as_slice() {
+        variables.push(name.var)?;
+    }
+    Ok(variables)
+}
+
+/// A wanted path: its edges, its end, and the edges that it goes without.
+fn path_text(alloc: Global, wanted: &Request) -> Result<String, AllocError> {
+    let edges = Written(wanted.path.edges.as_slice());
+    let gone = Written(wanted.gone.as_slice());
+    format!(in alloc;
+        "\n  path {} to {} over {edges} without {gone}",
+        wanted.path.start, wanted.end
+    )
+}
+
+/// A problem: the variables of its free interfaces, their bounds, the edges of its graph, and its paths.
+fn problem_shown(alloc: Global, problem: &Problem) -> Result<String, AllocError> {
+    let low = Written(problem.low.as_slice());
+    let high = Written(problem.high.as_slice());
+    let variables = variables(alloc, problem)?;
+    let mut text = format!(in alloc;
+        ": low {low}; high {high}; variables {}\n ",
+        Written(variables.as_slice())
+    )?;
+    for edge in problem.graph.edges() {
+        text.push_str(format!(in alloc; "{}", Shown(edge))?.as_str())?;
+    }
+    for wanted in problem.paths.as_slice() {
+        text.push_str(path_text(alloc, wanted)?.as_str())?;
+    }
+    Ok(text)
+}
+
+/// What is told of a problem, or of the first fault of its requests.
+fn told(alloc: Global, problem: Result<Problem, ResolutionStop>) -> Result<String, AllocError> {
+    match problem {
+        Ok(problem) => problem_shown(alloc, &problem),
+        Err(stop) => format!(in alloc; ": {stop:?}"),
+    }
+}
+
+/// `problem MORE`: the problem that the last text makes of the network at hand.
+pub fn problem_text(alloc: Global, bytes: &[u8], network: &Lsdb) -> Result<String, AllocError> {
+    match requests_of(alloc, bytes) {
+        Ok(requests) => told(alloc, resolve(alloc, &requests, network)),
+        Err(stop) => format!(in alloc; ": {stop:?}"),
+    }
+}
+
+/// `present MORE`: the problem of the network at hand at its present costs.
+pub fn present_text(alloc: Global, bytes: &[u8], network: &Lsdb) -> Result<String, AllocError> {
+    match requests_of(alloc, bytes) {
+        Ok(requests) => told(alloc, resolve_present(alloc, &requests, network)),
+        Err(stop) => format!(in alloc; ": {stop:?}"),
+    }
+}
