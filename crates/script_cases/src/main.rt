@@ -8,7 +8,6 @@ mod command;
 mod scene;
 mod search;
 mod source;
-mod words;
 
 use crate::scene::Scene;
 use std::io;

@@ -4,8 +4,8 @@ ghost use Rattle.path_rows.specs.Boxes.{IsBox};
 
 use crate::advisors::advisor_of;
 use crate::scene::Scene;
-use crate::words::Line;
 use advisor_box::Advisor;
+use entry_words::Line;
 use exact_simplex::is_box;
 use form_search::{FormPool, Found, RowSource, search};
 use path_rows::{CostBox, Tree};

@@ -1,4 +1,6 @@
-//! Steps, members, multipliers and entries of trees, as they are written.
+//! Steps, members, multipliers and entries of trees, as the programs that run scripts write them. No contract speaks of
+//! these words: tests alone read them.
+#![tactic(auto)]
 
 use cost_base::{Ratio, StepName};
 use path_rows::{Entry, Member, Parts, Side, WideAt};

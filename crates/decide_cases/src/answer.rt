@@ -1,0 +1,122 @@
+//! What is answered to a line of a script.
+
+use crate::command::{Command, read_command};
+use crate::conditions::{are_below, are_members};
+use crate::deciding::{decide_text, least_text, told_text};
+use crate::draft::Draft;
+use crate::problem_text::{box_text, problem_text};
+use crate::stop::Stop;
+use cost_base::OutOfMemory;
+use path_rows::{Problem, box_at};
+use std::alloc::{AllocError, Global};
+use std::mem;
+
+/// What a script has come to: what was said of a problem, and the problem at hand.
+#[derive(Drop)]
+pub struct Scene {
+    draft: Draft,
+    problem: Option<Problem>,
+}
+
+impl Scene {
+    /// Nothing was said, and no problem is at hand.
+    pub fn new(alloc: Global) -> Scene {
+        Scene {
+            draft: Draft::new(alloc),
+            problem: None,
+        }
+    }
+
+    /// Puts a problem in place of the one at hand.
+    fn take(&mut self, alloc: Global, problem: Option<Problem>) -> Result<String, OutOfMemory> {
+        let word = if problem.is_some() {
+            ": made"
+        } else {
+            ": unfit"
+        };
+        self.problem = problem;
+        Ok(String::from_str(alloc, word)?)
+    }
+}
+
+/// The ranges at a cap.
+fn ranges(alloc: Global, problem: &Problem, cap: u16) -> Result<String, OutOfMemory> {
+    if !are_below(problem.low.as_slice(), cap) {
+        return Ok(String::from_str(alloc, ": unfit")?);
+    }
+    let costs = box_at(alloc, problem, cap)?;
+    box_text(alloc, &costs)
+}
+
+/// The restricted problem of these requests, where they are some in order.
+fn only(alloc: Global, problem: &Problem, members: &[u32]) -> Result<Option<Problem>, OutOfMemory> {
+    if !are_members(members, problem.paths.as_slice().len()) {
+        return Ok(None);
+    }
+    Ok(Some(problem.only(alloc, members)?))
+}
+
+/// What is answered to a line that asks something of the problem at hand.
+fn called(alloc: Global, problem: &Problem, asked: Command) -> Result<String, OutOfMemory> {
+    match asked {
+        Command::Decide(cap, budget) => decide_text(alloc, problem, cap, budget),
+        Command::Told(cap, budget, count) => told_text(alloc, problem, cap, budget, count),
+        Command::Least(budget) => least_text(alloc, problem, budget),
+        Command::Show => problem_text(alloc, problem),
+        Command::Ranges(cap) => ranges(alloc, problem, cap),
+        _ => Ok(String::from_str(alloc, "")?),
+    }
+}
+
+/// What is answered to a line that speaks of the problem at hand.
+fn of_problem(alloc: Global, scene: &mut Scene, asked: Command) -> Result<String, OutOfMemory> {
+    let Some(problem) = &scene.problem else {
+        return Ok(String::from_str(alloc, ": no problem")?);
+    };
+    match asked {
+        Command::Only(members) => match only(alloc, problem, members.as_slice())? {
+            None => Ok(String::from_str(alloc, ": unfit")?),
+            part => scene.take(alloc, part),
+        },
+        _ => called(alloc, problem, asked),
+    }
+}
+
+/// What is answered to what is asked.
+fn answered(alloc: Global, scene: &mut Scene, asked: Command) -> Result<String, OutOfMemory> {
+    match asked {
+        Command::Network(routers, subnets) => {
+            scene.draft = Draft::of_network(alloc, routers, subnets)?;
+        }
+        Command::Variable(router, interface, low, high) => {
+            scene.draft.add_variable(router, interface, low, high)?;
+        }
+        Command::Link(edge) => scene.draft.add_edge(edge)?,
+        Command::Wish(request) => scene.draft.add_path(request)?,
+        Command::Problem => {
+            let draft = mem::replace(&mut scene.draft, Draft::new(alloc));
+            let problem = draft.into_problem(alloc)?;
+            return scene.take(alloc, problem);
+        }
+        _ => return of_problem(alloc, scene, asked),
+    }
+    Ok(String::from_str(alloc, "")?)
+}
+
+/// What is answered to a line.
+fn reply(alloc: Global, scene: &mut Scene, line: &str) -> Result<String, OutOfMemory> {
+    match read_command(alloc, line) {
+        Ok(Command::Comment) => Ok(String::from_str(alloc, "")?),
+        Ok(asked) => answered(alloc, scene, asked),
+        Err(Stop::Unread) => Ok(String::from_str(alloc, ": no line of a script")?),
+        Err(Stop::OutOfMemory) => Err(OutOfMemory),
+    }
+}
+
+/// What is answered to a line, to stand behind the line.
+pub fn answer(alloc: Global, scene: &mut Scene, line: &str) -> Result<String, AllocError> {
+    match reply(alloc, scene, line) {
+        Ok(text) => Ok(text),
+        Err(OutOfMemory) => Err(AllocError),
+    }
+}

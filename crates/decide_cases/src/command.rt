@@ -1,0 +1,203 @@
+//! The lines of a script.
+
+use crate::stop::Stop;
+use area_graph::{Edge, Path, Price};
+use cost_base::{Listed, Name};
+use path_rows::Request;
+use std::alloc::Global;
+use std::str::SplitWhitespace;
+
+/// What a line asks for.
+#[derive(Drop)]
+pub enum Command {
+    /// `network ROUTERS SUBNETS`: another network, with nothing in it yet but its vertices: routers, then subnets.
+    Network(u32, u32),
+    /// `variable ROUTER INTERFACE LOW HIGH`: one more free interface, with the bounds of its cost.
+    Variable(Name, Name, u16, u16),
+    /// `edge FROM TO fixed COST`, `edge FROM TO variable NUMBER` or `edge FROM TO zero`: one more edge.
+    Link(Edge),
+    /// `path START END EDGE .. without EDGE ..`: one more wanted path, with the edges that its request takes away.
+    Wish(Request),
+    /// `problem`: what the lines since the last network say is the problem at hand, where it is one.
+    Problem,
+    /// `decide CAP NODES BITS`: one cap decided.
+    Decide(u16, Budget),
+    /// `told CAP NODES BITS CHOICES`: the same with an advisor that counts the entries that it is told, which is asked
+    /// afterwards for its pick of so many choices.
+    Told(u16, Budget, u32),
+    /// `least NODES BITS`: the text of the answer with the least cap.
+    Least(Budget),
+    /// `only MEMBER ..`: the restricted problem of these requests is the problem at hand.
+    Only(Vec<u32>),
+    /// `show`: the problem at hand, line by line.
+    Show,
+    /// `box CAP`: the ranges at a cap.
+    Ranges(u16),
+    /// A blank line, or one that begins with `#`.
+    Comment,
+}
+
+/// A node budget and a width.
+#[derive(Clone, Copy)]
+pub struct Budget {
+    pub nodes: u32,
+    pub bits: u32,
+}
+
+/// The number of the next word.
+fn number(words: &mut SplitWhitespace<'_>) -> Result<u32, Stop> {
+    number_of(words.next())
+}
+
+/// The number of a word.
+fn number_of(word: Option<&str>) -> Result<u32, Stop> {
+    match word {
+        Some(word) => word.parse::<u32>().map_err(|_| Stop::Unread),
+        None => Err(Stop::Unread),
+    }
+}
+
+/// The cost of the next word.
+fn cost(words: &mut SplitWhitespace<'_>) -> Result<u16, Stop> {
+    let number = number(words)?;
+    u16::try_from(number).map_err(|_| Stop::Unread)
+}
+
+/// The name that is the next word.
+fn name(alloc: Global, words: &mut SplitWhitespace<'_>) -> Result<Name, Stop> {
+    match words.next() {
+        Some(word) => Ok(Name::from_bytes(alloc, word.as_bytes())?),
+        None => Err(Stop::Unread),
+    }
+}
+
+/// The numbers of the words up to the word `end`, or to the last.
+fn numbers(alloc: Global, words: &mut SplitWhitespace<'_>, end: &str) -> Result<Vec<u32>, Stop> {
+    let mut numbers = Vec::new(alloc);
+    for word in words {
+        if word == end {
+            break;
+        }
+        numbers.push(number_of(Some(word))?)?;
+    }
+    Ok(numbers)
+}
+
+/// A variable's names and bounds.
+fn variable(alloc: Global, words: &mut SplitWhitespace<'_>) -> Result<Command, Stop> {
+    let router = name(alloc, words)?;
+    let interface = name(alloc, words)?;
+    let low = cost(words)?;
+    let high = cost(words)?;
+    Ok(Command::Variable(router, interface, low, high))
+}
+
+/// A price.
+fn price(words: &mut SplitWhitespace<'_>) -> Result<Price, Stop> {
+    let kind = words.next().unwrap_or("");
+    if kind == "fixed" {
+        return Ok(Price::Fixed(cost(words)?));
+    }
+    if kind == "variable" {
+        return Ok(Price::Var(number(words)?));
+    }
+    if kind == "zero" {
+        return Ok(Price::Zero);
+    }
+    Err(Stop::Unread)
+}
+
+/// An edge.
+fn edge(words: &mut SplitWhitespace<'_>) -> Result<Command, Stop> {
+    let from = number(words)?;
+    let to = number(words)?;
+    let price = price(words)?;
+    Ok(Command::Link(Edge { from, to, price }))
+}
+
+/// A wanted path.
+fn wish(alloc: Global, words: &mut SplitWhitespace<'_>) -> Result<Command, Stop> {
+    let start = number(words)?;
+    let end = number(words)?;
+    let edges = numbers(alloc, words, "without")?;
+    let gone = numbers(alloc, words, "")?;
+    Ok(Command::Wish(Request {
+        path: Path {
+            start,
+            edges: Listed::from_items(edges),
+        },
+        end,
+        gone: Listed::from_items(gone),
+    }))
+}
+
+/// A budget and a width.
+fn read_budget(words: &mut SplitWhitespace<'_>) -> Result<Budget, Stop> {
+    let nodes = number(words)?;
+    let bits = number(words)?;
+    Ok(Budget { nodes, bits })
+}
+
+/// What a line that speaks of a network asks for, by its first word and those behind it.
+fn network_line(
+    alloc: Global,
+    first: &str,
+    words: &mut SplitWhitespace<'_>,
+) -> Result<Command, Stop> {
+    if first == "network" {
+        let routers = number(words)?;
+        let subnets = number(words)?;
+        return Ok(Command::Network(routers, subnets));
+    }
+    if first == "variable" {
+        return variable(alloc, words);
+    }
+    if first == "edge" {
+        return edge(words);
+    }
+    if first == "path" {
+        return wish(alloc, words);
+    }
+    Err(Stop::Unread)
+}
+
+/// What a line that calls for an answer asks for, by its first word and those behind it.
+fn call_line(alloc: Global, first: &str, words: &mut SplitWhitespace<'_>) -> Result<Command, Stop> {
+    if first == "problem" {
+        return Ok(Command::Problem);
+    }
+    if first == "show" {
+        return Ok(Command::Show);
+    }
+    if first == "decide" {
+        let cap = cost(words)?;
+        return Ok(Command::Decide(cap, read_budget(words)?));
+    }
+    if first == "told" {
+        let cap = cost(words)?;
+        let budget = read_budget(words)?;
+        return Ok(Command::Told(cap, budget, number(words)?));
+    }
+    if first == "least" {
+        return Ok(Command::Least(read_budget(words)?));
+    }
+    if first == "only" {
+        return Ok(Command::Only(numbers(alloc, words, "")?));
+    }
+    if first == "box" {
+        return Ok(Command::Ranges(cost(words)?));
+    }
+    network_line(alloc, first, words)
+}
+
+/// What the line asks for.
+pub fn read_command(alloc: Global, line: &str) -> Result<Command, Stop> {
+    let mut words = line.split_whitespace();
+    let Some(first) = words.next() else {
+        return Ok(Command::Comment);
+    };
+    if first.starts_with("#") {
+        return Ok(Command::Comment);
+    }
+    call_line(alloc, first, &mut words)
+}

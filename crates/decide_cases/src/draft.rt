@@ -1,0 +1,98 @@
+//! What the lines of a script say of a problem, before it is known to be one.
+
+use crate::conditions::is_problem;
+use area_graph::{Edge, Graph, Vertex, fits_graph};
+use cost_base::{Listed, Name, OutOfMemory};
+use path_rows::{Problem, Request, VarName};
+use std::alloc::Global;
+
+/// The vertices, edges, free interfaces, bounds and wanted paths that lines say.
+#[derive(Drop)]
+pub struct Draft {
+    vertices: Vec<Vertex>,
+    edges: Vec<Edge>,
+    vars: Listed<VarName>,
+    low: Listed<u16>,
+    high: Listed<u16>,
+    paths: Listed<Request>,
+}
+
+impl Draft {
+    /// Nothing is said.
+    pub fn new(alloc: Global) -> Draft {
+        Draft {
+            vertices: Vec::new(alloc),
+            edges: Vec::new(alloc),
+            vars: Listed::new(alloc),
+            low: Listed::new(alloc),
+            high: Listed::new(alloc),
+            paths: Listed::new(alloc),
+        }
+    }
+
+    /// So many routers and subnets are said.
+    pub fn of_network(alloc: Global, routers: u32, subnets: u32) -> Result<Draft, OutOfMemory> {
+        let mut draft = Draft::new(alloc);
+        for number in 0..routers {
+            draft.vertices.push(Vertex::Router(number))?;
+        }
+        for number in 0..subnets {
+            draft.vertices.push(Vertex::Subnet(number))?;
+        }
+        Ok(draft)
+    }
+
+    /// One more edge.
+    pub fn add_edge(&mut self, edge: Edge) -> Result<(), OutOfMemory> {
+        Ok(self.edges.push(edge)?)
+    }
+
+    /// One more free interface, whose variable is the next one.
+    pub fn add_variable(
+        &mut self,
+        router: Name,
+        interface: Name,
+        low: u16,
+        high: u16,
+    ) -> Result<(), OutOfMemory> {
+        let var = u32::try_from(self.low.as_slice().len()).unwrap_or(0);
+        self.vars.push(VarName {
+            router,
+            interface,
+            var,
+        })?;
+        self.low.push(low)?;
+        self.high.push(high)
+    }
+
+    /// One more wanted path.
+    pub fn add_path(&mut self, request: Request) -> Result<(), OutOfMemory> {
+        self.paths.push(request)
+    }
+
+    /// The problem that is said, where it is one.
+    pub fn into_problem(self, alloc: Global) -> Result<Option<Problem>, OutOfMemory> {
+        let Draft {
+            vertices,
+            edges,
+            vars,
+            low,
+            high,
+            paths,
+        } = self;
+        if !fits_graph(vertices.as_slice(), edges.as_slice()) {
+            return Ok(None);
+        }
+        let graph = Graph::new(alloc, vertices, edges)?;
+        if !is_problem(&graph, &vars, &low, &high, &paths) {
+            return Ok(None);
+        }
+        Ok(Some(Problem {
+            graph,
+            vars,
+            low,
+            high,
+            paths,
+        }))
+    }
+}
