@@ -1,3 +1,2 @@
 pub mod CapLaws
-pub mod CostLaws
 pub mod ValidAnswers

@@ -1,6 +1,6 @@
 -- Where no bound is the greatest, there is no variable.
 use Rattle.std.proofs.Common.{◌∙◌, sym, arith}
-use Rattle.least_bound.proofs.CostLaws.{greatest-none}
+use Rattle.printed_rows.proofs.CostLaws.{greatest-none}
 use Rattle.least_bound.proofs.greatest.floor_of.Goals as goal
 
 pub returns : goal.returns
