@@ -22,7 +22,7 @@ fn asked(alloc: Global, texts: &Texts, first: &str, more: &str) -> Result<String
 }
 
 /// What is answered to a line, to stand behind it.
-pub fn answer(alloc: Global, texts: &mut Texts, line: &str) -> Result<String, AllocError> {
+pub(crate) fn answer(alloc: Global, texts: &mut Texts, line: &str) -> Result<String, AllocError> {
     if texts.takes(alloc, line)? {
         return Ok(String::new(alloc));
     }

@@ -32,7 +32,7 @@ fn begins(kind: &str, line: &[u8]) -> bool {
 }
 
 /// `begun KIND TEXT`: whether a text begins a lawful line of a kind.
-pub fn begun_text(alloc: Global, rest: &str) -> Result<String, AllocError> {
+pub(crate) fn begun_text(alloc: Global, rest: &str) -> Result<String, AllocError> {
     let (kind, text) = rest.split_once(' ').unwrap_or((rest, ""));
     let line = bytes_of(alloc, text)?;
     let told = if begins(kind, line.as_slice()) {
@@ -45,7 +45,7 @@ pub fn begun_text(alloc: Global, rest: &str) -> Result<String, AllocError> {
 
 /// `longest`: whether a `router` line of 65,536 bytes begins a section behind one of the router `A`, and behind one of the
 /// same router.
-pub fn longest_text(alloc: Global) -> Result<String, AllocError> {
+pub(crate) fn longest_text(alloc: Global) -> Result<String, AllocError> {
     let mut longest = b"router ".as_slice().to_vec(alloc)?;
     longest.resize(65_536, b'A')?;
     let line = longest.as_slice();

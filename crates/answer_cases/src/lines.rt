@@ -27,7 +27,7 @@ fn heads(text: TextLeft<'_>, alloc: Global) -> Result<Option<String>, AllocError
 }
 
 /// `heads`: the heads of the last text.
-pub fn heads_text(alloc: Global, bytes: &[u8]) -> Result<String, AllocError> {
+pub(crate) fn heads_text(alloc: Global, bytes: &[u8]) -> Result<String, AllocError> {
     if bytes.len() > 100_000 {
         return String::from_str(alloc, ": too long");
     }
@@ -43,7 +43,7 @@ fn told(alloc: Global, is_read: bool) -> Result<String, AllocError> {
 }
 
 /// What is answered to a line that asks of a line: `entry LINE`, `row LINE`, `floor LINE`, `proof LINE` and `router LINE`.
-pub fn line_text(alloc: Global, kind: &str, line: &[u8]) -> Result<String, OutOfMemory> {
+pub(crate) fn line_text(alloc: Global, kind: &str, line: &[u8]) -> Result<String, OutOfMemory> {
     Ok(match kind {
         "entry" => told(alloc, entry_of(alloc, line)?.is_some())?,
         "row" => told(alloc, row_of(alloc, line)?.is_some())?,

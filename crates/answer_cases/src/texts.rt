@@ -45,7 +45,7 @@ fn answer_text(alloc: Global, answer: &Answer) -> Result<String, AllocError> {
 }
 
 /// `answer MORE`: what the last text says, and whether it comes back where it is put; or its first fault.
-pub fn read_text(alloc: Global, bytes: &[u8]) -> Result<String, OutOfMemory> {
+pub(crate) fn read_text(alloc: Global, bytes: &[u8]) -> Result<String, OutOfMemory> {
     let answer = match read_short(alloc, bytes) {
         Ok(answer) => answer,
         Err(stop) => return Ok(stop_text(alloc, stop)?),
@@ -57,7 +57,7 @@ pub fn read_text(alloc: Global, bytes: &[u8]) -> Result<String, OutOfMemory> {
 }
 
 /// `put`: puts the answer of the last text into a sink that fails at its second line and keeps four bytes of it.
-pub fn put_text(alloc: Global, bytes: &[u8]) -> Result<String, OutOfMemory> {
+pub(crate) fn put_text(alloc: Global, bytes: &[u8]) -> Result<String, OutOfMemory> {
     let mut failing = Vec::new(alloc);
     failing.push((1u64, 4usize))?;
     let mut sink = MemorySink::new(alloc, 4_096, failing)?;
@@ -77,7 +77,7 @@ fn put_parts(answer: &Answer, sink: &mut MemorySink) -> Result<(), PutFailed> {
 }
 
 /// `parts`: the parts of the last text's answer, each put by its own call.
-pub fn parts_text(alloc: Global, bytes: &[u8]) -> Result<String, OutOfMemory> {
+pub(crate) fn parts_text(alloc: Global, bytes: &[u8]) -> Result<String, OutOfMemory> {
     let mut sink = MemorySink::new(alloc, 4_096, Vec::new(alloc))?;
     let is_put = match read_short(alloc, bytes) {
         Ok(answer) => put_parts(&answer, &mut sink).is_ok(),

@@ -20,7 +20,7 @@ pub struct Scene {
 
 impl Scene {
     /// Nothing was said, and no problem is at hand.
-    pub fn new(alloc: Global) -> Scene {
+    pub(crate) fn new(alloc: Global) -> Scene {
         Scene {
             draft: Draft::new(alloc),
             problem: None,
@@ -114,7 +114,7 @@ fn reply(alloc: Global, scene: &mut Scene, line: &str) -> Result<String, OutOfMe
 }
 
 /// What is answered to a line, to stand behind the line.
-pub fn answer(alloc: Global, scene: &mut Scene, line: &str) -> Result<String, AllocError> {
+pub(crate) fn answer(alloc: Global, scene: &mut Scene, line: &str) -> Result<String, AllocError> {
     match reply(alloc, scene, line) {
         Ok(text) => Ok(text),
         Err(OutOfMemory) => Err(AllocError),

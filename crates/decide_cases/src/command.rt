@@ -191,7 +191,7 @@ fn call_line(alloc: Global, first: &str, words: &mut SplitWhitespace<'_>) -> Res
 }
 
 /// What the line asks for.
-pub fn read_command(alloc: Global, line: &str) -> Result<Command, Stop> {
+pub(crate) fn read_command(alloc: Global, line: &str) -> Result<Command, Stop> {
     let mut words = line.split_whitespace();
     let Some(first) = words.next() else {
         return Ok(Command::Comment);

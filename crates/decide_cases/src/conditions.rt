@@ -12,7 +12,7 @@ use cost_base::Listed;
 use path_rows::{Request, VarName};
 
 /// Whether numbers rise strictly and are below a count.
-pub fn are_members(numbers: &[u32], count: usize) -> bool
+pub(crate) fn are_members(numbers: &[u32], count: usize) -> bool
     ensures { IsTrue result → IsStrictlyIncreasing numbers.now × All (λ n. n < count) numbers.now }
 {
     rise(numbers) && numbers.iter().all(|number| (*number as usize) < count)
@@ -171,7 +171,7 @@ fn are_parts(graph: &Graph, vars: &[VarName], low: &[u16], high: &[u16], paths: 
 }
 
 /// Whether these are the parts of a problem.
-pub fn is_problem(
+pub(crate) fn is_problem(
     graph: &Graph,
     vars: &Listed<VarName>,
     low: &Listed<u16>,
@@ -190,7 +190,7 @@ pub fn is_problem(
 }
 
 /// Whether each lower bound is at most a cap.
-pub fn are_below(low: &[u16], cap: u16) -> bool
+pub(crate) fn are_below(low: &[u16], cap: u16) -> bool
     ensures { IsTrue result → All (λ bound. bound ≤ cap) low.now }
 {
     low.iter().all(|bound| *bound <= cap)

@@ -82,7 +82,7 @@ fn decided_text(
 }
 
 /// What deciding a cap without an advisor answers.
-pub fn decide_text(
+pub(crate) fn decide_text(
     alloc: Global,
     problem: &Problem,
     cap: u16,
@@ -113,7 +113,7 @@ fn choices(alloc: Global, count: u32) -> Result<Vec<Candidate>, AllocError> {
 }
 
 /// What deciding a cap with an advisor that counts answers, and what is chosen of so many choices then.
-pub fn told_text(
+pub(crate) fn told_text(
     alloc: Global,
     problem: &Problem,
     cap: u16,
@@ -138,7 +138,11 @@ pub fn told_text(
 }
 
 /// The text of the answer with the least cap.
-pub fn least_text(alloc: Global, problem: &Problem, budget: Budget) -> Result<String, OutOfMemory> {
+pub(crate) fn least_text(
+    alloc: Global,
+    problem: &Problem,
+    budget: Budget,
+) -> Result<String, OutOfMemory> {
     let Some(limits) = limits_of(budget) else {
         return Ok(String::from_str(alloc, ": no budget")?);
     };

@@ -19,7 +19,7 @@ pub struct Draft {
 
 impl Draft {
     /// Nothing is said.
-    pub fn new(alloc: Global) -> Draft {
+    pub(crate) fn new(alloc: Global) -> Draft {
         Draft {
             vertices: Vec::new(alloc),
             edges: Vec::new(alloc),
@@ -31,7 +31,11 @@ impl Draft {
     }
 
     /// So many routers and subnets are said.
-    pub fn of_network(alloc: Global, routers: u32, subnets: u32) -> Result<Draft, OutOfMemory> {
+    pub(crate) fn of_network(
+        alloc: Global,
+        routers: u32,
+        subnets: u32,
+    ) -> Result<Draft, OutOfMemory> {
         let mut draft = Draft::new(alloc);
         for number in 0..routers {
             draft.vertices.push(Vertex::Router(number))?;
@@ -43,12 +47,12 @@ impl Draft {
     }
 
     /// One more edge.
-    pub fn add_edge(&mut self, edge: Edge) -> Result<(), OutOfMemory> {
+    pub(crate) fn add_edge(&mut self, edge: Edge) -> Result<(), OutOfMemory> {
         Ok(self.edges.push(edge)?)
     }
 
     /// One more free interface, whose variable is the next one.
-    pub fn add_variable(
+    pub(crate) fn add_variable(
         &mut self,
         router: Name,
         interface: Name,
@@ -66,12 +70,12 @@ impl Draft {
     }
 
     /// One more wanted path.
-    pub fn add_path(&mut self, request: Request) -> Result<(), OutOfMemory> {
+    pub(crate) fn add_path(&mut self, request: Request) -> Result<(), OutOfMemory> {
         self.paths.push(request)
     }
 
     /// The problem that is said, where it is one.
-    pub fn into_problem(self, alloc: Global) -> Result<Option<Problem>, OutOfMemory> {
+    pub(crate) fn into_problem(self, alloc: Global) -> Result<Option<Problem>, OutOfMemory> {
         let Draft {
             vertices,
             edges,

@@ -98,7 +98,7 @@ fn put_ranges(
 }
 
 /// The ranges of a box.
-pub fn box_text(alloc: Global, costs: &CostBox) -> Result<String, OutOfMemory> {
+pub(crate) fn box_text(alloc: Global, costs: &CostBox) -> Result<String, OutOfMemory> {
     let mut text = String::from_str(alloc, ":")?;
     put_ranges(
         alloc,
@@ -110,7 +110,7 @@ pub fn box_text(alloc: Global, costs: &CostBox) -> Result<String, OutOfMemory> {
 }
 
 /// The lines of a problem.
-pub fn problem_text(alloc: Global, problem: &Problem) -> Result<String, OutOfMemory> {
+pub(crate) fn problem_text(alloc: Global, problem: &Problem) -> Result<String, OutOfMemory> {
     let mut text = String::from_str(alloc, ":")?;
     put_graph(alloc, &problem.graph, &mut text)?;
     for name in problem.vars.as_slice() {

@@ -47,7 +47,7 @@ fn start(
 }
 
 /// What is answered to a line, to stand behind it: `graph` takes another graph, and the other words ask of the one at hand.
-pub fn answer(
+pub(crate) fn answer(
     alloc: Global,
     network: &mut Option<Graph>,
     line: &str,

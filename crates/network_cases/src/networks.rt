@@ -41,7 +41,10 @@ fn vertices(alloc: Global, routers: u32, subnets: u32) -> Result<Vec<Vertex>, Al
 }
 
 /// The graph of the words `ROUTERS SUBNETS FROM-TO:PRICE ..`; none where these make none.
-pub fn graph(alloc: Global, words: &mut SplitWhitespace<'_>) -> Result<Option<Graph>, OutOfMemory> {
+pub(crate) fn graph(
+    alloc: Global,
+    words: &mut SplitWhitespace<'_>,
+) -> Result<Option<Graph>, OutOfMemory> {
     let routers = next_number(words);
     let subnets = next_number(words);
     let vertices = vertices(alloc, routers, subnets)?;
@@ -59,7 +62,7 @@ pub fn graph(alloc: Global, words: &mut SplitWhitespace<'_>) -> Result<Option<Gr
 }
 
 /// The point of a word `SCALE:VALUE,VALUE..`. Where it is none, the point fits no graph.
-pub fn point(alloc: Global, word: &str) -> Result<Point, AllocError> {
+pub(crate) fn point(alloc: Global, word: &str) -> Result<Point, AllocError> {
     let (scale, values) = word.split_once(':').unwrap_or(("0", word));
     Ok(Point {
         scale: scale.parse::<u128>().unwrap_or(0),

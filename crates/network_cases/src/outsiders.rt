@@ -151,7 +151,7 @@ fn outsider_of(
 
 /// `outsider START END GONE POINT EDGES ..`: the cost of the cheapest simple path that is none of these, which tie, where
 /// some edges are gone; `none` where each costs at least the scale more than they do.
-pub fn outsider_text(
+pub(crate) fn outsider_text(
     alloc: Global,
     graph: &Graph,
     words: &mut SplitWhitespace<'_>,

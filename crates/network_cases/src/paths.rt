@@ -10,7 +10,7 @@ use std::alloc::{AllocError, Global};
 use std::str::SplitWhitespace;
 
 /// `vertex NUMBER`: the edges out of a vertex and into it.
-pub fn vertex_text(
+pub(crate) fn vertex_text(
     alloc: Global,
     graph: &Graph,
     words: &mut SplitWhitespace<'_>,
@@ -25,7 +25,7 @@ pub fn vertex_text(
 }
 
 /// `copy`: whether a copy of the graph has its vertices and edges.
-pub fn copy_text(alloc: Global, graph: &Graph) -> Result<String, OutOfMemory> {
+pub(crate) fn copy_text(alloc: Global, graph: &Graph) -> Result<String, OutOfMemory> {
     let copy = graph.copy(alloc)?;
     let is_same = copy.vertices() == graph.vertices() && copy.edges() == graph.edges();
     let told = if is_same { ": the same" } else { ": another" };
@@ -33,7 +33,10 @@ pub fn copy_text(alloc: Global, graph: &Graph) -> Result<String, OutOfMemory> {
 }
 
 /// `avoids EDGES GONE`: whether none of the edges is gone.
-pub fn avoids_text(alloc: Global, words: &mut SplitWhitespace<'_>) -> Result<String, AllocError> {
+pub(crate) fn avoids_text(
+    alloc: Global,
+    words: &mut SplitWhitespace<'_>,
+) -> Result<String, AllocError> {
     let edges = next_numbers(alloc, words)?;
     let gone = next_numbers(alloc, words)?;
     let told = if avoids(gone.as_slice(), edges.as_slice()) {
@@ -45,7 +48,7 @@ pub fn avoids_text(alloc: Global, words: &mut SplitWhitespace<'_>) -> Result<Str
 }
 
 /// The path and the end of the words `START END EDGES`.
-pub fn path_and_end(
+pub(crate) fn path_and_end(
     alloc: Global,
     words: &mut SplitWhitespace<'_>,
 ) -> Result<(Path, u32), AllocError> {
@@ -56,7 +59,7 @@ pub fn path_and_end(
 }
 
 /// `path START END EDGES POINT`: whether a path is simple, and what it costs.
-pub fn path_text(
+pub(crate) fn path_text(
     alloc: Global,
     graph: &Graph,
     words: &mut SplitWhitespace<'_>,
@@ -74,7 +77,7 @@ pub fn path_text(
 }
 
 /// `only START END EDGES GONE POINT`: whether a path is only cheapest where some edges are gone.
-pub fn only_text(
+pub(crate) fn only_text(
     alloc: Global,
     graph: &Graph,
     words: &mut SplitWhitespace<'_>,

@@ -32,7 +32,7 @@ fn rival_of(
 }
 
 /// `rival START END EDGES GONE POINT`: the cheapest rival of a path where some edges are gone.
-pub fn rival_text(
+pub(crate) fn rival_text(
     alloc: Global,
     graph: &Graph,
     words: &mut SplitWhitespace<'_>,

@@ -25,7 +25,7 @@ fn add_costs(alloc: Global, text: &mut String, graph: &Graph, room: &Room) -> Re
 }
 
 /// `room`: the distances before any search.
-pub fn new_room_text(alloc: Global, graph: &Graph) -> Result<String, OutOfMemory> {
+pub(crate) fn new_room_text(alloc: Global, graph: &Graph) -> Result<String, OutOfMemory> {
     let room = Room::new(alloc, graph)?;
     let mut text = String::from_str(alloc, ": costs")?;
     add_costs(alloc, &mut text, graph, &room)?;
@@ -125,7 +125,7 @@ fn add_searches(
 
 /// `search TARGETS GONE POINT ..`: the least costs to each target where some edges are gone, the edges that are tight, and
 /// the next hops of each vertex. One room serves at all points.
-pub fn search_text(
+pub(crate) fn search_text(
     alloc: Global,
     graph: &Graph,
     words: &mut SplitWhitespace<'_>,

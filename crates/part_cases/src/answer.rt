@@ -12,7 +12,7 @@ use std::alloc::AllocError;
 use std::rt::Files;
 
 /// What is answered to a line, to stand behind it. A line that begins with no word of a table is a comment.
-pub fn answer(rt: &(impl Files + AllocGlobal), line: &str) -> Result<String, AllocError> {
+pub(crate) fn answer(rt: &(impl Files + AllocGlobal), line: &str) -> Result<String, AllocError> {
     let alloc = rt.alloc();
     let (first, rest) = line.split_once(' ').unwrap_or((line, ""));
     match first {

@@ -103,7 +103,7 @@ fn whole_text(alloc: Global, value: i64) -> Result<String, AllocError> {
 }
 
 /// What is answered to a line `at BITS STEP ..`: what a step makes of fractions or whole numbers within a width.
-pub fn fraction_text(alloc: Global, rest: &str) -> Result<String, AllocError> {
+pub(crate) fn fraction_text(alloc: Global, rest: &str) -> Result<String, AllocError> {
     let mut words = rest.split_whitespace();
     let bits = next_number(&mut words);
     let Some(top) = Top::new(bits) else {

@@ -7,7 +7,7 @@ use cost_base::Name;
 use std::alloc::{AllocError, Global};
 
 /// `job WORD ..`: the job that words ask for.
-pub fn job_text(alloc: Global, rest: &str) -> Result<String, AllocError> {
+pub(crate) fn job_text(alloc: Global, rest: &str) -> Result<String, AllocError> {
     let mut words = Vec::new(alloc);
     for word in rest.split_whitespace() {
         words.push(String::from_str(alloc, word)?)?;
@@ -27,7 +27,7 @@ fn add_lines(alloc: Global, text: &mut String, bytes: &Name) -> Result<(), Alloc
 }
 
 /// `made BLOCKS START PLACE`: the names of the files of a made case, the file at a place among them, and the request.
-pub fn made_text(alloc: Global, rest: &str) -> Result<String, AllocError> {
+pub(crate) fn made_text(alloc: Global, rest: &str) -> Result<String, AllocError> {
     let mut words = rest.split_whitespace();
     let blocks = next_number(&mut words);
     let start = next_number(&mut words);

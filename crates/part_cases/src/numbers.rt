@@ -37,7 +37,7 @@ fn number_up_to(alloc: Global, first: &str, rest: &str) -> Result<String, AllocE
 }
 
 /// What is answered to a line that asks of numbers: `quad TEXT`, `prefix TEXT` and `area TEXT` too.
-pub fn number_text(alloc: Global, first: &str, rest: &str) -> Result<String, AllocError> {
+pub(crate) fn number_text(alloc: Global, first: &str, rest: &str) -> Result<String, AllocError> {
     match first {
         "digits" => digits_text(alloc, whole(rest)),
         "quad" => format!(in alloc; ": {:?}", quad(rest.as_bytes())),

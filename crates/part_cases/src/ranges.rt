@@ -39,7 +39,7 @@ fn terms_text(alloc: Global, form: &Form) -> Result<String, AllocError> {
 
 /// `over CONSTANT,COEFFICIENT.. LOWS HIGHS`: the terms of a form, its greatest value over a box, and the first range that it
 /// makes smaller.
-pub fn over_text(alloc: Global, rest: &str) -> Result<String, AllocError> {
+pub(crate) fn over_text(alloc: Global, rest: &str) -> Result<String, AllocError> {
     let mut words = rest.split_whitespace();
     let numbers = list_of::<i64>(alloc, next_word(&mut words))?;
     let costs = next_box(alloc, &mut words)?;
@@ -75,7 +75,7 @@ fn box_text(alloc: Global, costs: &CostBox) -> Result<String, AllocError> {
 }
 
 /// `cut VAR VALUE LOWS HIGHS`: the first part of a box that is cut, then the second one, and whether a third one waits.
-pub fn cut_text(alloc: Global, rest: &str) -> Result<String, AllocError> {
+pub(crate) fn cut_text(alloc: Global, rest: &str) -> Result<String, AllocError> {
     let mut words = rest.split_whitespace();
     let var = next_number(&mut words);
     let value = u16::try_from(next_number(&mut words)).unwrap_or(0);

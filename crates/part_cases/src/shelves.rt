@@ -43,7 +43,7 @@ fn takes_text<S: Shelf>(
 }
 
 /// `memory-shelf FAILING NAME:MOST ..`: takes files from memory, where the calls of some numbers fail.
-pub fn memory_shelf_text(alloc: Global, rest: &str) -> Result<String, AllocError> {
+pub(crate) fn memory_shelf_text(alloc: Global, rest: &str) -> Result<String, AllocError> {
     let mut words = rest.split_whitespace();
     let mut failing = Vec::new(alloc);
     for call in next_numbers(alloc, &mut words)?.as_slice() {
@@ -57,7 +57,7 @@ pub fn memory_shelf_text(alloc: Global, rest: &str) -> Result<String, AllocError
 }
 
 /// `sure-shelf NAME:MOST ..`: takes files from a shelf that never fails.
-pub fn sure_shelf_text(alloc: Global, rest: &str) -> Result<String, AllocError> {
+pub(crate) fn sure_shelf_text(alloc: Global, rest: &str) -> Result<String, AllocError> {
     let Ok(files) = three_files(alloc) else {
         return Err(AllocError);
     };
@@ -66,7 +66,7 @@ pub fn sure_shelf_text(alloc: Global, rest: &str) -> Result<String, AllocError> 
 }
 
 /// `file NAME:MOST ..`: takes files from the folder that the program runs in.
-pub fn file_text(rt: &(impl Files + AllocGlobal), rest: &str) -> Result<String, AllocError> {
+pub(crate) fn file_text(rt: &(impl Files + AllocGlobal), rest: &str) -> Result<String, AllocError> {
     let mut shelf = FileShelf::new(rt.alloc(), rt);
     takes_text(rt.alloc(), &mut shelf, &mut rest.split_whitespace())
 }

@@ -24,7 +24,7 @@ fn puts_text<K: Sink>(
 }
 
 /// `memory-sink ROOM CALL KEPT PIECE ..`: a sink of so many bytes, whose call of a number fails and keeps some bytes.
-pub fn memory_sink_text(alloc: Global, rest: &str) -> Result<String, AllocError> {
+pub(crate) fn memory_sink_text(alloc: Global, rest: &str) -> Result<String, AllocError> {
     let mut words = rest.split_whitespace();
     let room = next_number(&mut words) as usize;
     let call = u64::from(next_number(&mut words));
@@ -39,7 +39,7 @@ pub fn memory_sink_text(alloc: Global, rest: &str) -> Result<String, AllocError>
 }
 
 /// `sure-sink ROOM PIECE ..`: a sink that never fails, and tells whether it lost a piece.
-pub fn sure_sink_text(alloc: Global, rest: &str) -> Result<String, AllocError> {
+pub(crate) fn sure_sink_text(alloc: Global, rest: &str) -> Result<String, AllocError> {
     let mut words = rest.split_whitespace();
     let room = next_number(&mut words) as usize;
     let Ok(mut sink) = SureSink::new(alloc, room) else {
@@ -54,7 +54,7 @@ pub fn sure_sink_text(alloc: Global, rest: &str) -> Result<String, AllocError> {
 }
 
 /// `out-sink PIECE ..`: a sink over a writer of four bytes.
-pub fn out_sink_text(alloc: Global, rest: &str) -> Result<String, AllocError> {
+pub(crate) fn out_sink_text(alloc: Global, rest: &str) -> Result<String, AllocError> {
     let mut bytes = [b'-'; 4];
     let mut sink = OutSink::new(bytes.as_mut_slice());
     let told = puts_text(alloc, &mut sink, &mut rest.split_whitespace())?;

@@ -91,7 +91,7 @@ fn tests_text(alloc: Global, bytes: &[u8]) -> Result<String, AllocError> {
 }
 
 /// What is answered to a line that asks of lines and words.
-pub fn text_text(alloc: Global, first: &str, rest: &str) -> Result<String, AllocError> {
+pub(crate) fn text_text(alloc: Global, first: &str, rest: &str) -> Result<String, AllocError> {
     let (most, behind) = rest.split_once(' ').unwrap_or((rest, ""));
     let bytes = bytes_of(alloc, if first == "lines" { behind } else { rest })?;
     match first {

@@ -36,7 +36,7 @@ pub struct Case {
 
 impl Case {
     /// A run without words and files that is to end with status 0 and to write nothing.
-    pub fn new(alloc: Global) -> Case {
+    pub(crate) fn new(alloc: Global) -> Case {
         Case {
             words: Vec::new(alloc),
             files: Vec::new(alloc),

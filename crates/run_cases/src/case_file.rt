@@ -157,7 +157,7 @@ fn read(rt: &(impl Files + AllocGlobal), path: &str) -> Result<Vec<u8>> {
 }
 
 /// A run of a case, from the lines that stand for every run of it and then the run's own. The last file of a name counts.
-pub fn read_case(rt: &(impl Files + AllocGlobal), common: &str, own: &str) -> Result<Case> {
+pub(crate) fn read_case(rt: &(impl Files + AllocGlobal), common: &str, own: &str) -> Result<Case> {
     let alloc = rt.alloc();
     let mut draft = Draft {
         case: Case::new(alloc),

@@ -3,7 +3,7 @@
 use std::alloc::{AllocError, Global};
 
 /// Adds lines `from` to `to` of a text, counted from 1, each with its LF.
-pub fn push_lines(
+pub(crate) fn push_lines(
     into: &mut Vec<u8>,
     text: &[u8],
     from: usize,
@@ -35,7 +35,7 @@ fn push_with(
 }
 
 /// Adds a text once for each number from `from` to `to`, with the number in place of each `#`.
-pub fn push_numbered(
+pub(crate) fn push_numbered(
     alloc: Global,
     into: &mut Vec<u8>,
     text: &[u8],

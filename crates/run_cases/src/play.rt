@@ -71,7 +71,7 @@ fn difference_with(
 }
 
 /// Runs the words of a case over its files, and tells what differs from what is wanted, or None.
-pub fn play(alloc: Global, case: Case) -> Result<Option<String>> {
+pub(crate) fn play(alloc: Global, case: Case) -> Result<Option<String>> {
     let mut advisors: Vec<Box<dyn Advisor>> = Vec::new(alloc);
     for adviser in case.advisers.as_slice() {
         match *adviser {

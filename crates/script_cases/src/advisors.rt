@@ -33,7 +33,7 @@ impl Advisor for Turns {
 }
 
 /// The advisor of a number: it always picks that position; of -N the first candidate in N calls and then position 4000.
-pub fn advisor_of(number: i64) -> Turns {
+pub(crate) fn advisor_of(number: i64) -> Turns {
     match u32::try_from(number) {
         Ok(position) => Turns { calls: 0, position },
         Err(_) => Turns {

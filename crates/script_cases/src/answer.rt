@@ -125,7 +125,11 @@ fn solve(alloc: Global, tableau: &mut Tableau) -> Result<String, AllocError> {
 }
 
 /// What the scene at hand answers to a line, to stand behind the line.
-pub fn answer(alloc: Global, scene: &mut Option<Scene>, line: &str) -> Result<String, AllocError> {
+pub(crate) fn answer(
+    alloc: Global,
+    scene: &mut Option<Scene>,
+    line: &str,
+) -> Result<String, AllocError> {
     let asked = read_command(alloc, line)?;
     if let Command::Start(bits, costs) = asked {
         return start(alloc, scene, bits, &costs);

@@ -73,7 +73,7 @@ fn row(alloc: Global, constant: i64, coefficients: &[i64]) -> Result<Command, Al
 }
 
 /// What the line asks for.
-pub fn read_command(alloc: Global, line: &str) -> Result<Command, AllocError> {
+pub(crate) fn read_command(alloc: Global, line: &str) -> Result<Command, AllocError> {
     let mut words = line.split_whitespace();
     let Some(first) = words.next() else {
         return Ok(Command::Comment);

@@ -25,7 +25,7 @@ fn copied(alloc: Global, bounds: &[u16]) -> Result<Listed<u16>, AllocError> {
 
 impl Scene {
     /// A tableau over the box, and the box without rows.
-    pub fn new(
+    pub(crate) fn new(
         alloc: Global,
         tableau: Tableau,
         top: Top,
@@ -46,7 +46,7 @@ impl Scene {
     }
 
     /// Takes a row into the source.
-    pub fn learn(&mut self, alloc: Global, form: &Form) -> Result<(), AllocError> {
+    pub(crate) fn learn(&mut self, alloc: Global, form: &Form) -> Result<(), AllocError> {
         let Ok(copy) = form.copy(alloc) else {
             return Err(AllocError);
         };

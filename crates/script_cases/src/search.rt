@@ -63,7 +63,7 @@ fn found_text(alloc: Global, found: &Found, pool: &FormPool) -> Result<String, A
 }
 
 /// What a search of the box for costs at which each row is at least 0 answers.
-pub fn search_text(
+pub(crate) fn search_text(
     alloc: Global,
     scene: &mut Scene,
     nodes: u64,

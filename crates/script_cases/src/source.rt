@@ -96,7 +96,7 @@ fn joined(asked: Asked, is_added: bool) -> Asked
 
 impl FormList {
     /// The list without a form.
-    pub fn new(alloc: Global, variables: u32) -> FormList
+    pub(crate) fn new(alloc: Global, variables: u32) -> FormList
         ensures { result.variables ≡ variables }
     {
         FormList {
@@ -106,7 +106,7 @@ impl FormList {
     }
 
     /// Puts a form at the end, where the list takes it. Whether it does is the answer.
-    pub fn push(&mut self, form: Form) -> Result<bool, OutOfMemory>
+    pub(crate) fn push(&mut self, form: Form) -> Result<bool, OutOfMemory>
         ensures { self.new.variables ≡ self.old.variables }
     {
         if !is_tiny(&form, self.variables) {

@@ -17,7 +17,7 @@ pub struct Desk {
 
 impl Desk {
     /// No text and no network.
-    pub fn new(alloc: Global) -> Desk {
+    pub(crate) fn new(alloc: Global) -> Desk {
         Desk {
             texts: Texts::new(alloc),
             network: None,
@@ -38,7 +38,7 @@ fn asked(alloc: Global, desk: &Desk, first: &str, more: &str) -> Result<String, 
 }
 
 /// What is answered to a line, to stand behind it.
-pub fn answer(alloc: Global, desk: &mut Desk, line: &str) -> Result<String, AllocError> {
+pub(crate) fn answer(alloc: Global, desk: &mut Desk, line: &str) -> Result<String, AllocError> {
     if desk.texts.takes(alloc, line)? {
         return Ok(String::new(alloc));
     }

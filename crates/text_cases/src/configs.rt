@@ -76,7 +76,11 @@ fn router_text(alloc: Global, config: &RouterConfig) -> Result<String, AllocErro
 }
 
 /// What a configuration says that isn't longer than any of a script.
-pub fn config_of(alloc: Global, name: &str, bytes: &[u8]) -> Result<RouterConfig, ConfigStop> {
+pub(crate) fn config_of(
+    alloc: Global,
+    name: &str,
+    bytes: &[u8],
+) -> Result<RouterConfig, ConfigStop> {
     if bytes.len() > LONGEST {
         return Err(ConfigStop::OutOfMemory);
     }
@@ -84,7 +88,11 @@ pub fn config_of(alloc: Global, name: &str, bytes: &[u8]) -> Result<RouterConfig
 }
 
 /// `config MORE`: what the last text says as a configuration, or its first fault. Its name is the file's.
-pub fn config_text(alloc: Global, file_name: &str, bytes: &[u8]) -> Result<String, AllocError> {
+pub(crate) fn config_text(
+    alloc: Global,
+    file_name: &str,
+    bytes: &[u8],
+) -> Result<String, AllocError> {
     match config_of(alloc, file_name, bytes) {
         Ok(config) => router_text(alloc, &config),
         Err(stop) => format!(in alloc; ": {stop:?}"),

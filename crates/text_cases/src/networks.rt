@@ -8,7 +8,7 @@ use std::fmt;
 
 /// `network NAME ..`: the network in area 0 of the configurations of these names, or its first fault. The network is at
 /// hand from then on.
-pub fn network_text(
+pub(crate) fn network_text(
     alloc: Global,
     texts: &Texts,
     network: &mut Option<Lsdb>,
@@ -54,7 +54,7 @@ impl<'a> fmt::Display for Shown<'a> {
 }
 
 /// `links`: the routers, links and transit subnets of the network at hand.
-pub fn links_text(alloc: Global, network: &Option<Lsdb>) -> Result<String, AllocError> {
+pub(crate) fn links_text(alloc: Global, network: &Option<Lsdb>) -> Result<String, AllocError> {
     let Some(network) = network else {
         return String::from_str(alloc, ": no network");
     };

@@ -71,7 +71,11 @@ fn told(alloc: Global, problem: Result<Problem, ResolutionStop>) -> Result<Strin
 }
 
 /// `problem MORE`: the problem that the last text makes of the network at hand.
-pub fn problem_text(alloc: Global, bytes: &[u8], network: &Lsdb) -> Result<String, AllocError> {
+pub(crate) fn problem_text(
+    alloc: Global,
+    bytes: &[u8],
+    network: &Lsdb,
+) -> Result<String, AllocError> {
     match requests_of(alloc, bytes) {
         Ok(requests) => told(alloc, resolve(alloc, &requests, network)),
         Err(stop) => format!(in alloc; ": {stop:?}"),
@@ -79,7 +83,11 @@ pub fn problem_text(alloc: Global, bytes: &[u8], network: &Lsdb) -> Result<Strin
 }
 
 /// `present MORE`: the problem of the network at hand at its present costs.
-pub fn present_text(alloc: Global, bytes: &[u8], network: &Lsdb) -> Result<String, AllocError> {
+pub(crate) fn present_text(
+    alloc: Global,
+    bytes: &[u8],
+    network: &Lsdb,
+) -> Result<String, AllocError> {
     match requests_of(alloc, bytes) {
         Ok(requests) => told(alloc, resolve_present(alloc, &requests, network)),
         Err(stop) => format!(in alloc; ": {stop:?}"),

@@ -69,7 +69,7 @@ impl<'a> fmt::Display for Shown<'a> {
 }
 
 /// What a request file asks for that isn't longer than any text of a script.
-pub fn requests_of(alloc: Global, bytes: &[u8]) -> Result<Requests, RequestStop> {
+pub(crate) fn requests_of(alloc: Global, bytes: &[u8]) -> Result<Requests, RequestStop> {
     if bytes.len() > LONGEST {
         return Err(RequestStop::OutOfMemory);
     }
@@ -77,7 +77,7 @@ pub fn requests_of(alloc: Global, bytes: &[u8]) -> Result<Requests, RequestStop>
 }
 
 /// `request MORE`: what the last text asks for as a request file, or its first fault.
-pub fn request_text(alloc: Global, bytes: &[u8]) -> Result<String, AllocError> {
+pub(crate) fn request_text(alloc: Global, bytes: &[u8]) -> Result<String, AllocError> {
     let requests = match requests_of(alloc, bytes) {
         Ok(requests) => requests,
         Err(stop) => return format!(in alloc; ": {stop:?}"),
