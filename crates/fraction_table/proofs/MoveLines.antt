@@ -1,0 +1,85 @@
+-- Lines whose constants are put anew.
+use Rattle.std.proofs.Common.{◌≡◌, ℕ, suc, ◌*◌, ◌<◌, refl, sym, ◌∙◌, ap, subst, List, [], ◌∷◌, length, arith}
+use Rattle.std.specs.Prelude.{ℤ, pos, ◌+ℤ◌, ◌*ℤ◌, Option, None, Some, IfSome, slice_index_or, slice_set}
+use Rattle.std.proofs.lemmas.Int.{ints}
+use Rattle.std.proofs.lemmas.List.{length-set}
+use Rattle.whole_numbers.specs.Fractions.{Fraction, IsLowest, StandsFor, plus, times}
+use Rattle.whole_numbers.proofs.Sums.{lowest_unique}
+use Rattle.whole_numbers.proofs.FractionLaws.{product_positive, reduced_lowest}
+use Rattle.whole_numbers.proofs.Multiples.{plus_stands_over}
+use Rattle.wide_fraction.specs.Widths.{IsWithin}
+use Rattle.path_rows.specs.Basis.{entry}
+use Rattle.fraction_rows.specs.TableRows.{AreNumbers, IsNumber, nothing}
+use Rattle.fraction_rows.specs.Turns.{AreRows}
+use Rattle.path_rows.specs.declared.tree.Member.{Member}
+use Rattle.fraction_table.specs.Moves.{IsColumnOf, put_at, raised_line}
+use Rattle.fraction_rows.proofs.Numbers.{lowest_zero, nothing_number, nothing_times, times_lowest}
+use Rattle.fraction_rows.proofs.RowLaws.{number_at, rows_at, rows_set, written_numbers}
+
+pub plus_lowest : (p q : Fraction) → 0 < p.denominator → 0 < q.denominator → IsLowest (plus p q)
+plus_lowest p q p_positive q_positive =
+    reduced_lowest _ (p.denominator * q.denominator) (product_positive p.denominator q.denominator p_positive q_positive)
+
+plus_nothing : (q : Fraction) → IsLowest q → plus q nothing ≡ q
+plus_nothing q q_lowest =
+    let zero_is : StandsFor nothing (pos 0) q.denominator = lib.IntN.zero-*ℤ (pos q.denominator) in
+    let stands = plus_stands_over q nothing q.numerator (pos 0) q.denominator q_lowest.positive (omega arith) q_lowest.positive refl zero_is in
+    lowest_unique (plus q nothing) q (plus_lowest q nothing q_lowest.positive (omega arith)) q_lowest
+    (stands ∙ ap (λ z. z *ℤ pos (plus q nothing).denominator) (more_zero q.numerator))
+  where
+    more_zero : (z : ℤ) → (z +ℤ pos 0) ≡ z
+    more_zero z = omega (arith, ints)
+
+first_put : (line : List Fraction) → 0 < length line → slice_set line 0 (entry line 0) ≡ line
+first_put [] some = absurd (omega arith)
+first_put (q ∷ line) some = refl
+
+-- where the entry is 0 the line stays as it is
+pub none_raised : (top : ℕ) (line : List Fraction) (column : ℕ) (fall value : Fraction) → suc column < length line → AreNumbers top line → IsNumber top fall → value ≡ entry line (suc column) → value.numerator ≡ pos 0 → line ≡ raised_line column fall line
+none_raised top line column fall value column_in numbers fall_is value_is none =
+    let here = number_at top line (suc column) numbers column_in in
+    let first = number_at top line 0 numbers (omega (arith, column_in)) in
+    let entry_is : entry line (suc column) ≡ nothing = lowest_zero (entry line (suc column)) here.lowest (ap (λ (q : Fraction). q.numerator) (sym value_is) ∙ none) in
+    sym (ap (λ (q : Fraction). slice_set line 0 (plus (entry line 0) (times q fall))) entry_is
+    ∙ ap (λ (q : Fraction). slice_set line 0 (plus (entry line 0) q)) (nothing_times fall fall_is.lowest.positive)
+    ∙ ap (λ (q : Fraction). slice_set line 0 q) (plus_nothing (entry line 0) first.lowest)
+    ∙ first_put line (omega (arith, column_in)))
+
+-- the line with the constant that was made
+pub raised_is : (line now : List Fraction) (column : ℕ) (fall value first product constant : Fraction) → value ≡ entry line (suc column) → first ≡ entry line 0 → product ≡ times value fall → constant ≡ plus first product → now ≡ slice_set line 0 constant → now ≡ raised_line column fall line
+raised_is line now column fall value first product constant value_is first_is product_is constant_is now_is =
+    now_is
+    ∙ ap (λ (q : Fraction). slice_set line 0 q) (constant_is ∙ ap (λ (q : Fraction). plus q product) first_is ∙ ap (λ (q : Fraction). plus (entry line 0) q) (product_is ∙ ap (λ (q : Fraction). times q fall) value_is))
+
+-- its numbers are ones of the table
+pub raised_numbers : (top : ℕ) (line now : List Fraction) (fall value first product constant : Fraction) → AreNumbers top line → IsNumber top first → IsNumber top value → IsNumber top fall → product ≡ times value fall → constant ≡ plus first product → IsWithin top constant → now ≡ slice_set line 0 constant → AreNumbers top now
+raised_numbers top line now fall value first product constant numbers first_is value_is fall_is product_is constant_is within now_is =
+    let product_lowest : IsLowest product = subst IsLowest (sym product_is) (times_lowest value fall value_is.lowest.positive fall_is.lowest.positive) in
+    let constant_number : IsNumber top constant = record { lowest = subst IsLowest (sym constant_is) (plus_lowest first product first_is.lowest.positive product_lowest.positive); within = within } in
+    subst (AreNumbers top) (sym now_is) (written_numbers top line 0 constant numbers constant_number)
+
+-- a line whose constant is made 0
+pub zeroed : (top count : ℕ) (lines : List (List Fraction)) (own : ℕ) (d now : List Fraction) (value : Fraction) → AreRows top count lines → own < length lines → value ≡ nothing → now ≡ slice_set (slice_index_or lines own d) 0 value → AreRows top count (slice_set lines own now)
+zeroed top count lines own d now value rows own_in value_is now_is =
+    let here = rows_at top count lines own d rows own_in in
+    let line = slice_index_or lines own d in
+    let put : AreNumbers top (slice_set line 0 nothing) = none_put line here.1 in
+    rows_set top count lines own now rows (ap length now_is ∙ length-set line 0 value ∙ here.0)
+    (subst (AreNumbers top) (sym (now_is ∙ ap (λ (q : Fraction). slice_set line 0 q) value_is)) put)
+  where
+    none_put : (line : List Fraction) → AreNumbers top line → AreNumbers top (slice_set line 0 nothing)
+    none_put [] numbers = tt
+    none_put (q ∷ line) numbers = (nothing_number top q numbers.0, numbers.1)
+
+-- the column of a member is one of the basis
+pub column_there : (basis : List Member) (member : Member) (column : Option ℕ) → IsColumnOf basis member column → IfSome column (λ k. k < length basis)
+column_there basis member None found = tt
+column_there basis member (Some k) found = found.0
+
+pub column_in : (basis : List Member) (member : Member) (column : Option ℕ) (n : ℕ) → IsColumnOf basis member column → length basis ≡ n → IfSome column (λ k. suc k < suc n)
+column_in basis member None n found counted = tt
+column_in basis member (Some k) n found counted = omega (arith, found.0, counted)
+
+pub length-put : (column : Option ℕ) (member : Member) (basis : List Member) → length (put_at column member basis) ≡ length basis
+length-put None member basis = refl
+length-put (Some k) member basis = length-set basis k member

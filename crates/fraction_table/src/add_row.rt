@@ -1,0 +1,241 @@
+//! One more row: its form, and its line at the present basis.
+ghost use Rattle.std.specs.Prelude.{◌≡◌, suc, ◌^◌, ◌<◌, ◌≤◌, [], ◌∷◌, ◌++◌, ◌*ℤ◌, ◌+ℤ◌, ◌≤ℤ◌, length, map, nat_abs, pos, All, IfErr, IfOk, OnOk};
+ghost use Rattle.cost_base.specs.Lists.{numbers_from};
+ghost use Rattle.path_rows.specs.Forms.{value};
+ghost use Rattle.path_rows.specs.Steps.{IsTooWide, start_of_sum};
+ghost use Rattle.fraction_table.specs.RowLines.{HasPlace, HoldsRow, HoldsSame, IsRowLine, IsRowStep, sum_at_place};
+ghost use Rattle.fraction_rows.specs.TableRows.{IsNumber, nothing};
+ghost use Rattle.fraction_table.specs.Tableaus.{FitsBox, wide_at};
+ghost use Rattle.fraction_rows.specs.Turns.{AreRows};
+ghost use Rattle.fraction_table.specs.Wholes.{HasRoom, IsWholeTable};
+
+use crate::table::Table;
+use cost_base::OutOfMemory;
+use fraction_rows::{TableRow, sum_at, sum_lines};
+use path_rows::{CostBox, Form};
+use std::alloc::Global;
+use wide_fraction::{Frac, Top, Wide};
+
+/// A form, and a line of zeros that is to become its line.
+#[derive(Drop)]
+pub struct BlankRow {
+    pub form: Form,
+    pub line: TableRow,
+}
+
+/// A coefficient times a lower bound.
+fn corner_term(coefficient: i64, low: u16) -> i128
+    requires { nat_abs coefficient ≤ 2 ^ 26 }
+    ensures value { result ≡ (coefficient *ℤ pos low) }
+    ensures most { result ≤ℤ pos (2 ^ 42) }
+    ensures least { pos 0 ≤ℤ (result +ℤ pos (2 ^ 42)) }
+{
+    i128::from(coefficient) * i128::from(low)
+}
+
+/// The form's value at the low corner of the box.
+pub fn corner_sum(form: &Form, costs: &CostBox) -> i128
+    requires count { length form.now.coefficients ≡ length costs.now.low }
+    requires sizes { All (λ c. nat_abs c ≤ 2 ^ 26) form.now.coefficients }
+    ensures { result ≡ value form.now costs.now.low }
+{
+    let low = costs.low.as_slice();
+    let terms = form.terms();
+    let mut sum = i128::from(form.constant());
+    for term in terms {
+        let var = term.var as usize;
+        sum += corner_term(term.coefficient, low[var]);
+    }
+    sum
+}
+
+/// That value of a form that fits.
+pub fn corner_value(form: &Form, costs: &CostBox) -> i64
+    requires { FitsBox costs.now form.now }
+    ensures { result ≡ value form.now costs.now.low }
+{
+    corner_sum(form, costs) as i64
+}
+
+/// What the form's sum at a place starts with: its value at the low corner for the constant, and 0 for a column.
+fn start_at(form: &Form, costs: &CostBox, place: u32, top: Top) -> Frac
+    requires fits { FitsBox costs.now form.now }
+    ensures start { result ≡ start_of_sum costs.now form.now place }
+    ensures number { IsNumber top result }
+{
+    let _ = top.value();
+    if place == 0 {
+        Frac::whole(corner_value(form, costs))
+    } else {
+        Frac::whole(0)
+    }
+}
+
+/// What the form's line has at a place, by the lines of x - low for each variable.
+fn sum_of_form(
+    form: &Form,
+    costs: &CostBox,
+    lines: &[TableRow],
+    place: u32,
+    top: Top,
+) -> Result<Frac, Wide>
+    requires fits { FitsBox costs.now form.now }
+    requires lines { AreRows top (suc (length costs.now.low)) lines.now }
+    requires many { length costs.now.low ≤ length lines.now }
+    requires place { place < suc (length costs.now.low) }
+    ensures exact { IfOk result (λ q. q ≡ sum_at_place costs.now form.now lines.now place) }
+    ensures number { IfOk result (λ q. IsNumber top q) }
+    ensures wide { IfErr result (IsRowStep top costs.now form.now lines.now) }
+{
+    let start = start_at(form, costs, place, top);
+    sum_at(start, form, lines, place, top)
+}
+
+/// Puts the form's line in place of a line of zeros: first its constant, and then its columns in order.
+///
+/// # Errors
+///
+/// `Wide` where a step of one of these sums makes a whole number that passes `top`.
+fn fill_in_order(
+    line: &mut TableRow,
+    form: &Form,
+    costs: &CostBox,
+    lines: &[TableRow],
+    top: Top,
+) -> Result<(), Wide>
+    requires fits { FitsBox costs.now form.now }
+    requires few { length costs.now.low < 2 ^ 32 }
+    requires lines { AreRows top (suc (length costs.now.low)) lines.now }
+    requires many { length costs.now.low ≤ length lines.now }
+    requires blank { line.old ≡ nothing ∷ map (λ column. nothing) (numbers_from 0 (length costs.now.low)) }
+    ensures line { OnOk result (IsRowLine top costs.now form.now lines.now line.new) }
+    ensures wide { IfErr result (IsRowStep top costs.now form.now lines.now) }
+{
+    line.set_constant(sum_of_form(form, costs, lines, 0, top)?);
+    let width = costs.low.as_slice().len() as u32;
+    for column in 0..width {
+        let entry = sum_of_form(form, costs, lines, column + 1, top)?;
+        line.push(column, entry);
+    }
+    Ok(())
+}
+
+/// Puts the form's line in place of a line of zeros, variable by variable. `scratch` is a line of the same width.
+///
+/// # Errors
+///
+/// `Wide` where a step of one of the sums makes a whole number that passes `top`; which one is found first depends on
+/// the order.
+fn gather_line(
+    line: &mut TableRow,
+    form: &Form,
+    costs: &CostBox,
+    lines: &[TableRow],
+    scratch: &mut TableRow,
+    top: Top,
+) -> Result<(), Wide>
+    requires fits { FitsBox costs.now form.now }
+    requires lines { AreRows top (suc (length costs.now.low)) lines.now }
+    requires many { length costs.now.low ≤ length lines.now }
+    requires blank { line.old ≡ nothing ∷ map (λ column. nothing) (numbers_from 0 (length costs.now.low)) }
+    requires scratch { length scratch.old ≡ suc (length costs.now.low) }
+    ensures line { OnOk result (IsRowLine top costs.now form.now lines.now line.new) }
+    ensures width { length line.new ≡ length line.old }
+    ensures scratch_width { length scratch.new ≡ length scratch.old }
+{
+    line.set_constant(start_at(form, costs, 0, top));
+    sum_lines(line, form, lines, scratch, top)
+}
+
+/// Puts the form's line in place of a line of zeros. Where a step is too wide, the line is made in order, so that the
+/// step that is named is the first one in that order. `scratch` is a line of the same width.
+///
+/// # Errors
+///
+/// `Wide` where a step of one of the sums makes a whole number that passes `top`.
+fn fill_line(
+    line: &mut TableRow,
+    form: &Form,
+    costs: &CostBox,
+    lines: &[TableRow],
+    scratch: &mut TableRow,
+    top: Top,
+) -> Result<(), Wide>
+    requires fits { FitsBox costs.now form.now }
+    requires few { length costs.now.low < 2 ^ 32 }
+    requires lines { AreRows top (suc (length costs.now.low)) lines.now }
+    requires many { length costs.now.low ≤ length lines.now }
+    requires blank { line.old ≡ nothing ∷ map (λ column. nothing) (numbers_from 0 (length costs.now.low)) }
+    requires scratch { length scratch.old ≡ suc (length costs.now.low) }
+    ensures line { OnOk result (IsRowLine top costs.now form.now lines.now line.new) }
+    ensures wide { IfErr result (IsRowStep top costs.now form.now lines.now) }
+    ensures scratch_width { length scratch.new ≡ length scratch.old }
+{
+    match gather_line(line, form, costs, lines, scratch, top) {
+        Ok(()) => Ok(()),
+        Err(_) => {
+            line.clear();
+            fill_in_order(line, form, costs, lines, top)
+        }
+    }
+}
+
+impl Table {
+    /// Makes room for one more row, and the row's parts: a copy of the form, and a line of zeros.
+    ///
+    /// # Errors
+    ///
+    /// `OutOfMemory` where something got no memory. Then the table holds what it held.
+    pub fn make_room(&mut self, alloc: Global, form: &Form) -> Result<BlankRow, OutOfMemory>
+        requires few { length self.old.costs.low < 2 ^ 32 }
+        ensures same { HoldsSame self.old self.new }
+        ensures place { OnOk result (HasPlace self.new) }
+        ensures form { IfOk result (λ row. row.form ≡ form.now) }
+        ensures blank { IfOk result (λ row. row.line ≡ nothing ∷ map (λ column. nothing) (numbers_from 0 (length self.old.costs.low))) }
+    {
+        let copy = form.copy(alloc)?;
+        let line = TableRow::zero(alloc, self.costs.low.as_slice().len() as u32)?;
+        if self.rows.reserve(1).is_err() {
+            return Err(OutOfMemory);
+        }
+        if self.lines.reserve(1).is_err() {
+            return Err(OutOfMemory);
+        }
+        Ok(BlankRow { form: copy, line })
+    }
+
+    /// Adds a row for which there is room, with its line at the present basis.
+    ///
+    /// # Errors
+    ///
+    /// `Wide` where a step of the line makes a whole number that passes `top`. The row was added nevertheless.
+    pub fn put_row(&mut self, row: BlankRow) -> Result<(), Wide>
+        requires whole { IsWholeTable self.old }
+        requires room { HasRoom self.old }
+        requires place { HasPlace self.old }
+        requires fits { FitsBox self.old.costs row.form }
+        requires blank { row.line ≡ nothing ∷ map (λ column. nothing) (numbers_from 0 (length self.old.costs.low)) }
+        ensures holds { HoldsRow self.old row.form self.new }
+        ensures whole { OnOk result (IsWholeTable self.new) }
+        ensures wide { IfErr result (λ wide. IsTooWide self.new.top self.new.costs self.new.rows.items (wide_at wide self.new.basis.items)) }
+    {
+        let BlankRow { form, mut line } = row;
+        let lines = self.lines.as_slice();
+        let scratch = &mut self.scratch;
+        let filled = fill_line(&mut line, &form, &self.costs, lines, scratch, self.top);
+        self.rows.push_reserved(form);
+        self.lines.push_reserved(line);
+        filled
+    }
+
+    /// Adds a row for which there is room, with its line of zeros.
+    pub fn put_blank(&mut self, row: BlankRow)
+        requires place { HasPlace self.old }
+        ensures holds { HoldsRow self.old row.form self.new }
+        ensures lines { self.new.lines.items ≡ self.old.lines.items ++ row.line ∷ [] }
+    {
+        let BlankRow { form, line } = row;
+        self.rows.push_reserved(form);
+        self.lines.push_reserved(line);
+    }
+}

@@ -1,0 +1,186 @@
+//! The starting basis of a box, and its table.
+ghost use Rattle.std.specs.Prelude.{◌≡◌, ℕ, suc, ◌^◌, ◌<◌, ◌≤◌, ◌++◌, [], ◌∷◌, pos, negsuc, ◌-ℤ◌, nat_abs, length, map, slice_index, IfOk, OnOk};
+ghost use Rattle.cost_base.specs.Lists.{numbers_from};
+ghost use Rattle.whole_numbers.specs.Fractions.{whole};
+ghost use Rattle.path_rows.specs.declared.tree.Member.TheVariants.{Low};
+ghost use Rattle.path_rows.specs.Basis.{unit};
+ghost use Rattle.path_rows.specs.Boxes.{IsBox};
+ghost use Rattle.fraction_rows.specs.TableRows.{AreNumbers};
+ghost use Rattle.fraction_rows.specs.Turns.{AreRows};
+ghost use Rattle.fraction_table.specs.declared.stage.Stage.TheVariants.{Open};
+ghost use Rattle.fraction_table.specs.Tableaus.{starting};
+ghost use Rattle.fraction_table.specs.Wholes.{IsSound, held_of, members_of, starting_line};
+
+use crate::table::Table;
+use cost_base::{Listed, OutOfMemory};
+use fraction_rows::TableRow;
+use path_rows::{CostBox, Member};
+use std::alloc::Global;
+use wide_fraction::{Frac, Top};
+
+fn copy_bounds(alloc: Global, bounds: &[u16]) -> Result<Listed<u16>, OutOfMemory>
+    ensures { IfOk result (λ copy. copy ≡ bounds.now) }
+{
+    match bounds.to_vec(alloc) {
+        Ok(copy) => Ok(Listed::from_items(copy)),
+        Err(_) => Err(OutOfMemory),
+    }
+}
+
+/// An equal box.
+pub fn copy_box(alloc: Global, costs: &CostBox) -> Result<CostBox, OutOfMemory>
+    ensures { IfOk result (λ copy. copy ≡ costs.now) }
+{
+    Ok(CostBox {
+        low: copy_bounds(alloc, costs.low.as_slice())?,
+        high: copy_bounds(alloc, costs.high.as_slice())?,
+    })
+}
+
+/// The forms x - low, by the lower bounds.
+pub fn starting_basis(alloc: Global, low: &[u16]) -> Result<Vec<Member>, OutOfMemory>
+    requires few { length low.now < 2 ^ 32 }
+    ensures { IfOk result (λ basis. basis.items ≡ map (λ v. Low v (slice_index low.now v)) (numbers_from 0 (length low.now))) }
+{
+    let mut basis = Vec::new(alloc);
+    for (var, bound) in low.iter().enumerate() {
+        match basis.push(Member::Low(var as u32, *bound)) {
+            Ok(()) => {}
+            Err(_) => return Err(OutOfMemory),
+        }
+    }
+    Ok(basis)
+}
+
+/// Makes the line the starting one of a form with one coefficient: its constant there, and the coefficient in its
+/// column.
+pub fn put_unit_line(
+    line: &mut TableRow,
+    width: u32,
+    var: u32,
+    constant: i64,
+    coefficient: i64,
+    top: Top,
+)
+    requires width { length line.old ≡ suc width }
+    requires var { var < width }
+    requires constant_small { nat_abs constant < 2 ^ 27 }
+    requires coefficient_small { nat_abs coefficient < 2 ^ 27 }
+    ensures line { line.new ≡ whole constant ∷ map whole (unit width var coefficient) }
+    ensures numbers { AreNumbers top line.new }
+{
+    let _ = top.value();
+    line.clear();
+    line.set_constant(Frac::whole(constant));
+    line.push(var, Frac::whole(coefficient));
+}
+
+/// The starting line of a form with one coefficient: its constant there, and the coefficient in its column.
+fn bound_row(
+    alloc: Global,
+    width: u32,
+    var: u32,
+    constant: i64,
+    coefficient: i64,
+    top: Top,
+) -> Result<TableRow, OutOfMemory>
+    requires var { var < width }
+    requires constant_small { nat_abs constant < 2 ^ 27 }
+    requires coefficient_small { nat_abs coefficient < 2 ^ 27 }
+    ensures row { IfOk result (λ row. row ≡ whole constant ∷ map whole (unit width var coefficient)) }
+    ensures numbers { IfOk result (λ row. AreNumbers top row) }
+{
+    let mut row = TableRow::zero(alloc, width)?;
+    put_unit_line(&mut row, width, var, constant, coefficient, top);
+    Ok(row)
+}
+
+fn push_row(rows: &mut Vec<TableRow>, row: TableRow) -> Result<(), OutOfMemory>
+    ensures { OnOk result (rows.new.items ≡ rows.old.items ++ row ∷ []) }
+{
+    match rows.push(row) {
+        Ok(()) => Ok(()),
+        Err(_) => Err(OutOfMemory),
+    }
+}
+
+/// Puts the lines of x - low for each of so many variables.
+fn push_low_rows(
+    alloc: Global,
+    width: u32,
+    rows: &mut Vec<TableRow>,
+    top: Top,
+) -> Result<(), OutOfMemory>
+    requires numbers { AreRows top (suc width) rows.old.items }
+    ensures rows { OnOk result (rows.new.items ≡ rows.old.items ++ map (λ v. whole (pos 0) ∷ map whole (unit width v (pos 1))) (numbers_from 0 width)) }
+    ensures numbers { OnOk result (AreRows top (suc width) rows.new.items) }
+{
+    for var in 0..width {
+        push_row(rows, bound_row(alloc, width, var, 0, 1, top)?)?;
+    }
+    Ok(())
+}
+
+/// How far the upper bound is above the lower one.
+pub fn range_of(low: u16, high: u16) -> i64
+    ensures range { result ≡ (pos high -ℤ pos low) }
+    ensures small { nat_abs result < 2 ^ 27 }
+{
+    i64::from(high) - i64::from(low)
+}
+
+/// Puts the lines of high - x for each variable.
+fn push_high_rows(
+    alloc: Global,
+    low: &[u16],
+    high: &[u16],
+    rows: &mut Vec<TableRow>,
+    top: Top,
+) -> Result<(), OutOfMemory>
+    requires same { length high.now ≡ length low.now }
+    requires few { length low.now < 2 ^ 32 }
+    requires numbers { AreRows top (suc (length low.now)) rows.old.items }
+    ensures rows { OnOk result (rows.new.items ≡ rows.old.items ++ map (λ v. whole (pos (slice_index high.now v) -ℤ pos (slice_index low.now v)) ∷ map whole (unit (length low.now) v (negsuc 0))) (numbers_from 0 (length low.now))) }
+    ensures numbers { OnOk result (AreRows top (suc (length low.now)) rows.new.items) }
+{
+    let width = low.len() as u32;
+    for var in 0..width {
+        let range = range_of(low[var as usize], high[var as usize]);
+        push_row(rows, bound_row(alloc, width, var, range, -1, top)?)?;
+    }
+    Ok(())
+}
+
+/// The lines of the box at the starting basis.
+pub fn bound_rows(alloc: Global, costs: &CostBox, top: Top) -> Result<Vec<TableRow>, OutOfMemory>
+    requires ranges { IsBox (length costs.now.low) costs.now }
+    requires few { length costs.now.low < 2 ^ 32 }
+    ensures rows { IfOk result (λ rows. rows.items ≡ map (starting_line costs.now []) (members_of costs.now 0)) }
+    ensures numbers { IfOk result (λ rows. AreRows top (suc (length costs.now.low)) rows.items) }
+{
+    let low = costs.low.as_slice();
+    let mut rows = Vec::new(alloc);
+    push_low_rows(alloc, low.len() as u32, &mut rows, top)?;
+    push_high_rows(alloc, low, costs.high.as_slice(), &mut rows, top)?;
+    Ok(rows)
+}
+
+/// The table of a box without rows, at the basis of the forms x - low.
+pub fn starting_table(alloc: Global, costs: &CostBox, top: Top) -> Result<Table, OutOfMemory>
+    requires ranges { IsBox (length costs.now.low) costs.now }
+    requires few { length costs.now.low < 2 ^ 32 }
+    ensures held { IfOk result (λ table. held_of table Open ≡ record { top = top; costs = costs.now; rows = []; basis = starting costs.now; stage = Open }) }
+    ensures sound { IfOk result (λ table. IsSound table Open) }
+{
+    let width = costs.low.as_slice().len() as u32;
+    let lines = bound_rows(alloc, costs, top)?;
+    Ok(Table {
+        top,
+        costs: copy_box(alloc, costs)?,
+        rows: Vec::new(alloc),
+        basis: starting_basis(alloc, costs.low.as_slice())?,
+        lines,
+        quotients: TableRow::zero(alloc, width)?,
+        scratch: TableRow::zero(alloc, width)?,
+    })
+}

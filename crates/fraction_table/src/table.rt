@@ -1,0 +1,78 @@
+//! The table of a box and of rows at a basis.
+ghost use Rattle.std.specs.Prelude.{◌≡◌, ℕ, suc, ◌<◌, length, IfErr, OnOk};
+ghost use Rattle.path_rows.specs.Steps.{IsPivot, IsTooWide};
+ghost use Rattle.fraction_table.specs.Pivots.{IsLeastIn, KeepsForms, line_at, member_at};
+ghost use Rattle.fraction_table.specs.Ranks.{rank};
+ghost use Rattle.fraction_table.specs.Tableaus.{wide_at};
+ghost use Rattle.fraction_table.specs.Wholes.{HasRoom, IsWholeTable, members_of};
+
+use fraction_rows::{TableRow, take_quotients, turn_rows};
+use path_rows::{CostBox, Form, Member};
+use wide_fraction::{Top, Wide};
+
+/// A box with the forms of rows, at a basis, and the entries of each form of the box over that basis: those of x - low
+/// and then of high - x for each variable, and those of the rows. A pivot works in the last two rows, so that it takes
+/// no memory.
+#[derive(Drop)]
+pub struct Table {
+    pub top: Top,
+    pub costs: CostBox,
+    pub rows: Vec<Form>,
+    pub basis: Vec<Member>,
+    pub lines: Vec<TableRow>,
+    pub quotients: TableRow,
+    pub scratch: TableRow,
+}
+
+impl Table {
+    /// The member whose form stands in a line.
+    pub fn member_at(&self, line: usize) -> Member
+        requires ranges { length self.now.costs.high ≡ length self.now.costs.low }
+        requires room { HasRoom self.now }
+        requires line { line < length (members_of self.now.costs (length self.now.rows.items)) }
+        ensures { result ≡ member_at self.now line }
+    {
+        let low = self.costs.low.as_slice();
+        let high = self.costs.high.as_slice();
+        let width = low.len();
+        if line < width {
+            Member::Low(line as u32, low[line])
+        } else if line - width < width {
+            Member::High((line - width) as u32, high[line - width])
+        } else {
+            Member::Row((line - width - width) as u64)
+        }
+    }
+
+    /// Turns the table at a line and a column: the line's form takes the place of the column's form in the basis. First
+    /// the quotients of the line are made, and then each line is turned, in order.
+    ///
+    /// # Errors
+    ///
+    /// `Wide` where one of these steps makes a whole number that passes `top`. Then the basis is as before.
+    pub fn pivot(&mut self, line: usize, column: u32) -> Result<(), Wide>
+        requires whole { IsWholeTable self.old }
+        requires room { HasRoom self.old }
+        requires line { line < length self.old.lines.items }
+        requires pivot { IsPivot self.old.basis.items (line_at self.old line) (suc column) }
+        requires least { IsLeastIn self.old line column }
+        ensures whole { OnOk result (IsWholeTable self.new) }
+        ensures rises { OnOk result (rank self.old < rank self.new) }
+        ensures keeps { KeepsForms self.old self.new }
+        ensures room { HasRoom self.new }
+        ensures wide { IfErr result (λ wide. IsTooWide self.new.top self.new.costs self.new.rows.items (wide_at wide self.new.basis.items)) }
+    {
+        let member = self.member_at(line);
+        let inverse = take_quotients(&self.lines[line], column, &mut self.quotients, self.top)?;
+        turn_rows(
+            self.lines.as_mut_slice(),
+            column,
+            &self.quotients,
+            inverse,
+            &mut self.scratch,
+            self.top,
+        )?;
+        self.basis[column as usize] = member;
+        Ok(())
+    }
+}
