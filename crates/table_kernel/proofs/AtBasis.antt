@@ -1,0 +1,238 @@
+-- A basis with the numbers of x - low over one denominator, apart from any lines; and a kernel that is made of them.
+use Rattle.std.proofs.Common.{◌≡◌, ◌≢◌, ℕ, zero, suc, ◌+◌, ◌*◌, ◌^◌, ◌<◌, ◌≤◌, refl, sym, ◌∙◌, ap, subst, List, [], ◌∷◌, map, length, arith}
+use native.Mathlib.Nat.{zero-mul}
+use Rattle.std.specs.Prelude.{ℤ, pos, negsuc, ◌+ℤ◌, ◌*ℤ◌, neg_ℤ, nat_abs, slice_index_or, All}
+use Rattle.std.specs.List.{AllZip}
+use Rattle.std.proofs.lemmas.Int.{ints}
+use Rattle.std.proofs.lemmas.List.{get_or-map, length-map, with_items_is}
+use Rattle.cost_base.specs.Lists.{numbers_from}
+use Rattle.whole_numbers.specs.Fractions.{Fraction}
+use Rattle.whole_numbers.proofs.Ring.{var, num, ◌⊕◌, ◌⊗◌, ring}
+use Rattle.whole_numbers.proofs.FractionLaws.{cancel}
+use Rattle.path_rows.specs.declared.form.Form.{Form}
+use Rattle.path_rows.specs.declared.form.CostBox.{CostBox}
+use Rattle.path_rows.specs.declared.tree.Member.{Member}
+use Rattle.path_rows.specs.declared.tree.Member.TheVariants.{Low}
+use Rattle.path_rows.specs.Basis.{IsFormOf, LeadsPositive, coordinate, forms_of, mixture, one_form}
+use Rattle.path_rows.specs.Boxes.{IsBox}
+use Rattle.path_rows.specs.Forms.{no_form, value}
+use Rattle.fraction_table.specs.Pivots.{member_at}
+use Rattle.fraction_table.specs.Tableaus.{FitsBox}
+use Rattle.fraction_table.specs.Wholes.{AllLong, AreMixtures, IsLine, IsUnboxed, from_lows, low_forms, members_of, number_at, number_of}
+use Rattle.fraction_table.proofs.theory.Zips.{zip_from}
+use Rattle.table_kernel.specs.declared.kernel.Kernel.{Kernel}
+use Rattle.table_kernel.specs.Kernels.{IsBounded, IsKernel, IsMoving, IsShaped, lines_of, lows_of, stated, width_of}
+use Rattle.table_kernel.specs.Numbers.{fraction_line}
+use Rattle.table_kernel.specs.Turns.{form_in}
+use Rattle.table_kernel.proofs.Columns.{column_number, number_within, place_number_within}
+use Rattle.table_kernel.proofs.OverCommon.{over_numbers, over_stand, pos_size, size_most, size_positive}
+
+-- what a table keeps at a basis, but for its lines
+pub record AreAtBasis (costs : CostBox) (rows : List Form) (basis : List Member) (D : ℕ) (lows : List (List ℤ)) : Type 0 where
+  pub high_count : length costs.high ≡ length costs.low
+  pub counts : All (λ f. length f.coefficients ≡ length costs.low) rows
+  pub count : length basis ≡ length costs.low
+  pub members : All (IsFormOf costs rows) basis
+  pub positive : 0 < D
+  pub long : AllLong (suc (length costs.low)) lows
+  pub mixtures : AreMixtures D (forms_of costs rows basis) (low_forms (length costs.low) 0 costs.low) lows
+  pub own : (k : ℕ) → k < length costs.low → number_of D costs.low lows (slice_index_or (forms_of costs rows basis) k no_form) (suc k) ≡ pos D
+  pub elsewhere : (k place : ℕ) → k < length costs.low → place ≤ length costs.low → place ≢ suc k → number_of D costs.low lows (slice_index_or (forms_of costs rows basis) k no_form) place ≡ pos 0
+  pub lead : (k : ℕ) → k < length costs.low → LeadsPositive (map (λ ts. number_at ts (suc k)) lows)
+
+pub at_basis : (top : ℕ) (costs : CostBox) (rows : List Form) (basis : List Member) (table : List (List Fraction)) (u : IsUnboxed top costs rows basis table) → AreAtBasis costs rows basis u.common u.lows
+at_basis top costs rows basis table u = record {
+  high_count = u.high_count;
+  counts = u.counts;
+  count = u.count;
+  members = u.members;
+  positive = u.positive;
+  long = u.long;
+  mixtures = u.mixtures;
+  own = u.own;
+  elsewhere = u.elsewhere;
+  lead = u.lead;
+}
+
+-- with lines it is a table's
+abbrev pub unboxed_of : (top D : ℕ) (costs : CostBox) (rows : List Form) (basis : List Member) (lows : List (List ℤ)) (table : List (List Fraction)) → AreAtBasis costs rows basis D lows → AllZip (IsLine top D costs rows lows) (members_of costs (length rows)) table → IsUnboxed top costs rows basis table
+unboxed_of top D costs rows basis lows table b lines = record {
+  high_count = b.high_count;
+  counts = b.counts;
+  count = b.count;
+  members = b.members;
+  common = D;
+  positive = b.positive;
+  lows = lows;
+  long = b.long;
+  mixtures = b.mixtures;
+  own = b.own;
+  elsewhere = b.elsewhere;
+  lead = b.lead;
+  lines = lines;
+}
+
+-- numbers that are all multiplied by g
+abbrev pub scaled_by : ℕ → List ℤ → List ℤ
+scaled_by g ms = map (λ z. z *ℤ pos g) ms
+
+long_down : (n g : ℕ) (lows : List (List ℤ)) → AllLong n (map (scaled_by g) lows) → AllLong n lows
+long_down n g [] long = tt
+long_down n g (ts ∷ lows) long = (sym (length-map ts (λ z. z *ℤ pos g)) ∙ long.0, long_down n g lows long.1)
+
+number_scaled : (g : ℕ) (ts : List ℤ) (place : ℕ) → number_at (scaled_by g ts) place ≡ (number_at ts place *ℤ pos g)
+number_scaled g [] place = ring (pos g ∷ []) (num (pos 0)) (num (pos 0) ⊗ var 0) refl
+number_scaled g (t ∷ ts) zero = refl
+number_scaled g (t ∷ ts) (suc place) = number_scaled g ts place
+
+lows_up : (g : ℕ) (cs : List ℤ) (lows : List (List ℤ)) (place : ℕ) → from_lows cs (map (scaled_by g) lows) place ≡ (from_lows cs lows place *ℤ pos g)
+lows_up g [] lows place = ring (pos g ∷ []) (num (pos 0)) (num (pos 0) ⊗ var 0) refl
+lows_up g (c ∷ cs) [] place = ring (pos g ∷ []) (num (pos 0)) (num (pos 0) ⊗ var 0) refl
+lows_up g (c ∷ cs) (ts ∷ lows) place =
+    ap (λ z. (c *ℤ z) +ℤ from_lows cs (map (scaled_by g) lows) place) (number_scaled g ts place)
+    ∙ ap (λ z. (c *ℤ (number_at ts place *ℤ pos g)) +ℤ z) (lows_up g cs lows place)
+    ∙ ring (c ∷ number_at ts place ∷ pos g ∷ from_lows cs lows place ∷ []) (var 0 ⊗ (var 1 ⊗ var 2) ⊕ var 3 ⊗ var 2) ((var 0 ⊗ var 1 ⊕ var 3) ⊗ var 2) refl
+
+-- the numbers of any form are multiplied, too
+pub number_up : (D g : ℕ) (low : List ℕ) (lows : List (List ℤ)) (f : Form) (place : ℕ) → number_of (D * g) low (map (scaled_by g) lows) f place ≡ (number_of D low lows f place *ℤ pos g)
+number_up D g low lows f zero =
+    ap (λ z. (pos (D * g) *ℤ value f low) +ℤ z) (lows_up g f.coefficients lows 0)
+    ∙ ring (pos D ∷ pos g ∷ value f low ∷ from_lows f.coefficients lows 0 ∷ []) ((var 0 ⊗ var 1) ⊗ var 2 ⊕ var 3 ⊗ var 1) ((var 0 ⊗ var 2 ⊕ var 3) ⊗ var 1) refl
+number_up D g low lows f (suc k) = lows_up g f.coefficients lows (suc k)
+
+mixture_up : (g : ℕ) (ms : List ℤ) (fs : List Form) (i : ℕ) → mixture (scaled_by g ms) fs i ≡ (mixture ms fs i *ℤ pos g)
+mixture_up g [] fs i = ring (pos g ∷ []) (num (pos 0)) (num (pos 0) ⊗ var 0) refl
+mixture_up g (m ∷ ms) [] i = ring (pos g ∷ []) (num (pos 0)) (num (pos 0) ⊗ var 0) refl
+mixture_up g (m ∷ ms) (f ∷ fs) i =
+    ap (λ z. ((m *ℤ pos g) *ℤ coordinate f i) +ℤ z) (mixture_up g ms fs i)
+    ∙ ring (m ∷ pos g ∷ coordinate f i ∷ mixture ms fs i ∷ []) ((var 0 ⊗ var 1) ⊗ var 2 ⊕ var 3 ⊗ var 1) ((var 0 ⊗ var 2 ⊕ var 3) ⊗ var 1) refl
+
+mixtures_down : (D g : ℕ) (bs gs : List Form) (lows : List (List ℤ)) → 0 < g → AreMixtures (D * g) bs gs (map (scaled_by g) lows) → AreMixtures D bs gs lows
+mixtures_down D g bs [] [] g_positive are = tt
+mixtures_down D g bs [] (ts ∷ lows) g_positive are = absurd are
+mixtures_down D g bs (f ∷ gs) [] g_positive are = absurd are
+mixtures_down D g bs (f ∷ gs) (ts ∷ lows) g_positive are = (
+  λ i. cancel g _ _ g_positive
+      (ring (pos D ∷ coordinate f i ∷ pos g ∷ []) ((var 0 ⊗ var 1) ⊗ var 2) ((var 0 ⊗ var 2) ⊗ var 1) refl
+      ∙ are.0 i
+      ∙ mixture_up g ts (one_form ∷ bs) i),
+  mixtures_down D g bs gs lows g_positive are.1,
+)
+
+not_negative : (m : ℕ) (zs : List ℤ) → 0 < m → LeadsPositive (neg_ℤ (pos m) ∷ zs) → ⊥
+not_negative zero zs m_positive leads = absurd (omega arith)
+not_negative (suc m) zs m_positive leads = leads
+
+lead_less : (g : ℕ) (z : ℤ) (zs ms : List ℤ) → 0 < g → (LeadsPositive zs → LeadsPositive ms) → LeadsPositive ((z *ℤ pos g) ∷ zs) → LeadsPositive (z ∷ ms)
+lead_less (suc g) (pos zero) zs ms g_positive rest leads =
+    rest (subst (λ (m : ℕ). LeadsPositive (pos m ∷ zs)) (zero-mul (suc g)) leads)
+lead_less (suc g) (pos (suc n)) zs ms g_positive rest leads = tt
+lead_less (suc g) (negsuc n) zs ms g_positive rest leads =
+    let product : 0 < suc n * suc g = grind arith in
+    not_negative (suc n * suc g) zs product leads
+lead_less zero z zs ms g_positive rest leads = absurd (omega arith)
+
+lead_down : (g place : ℕ) (lows : List (List ℤ)) → 0 < g → LeadsPositive (map (λ ts. number_at ts place) (map (scaled_by g) lows)) → LeadsPositive (map (λ ts. number_at ts place) lows)
+lead_down g place [] g_positive leads = leads
+lead_down g place (ts ∷ lows) g_positive leads =
+    lead_less g (number_at ts place) (map (λ us. number_at us place) (map (scaled_by g) lows)) (map (λ us. number_at us place) lows) g_positive (lead_down g place lows g_positive)
+    (subst (λ (z : ℤ). LeadsPositive (z ∷ map (λ us. number_at us place) (map (scaled_by g) lows))) (number_scaled g ts place) leads)
+
+-- numbers and denominator over a common factor
+pub scaled_down : (costs : CostBox) (rows : List Form) (basis : List Member) (D g : ℕ) (lows : List (List ℤ)) → 0 < D → 0 < g → AreAtBasis costs rows basis (D * g) (map (map (λ z. z *ℤ pos g)) lows) → AreAtBasis costs rows basis D lows
+scaled_down costs rows basis D g lows D_positive g_positive b = record {
+  high_count = b.high_count;
+  counts = b.counts;
+  count = b.count;
+  members = b.members;
+  positive = D_positive;
+  long = long_down (suc (length costs.low)) g lows b.long;
+  mixtures = mixtures_down D g (forms_of costs rows basis) (low_forms (length costs.low) 0 costs.low) lows g_positive b.mixtures;
+  own = λ k k_in. cancel g _ _ g_positive (sym (number_up D g costs.low lows (slice_index_or (forms_of costs rows basis) k no_form) (suc k)) ∙ b.own k k_in);
+  elsewhere = λ k place k_in place_in other. cancel g _ _ g_positive (sym (number_up D g costs.low lows (slice_index_or (forms_of costs rows basis) k no_form) place) ∙ b.elsewhere k place k_in place_in other ∙ none g);
+  lead = λ k k_in. lead_down g (suc k) lows g_positive (b.lead k k_in);
+}
+  where
+    none : (n : ℕ) → pos 0 ≡ (pos 0 *ℤ pos n)
+    none n = ring (pos n ∷ []) (num (pos 0)) (num (pos 0) ⊗ var 0) refl
+
+-- the lines of a table that is stated are those of the kernel
+pub stated_lines : (k : Kernel) → IsShaped k → (stated k).lines.items ≡ lines_of k
+stated_lines k s =
+    with_items_is k.table.lines (lines_of k)
+    (length-map (members_of k.table.costs (length k.table.rows.items)) (fraction_line (nat_abs k.common) k.table.costs k.table.rows.items (lows_of k))
+    ∙ sym s.constants
+    ∙ sym s.lines
+    ∙ sym k.table.lines.ok.0)
+
+-- the constants that a kernel holds are those of its forms
+abbrev pub ConstantsAre : Kernel → Type 0
+ConstantsAre k = (place : ℕ) → place < length k.constants.items → number_at k.constants.items place ≡ number_of (nat_abs k.common) k.table.costs.low (lows_of k) (form_in k place) 0
+
+-- the basis of a kernel, and a kernel of a basis
+pub moving_basis : (k : Kernel) → IsMoving k → AreAtBasis k.table.costs k.table.rows.items k.table.basis.items (nat_abs k.common) (lows_of k) × ConstantsAre k
+moving_basis k m =
+    let u = m.unboxed in
+    let common : u.common ≡ nat_abs k.common = ap nat_abs m.numbers.common in
+    let a = at_basis k.table.top k.table.costs k.table.rows.items k.table.basis.items (stated k).lines.items u in
+    let b = subst (λ (D : ℕ). AreAtBasis k.table.costs k.table.rows.items k.table.basis.items D u.lows) common a in (
+      subst (AreAtBasis k.table.costs k.table.rows.items k.table.basis.items (nat_abs k.common)) m.numbers.lows b,
+      λ place place_in.
+          m.numbers.constants place place_in
+          ∙ ap (λ D. number_of D k.table.costs.low u.lows (form_in k place) 0) common
+          ∙ ap (λ lows. number_of (nat_abs k.common) k.table.costs.low lows (form_in k place) 0) m.numbers.lows,
+    )
+
+-- a kernel whose bounds moved is one again, where the ranges are a box that the rows fit
+pub kernel_moves : (k : Kernel) → IsKernel k → IsMoving k
+kernel_moves k m = record { shaped = m.shaped; bounded = m.bounded; unboxed = m.whole.unboxed; numbers = m.numbers }
+
+pub moved_kernel : (k : Kernel) → IsMoving k → IsBox (width_of k) k.table.costs → All (FitsBox k.table.costs) k.table.rows.items → IsKernel k
+moved_kernel k m box fit = record { shaped = m.shaped; bounded = m.bounded; whole = record { box = box; fit = fit; unboxed = m.unboxed }; numbers = m.numbers }
+
+pub kernel_basis : (k : Kernel) → IsKernel k → AreAtBasis k.table.costs k.table.rows.items k.table.basis.items (nat_abs k.common) (lows_of k) × ConstantsAre k
+kernel_basis k m = moving_basis k (kernel_moves k m)
+
+-- no number of a place's form is greater than the limit of constants
+number_small : (k : Kernel) (s : IsShaped k) (b : IsBounded k) (c : ConstantsAre k) (line : ℕ) → line < length k.constants.items → (place : ℕ) → nat_abs (number_of (nat_abs k.common) k.table.costs.low (lows_of k) (form_in k line) place) ≤ 2 ^ 39
+number_small k s b c line line_in zero =
+    subst (λ (z : ℤ). nat_abs z ≤ 2 ^ 39) (c line line_in) (number_within (2 ^ 39) k.constants.items line b.constants)
+number_small k s b c line line_in (suc column) =
+    let small = place_number_within k s b line line_in column in
+    subst (λ (z : ℤ). nat_abs z ≤ 2 ^ 39) (sym (column_number k s (nat_abs k.common) k.table.costs.low (form_in k line) column)) (omega (arith, small))
+
+-- the line of a place
+pub line_is : (k : Kernel) → IsShaped k → IsBounded k → ConstantsAre k → (line : ℕ) → line < length k.constants.items → IsLine k.table.top (nat_abs k.common) k.table.costs k.table.rows.items (lows_of k) (member_at k.table line) (fraction_line (nat_abs k.common) k.table.costs k.table.rows.items (lows_of k) (member_at k.table line))
+line_is k s b c line line_in =
+    let D = nat_abs k.common in
+    let positive : 0 < D = size_positive k.common b.positive in
+    let small : D ≤ 2 ^ 22 = size_most k.common (2 ^ 22) b.positive b.common in
+    let number = number_of D k.table.costs.low (lows_of k) (form_in k line) in
+    let most : (place : ℕ) → nat_abs (number place) ≤ k.table.top = λ place. let n = number_small k s b c line line_in place in omega (arith, n, b.top) in
+    record {
+      numbers = over_numbers k.table.top D number 0 (suc (width_of k)) positive (omega (arith, small, b.top)) most;
+      stand = over_stand D (map number (numbers_from 0 (suc (width_of k)))) positive;
+    }
+
+lines_are : (k : Kernel) → IsShaped k → IsBounded k → ConstantsAre k → AllZip (IsLine k.table.top (nat_abs k.common) k.table.costs k.table.rows.items (lows_of k)) (members_of k.table.costs (length k.table.rows.items)) (lines_of k)
+lines_are k s b c =
+    let members = members_of k.table.costs (length k.table.rows.items) in
+    let line_of = fraction_line (nat_abs k.common) k.table.costs k.table.rows.items (lows_of k) in
+    zip_from (IsLine k.table.top (nat_abs k.common) k.table.costs k.table.rows.items (lows_of k)) members (lines_of k) (Low 0 0) []
+    (sym (length-map members line_of))
+    (λ line line_in. subst (IsLine k.table.top (nat_abs k.common) k.table.costs k.table.rows.items (lows_of k) (member_at k.table line)) (sym (get_or-map line_of members line (Low 0 0) [] line_in))
+    (line_is k s b c line (subst (λ (n : ℕ). line < n) (sym s.constants) line_in)))
+
+pub basis_moving : (k : Kernel) → IsShaped k → IsBounded k → AreAtBasis k.table.costs k.table.rows.items k.table.basis.items (nat_abs k.common) (lows_of k) → ConstantsAre k → IsMoving k
+basis_moving k s b a c =
+    let D = nat_abs k.common in
+    let lines = subst (AllZip (IsLine k.table.top D k.table.costs k.table.rows.items (lows_of k)) (members_of k.table.costs (length k.table.rows.items))) (sym (stated_lines k s)) (lines_are k s b c) in
+    record {
+      shaped = s;
+      bounded = b;
+      unboxed = unboxed_of k.table.top D k.table.costs k.table.rows.items k.table.basis.items (lows_of k) (stated k).lines.items a lines;
+      numbers = record { common = pos_size k.common (omega (arith, ints, b.positive)); lows = refl; constants = c };
+    }
+
+pub basis_kernel : (k : Kernel) → IsShaped k → IsBounded k → IsBox (width_of k) k.table.costs → All (FitsBox k.table.costs) k.table.rows.items → AreAtBasis k.table.costs k.table.rows.items k.table.basis.items (nat_abs k.common) (lows_of k) → ConstantsAre k → IsKernel k
+basis_kernel k s b box fit a c = moved_kernel k (basis_moving k s b a c) box fit

@@ -1,0 +1,91 @@
+-- A kernel that holds the same numbers in other room is one, too.
+use Rattle.std.proofs.Common.{◌≡◌, ℕ, suc, ◌*◌, ◌^◌, ◌≤◌, refl, sym, ◌∙◌, ap, subst, List, length, arith}
+use Rattle.std.specs.Prelude.{ℤ, pos, ◌<ℤ◌, ◌≤ℤ◌, nat_abs, All}
+use Rattle.whole_numbers.specs.Fractions.{Fraction}
+use Rattle.path_rows.specs.declared.form.Form.{Form}
+use Rattle.path_rows.specs.declared.form.CostBox.{CostBox}
+use Rattle.path_rows.specs.declared.tree.Member.{Member}
+use Rattle.path_rows.specs.Boxes.{IsBox}
+use Rattle.fraction_table.specs.declared.table.Table.{Table}
+use Rattle.fraction_table.specs.RowLines.{HoldsSame}
+use Rattle.fraction_table.specs.Tableaus.{FitsBox}
+use Rattle.fraction_table.specs.Wholes.{members_of}
+use Rattle.table_kernel.specs.declared.kernel.Kernel.{Kernel}
+use Rattle.table_kernel.specs.Kernels.{IsBounded, IsKernel, IsShaped, lines_of, lows_of, stated, width_of}
+use Rattle.table_kernel.specs.Numbers.{AllWithin, lows_by, weight_of}
+use Rattle.table_kernel.specs.Turns.{HoldsNumbers}
+use Rattle.table_kernel.proofs.AtBasis.{AreAtBasis, basis_kernel, kernel_basis, stated_lines}
+use Rattle.table_kernel.proofs.MoreRows.{AreConstants}
+
+same_shaped : (old new : Kernel) → HoldsSame old.table new.table → HoldsNumbers old new → IsShaped old → IsShaped new
+same_shaped old new t h s =
+    let width : width_of new ≡ width_of old = ap (λ (costs : CostBox). length costs.low) t.costs in
+    let constants = ap length h.constants in
+    let counted : length (members_of new.table.costs (length new.table.rows.items)) ≡ length (members_of old.table.costs (length old.table.rows.items)) =
+    ap (λ (costs : CostBox). length (members_of costs (length new.table.rows.items))) t.costs
+    ∙ ap (λ (rows : List Form). length (members_of old.table.costs (length rows))) t.rows in
+    record {
+      room = record {
+        few = omega (arith, width, s.room.few);
+        quotients = ap length t.quotients ∙ s.room.quotients ∙ ap suc (sym width);
+        scratch = ap length t.scratch ∙ s.room.scratch ∙ ap suc (sym width);
+      };
+      lows = ap length h.lows ∙ s.lows ∙ sym width;
+      each = subst (λ (m : ℕ). All (λ (row : List ℤ). length row ≡ m) new.lows.items) (sym width) (subst (All (λ (row : List ℤ). length row ≡ width_of old)) (sym h.lows) s.each);
+      constants = constants ∙ s.constants ∙ sym counted;
+      line = ap length h.line ∙ s.line ∙ sym width;
+      left = omega (arith, width, s.left, h.left);
+      along = ap length h.along ∙ s.along ∙ sym constants;
+      lines = ap length t.lines ∙ s.lines ∙ sym constants;
+      wide = subst (λ (m : ℕ). All (λ (row : List Fraction). length row ≡ suc m) new.table.lines.items) (sym width) (subst (All (λ (row : List Fraction). length row ≡ suc (width_of old))) (sym t.lines) s.wide);
+    }
+
+same_bounded : (old new : Kernel) → HoldsSame old.table new.table → HoldsNumbers old new → IsBounded old → IsBounded new
+same_bounded old new t h b =
+    record {
+      top = subst (λ (top : ℕ). 2 ^ 39 ≤ top) (sym t.top) b.top;
+      positive = subst (λ (z : ℤ). pos 0 <ℤ z) (sym h.common) b.positive;
+      common = subst (λ (z : ℤ). z ≤ℤ pos (2 ^ 22)) (sym h.common) b.common;
+      reach = subst (λ (z : ℤ). pos 1 ≤ℤ z) (sym h.reach) b.reach;
+      weight = subst (λ (z : ℤ). pos 1 ≤ℤ z) (sym h.weight) b.weight;
+      product = subst (λ (z : ℤ). nat_abs new.weight * nat_abs z ≤ 2 ^ 22) (sym h.reach) (subst (λ (z : ℤ). nat_abs z * nat_abs old.reach ≤ 2 ^ 22) (sym h.weight) b.product);
+      lows = subst (λ (z : ℤ). All (AllWithin (nat_abs z)) new.lows.items) (sym h.reach) (subst (All (AllWithin (nat_abs old.reach))) (sym h.lows) b.lows);
+      rows = subst (λ (z : ℤ). All (λ (row : Form). weight_of row ≤ nat_abs z) new.table.rows.items) (sym h.weight) (subst (All (λ (row : Form). weight_of row ≤ nat_abs old.weight)) (sym t.rows) b.rows);
+      constants = subst (AllWithin (2 ^ 39)) (sym h.constants) b.constants;
+    }
+
+pub kernel_same : (old new : Kernel) → HoldsSame old.table new.table → HoldsNumbers old new → IsKernel old → IsKernel new
+kernel_same old new t h m =
+    let costs = old.table.costs in
+    let rows = old.table.rows.items in
+    let basis = old.table.basis.items in
+    let D = nat_abs old.common in
+    let there = kernel_basis old m in
+    let lows : lows_of new ≡ lows_of old = ap (λ zs. lows_by zs new.lows.items) h.constants ∙ ap (lows_by old.constants.items) h.lows in
+    basis_kernel new (same_shaped old new t h m.shaped) (same_bounded old new t h m.bounded)
+    (subst (λ (box : CostBox). IsBox (length box.low) box) (sym t.costs) m.whole.box)
+    (subst (λ (box : CostBox). All (FitsBox box) new.table.rows.items) (sym t.costs) (subst (All (FitsBox costs)) (sym t.rows) m.whole.fit))
+    (subst (λ (box : CostBox). AreAtBasis box new.table.rows.items new.table.basis.items (nat_abs new.common) (lows_of new)) (sym t.costs)
+    (subst (λ (fs : List Form). AreAtBasis costs fs new.table.basis.items (nat_abs new.common) (lows_of new)) (sym t.rows)
+    (subst (λ (ms : List Member). AreAtBasis costs rows ms (nat_abs new.common) (lows_of new)) (sym t.basis)
+    (subst (λ (z : ℤ). AreAtBasis costs rows basis (nat_abs z) (lows_of new)) (sym h.common)
+    (subst (AreAtBasis costs rows basis D) (sym lows) there.0)))))
+    (subst (λ (box : CostBox). AreConstants box new.table.rows.items (nat_abs new.common) (lows_of new) new.constants.items) (sym t.costs)
+    (subst (λ (fs : List Form). AreConstants costs fs (nat_abs new.common) (lows_of new) new.constants.items) (sym t.rows)
+    (subst (λ (z : ℤ). AreConstants costs rows (nat_abs z) (lows_of new) new.constants.items) (sym h.common)
+    (subst (λ (ts : List (List ℤ)). AreConstants costs rows D ts new.constants.items) (sym lows)
+    (subst (AreConstants costs rows D (lows_of old)) (sym h.constants) there.1)))))
+
+-- a table holds the same as itself
+pub same_table : (t : Table) → HoldsSame t t
+same_table t = record { top = refl; costs = refl; rows = refl; basis = refl; lines = refl; quotients = refl; scratch = refl }
+
+-- and it stands for the same lines
+pub lines_same : (old new : Kernel) → HoldsSame old.table new.table → HoldsNumbers old new → IsKernel old → (stated new).lines.items ≡ (stated old).lines.items
+lines_same old new t k kernel =
+    stated_lines new (kernel_same old new t k kernel).shaped
+    ∙ same
+    ∙ sym (stated_lines old kernel.shaped)
+  where
+    same : lines_of new ≡ lines_of old
+    same = rw (t.costs, t.rows, k.common, k.lows, k.constants) refl

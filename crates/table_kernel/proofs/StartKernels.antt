@@ -1,0 +1,172 @@
+-- At the starting basis a kernel holds the units over 1, and the ranges of the variables.
+use Rattle.std.proofs.Common.{◌≡◌, ℕ, zero, suc, ◌+◌, ◌^◌, ◌<◌, ◌*◌, ◌≤◌, Bool, true, false, cond, refl, sym, ◌∙◌, ap, subst, List, [], ◌∷◌, ◌++◌, map, length, arith, append-nil, zero-add}
+use Rattle.std.specs.Prelude.{ℤ, pos, ◌-ℤ◌, ◌<ℤ◌, ◌≤ℤ◌, ◌==◌, nat_abs, slice_index, slice_index_or, vec_capacity, All}
+use Rattle.std.proofs.lemmas.Int.{ints}
+use Rattle.std.proofs.lemmas.List.{get_or-map, get_or_default, length-append, map-append}
+use Rattle.std.proofs.lemmas.Simd.{map-map}
+use Rattle.cost_base.specs.Lists.{numbers_from}
+use Rattle.whole_numbers.specs.Fractions.{Fraction}
+use Rattle.path_rows.specs.declared.form.Form.{Form}
+use Rattle.path_rows.specs.declared.form.CostBox.{CostBox}
+use Rattle.path_rows.specs.declared.tree.Member.{Member}
+use Rattle.path_rows.specs.declared.tree.Member.TheVariants.{Low}
+use Rattle.path_rows.specs.Forms.{value}
+use Rattle.path_rows.specs.Boxes.{IsBox}
+use Rattle.path_rows.specs.Basis.{IsFormOf, low_member, member_form, unit}
+use Rattle.fraction_rows.proofs.Filled.{length-mapped, mapped_same}
+use Rattle.fraction_table.specs.Tableaus.{FitsBox, Held, starting}
+use Rattle.fraction_table.specs.Wholes.{HasRoom, IsSound, IsWholeTable, high_member, held_of, members_of, number_at, number_of}
+use Rattle.fraction_table.specs.declared.stage.Stage.TheVariants.{Open}
+use Rattle.fraction_table.proofs.Pivots.{line_long, lines_long, members_long}
+use Rattle.fraction_table.proofs.Starts.{all_mapped, elsewhere_none, members_are, number_start, start_rows, starting_leads, starting_mixtures, starting_own, starts_long}
+use Rattle.fraction_table.proofs.WholeTurns.{coefficients_long}
+use Rattle.fraction_table.proofs.theory.Resolved.{unit_same}
+use Rattle.fraction_table.proofs.theory.Units.{high_value, low_value}
+use Rattle.table_kernel.specs.declared.kernel.Kernel.{Kernel}
+use Rattle.table_kernel.specs.Kernels.{IsBounded, IsKernel, IsShaped, lows_of, width_of}
+use Rattle.table_kernel.specs.Numbers.{AllWithin, lows_by, weight_of}
+use Rattle.table_kernel.proofs.AtBasis.{AreAtBasis, basis_kernel}
+
+-- the constants of x - low and of high - x at the low corner
+abbrev pub first_constants : CostBox → List ℤ
+first_constants costs =
+    map (λ v. pos 0) (numbers_from 0 (length costs.low)) ++ map (λ v. pos (slice_index costs.high v) -ℤ pos (slice_index costs.low v)) (numbers_from 0 (length costs.low))
+
+first_long : (costs : CostBox) → length (first_constants costs) ≡ length costs.low + length costs.low
+first_long costs =
+    let n = length costs.low in
+    length-append (map (λ v. pos 0) (numbers_from 0 n)) (map (λ v. pos (slice_index costs.high v) -ℤ pos (slice_index costs.low v)) (numbers_from 0 n))
+    ∙ ap (λ (k : ℕ). k + length (map (λ v. pos (slice_index costs.high v) -ℤ pos (slice_index costs.low v)) (numbers_from 0 n))) (length-mapped (λ v. pos 0) 0 n)
+    ∙ ap (λ (k : ℕ). n + k) (length-mapped (λ v. pos (slice_index costs.high v) -ℤ pos (slice_index costs.low v)) 0 n)
+
+-- they are the values of the box's forms there
+values_first : (costs : CostBox) → map (λ member. value (member_form (length costs.low) [] member) costs.low) (members_of costs 0) ≡ first_constants costs
+values_first costs =
+    let n = length costs.low in
+    let at : Member → ℤ = λ member. value (member_form n [] member) costs.low in
+    let lows = map (low_member costs) (numbers_from 0 n) in
+    let highs = map (high_member costs) (numbers_from 0 n) in
+    ap (map at) (append-nil (lows ++ highs))
+    ∙ map-append at lows highs
+    ∙ ap (λ zs. zs ++ map at highs) (map-map at (low_member costs) (numbers_from 0 n) ∙ mapped_same (λ v. at (low_member costs v)) (λ v. pos 0) 0 n (λ v from v_in. low_value costs.low [] v (omega (arith, v_in))))
+    ∙ ap (λ zs. map (λ v. pos 0) (numbers_from 0 n) ++ zs) (map-map at (high_member costs) (numbers_from 0 n) ∙ mapped_same (λ v. at (high_member costs v)) (λ v. pos (slice_index costs.high v) -ℤ pos (slice_index costs.low v)) 0 n (λ v from v_in. high_value costs.low [] v (slice_index costs.high v) (omega (arith, v_in))))
+
+first_at : (costs : CostBox) (rows : List Form) (place : ℕ) → rows ≡ [] → place < length (first_constants costs) → number_at (first_constants costs) place ≡ value (member_form (length costs.low) rows (slice_index_or (members_of costs (length rows)) place (Low 0 0))) costs.low
+first_at costs rows place rows_are place_in =
+    let n = length costs.low in
+    subst (λ (fs : List Form). number_at (first_constants costs) place ≡ value (member_form n fs (slice_index_or (members_of costs (length fs)) place (Low 0 0))) costs.low) (sym rows_are)
+    (ap (λ zs. number_at zs place) (sym (values_first costs))
+    ∙ get_or-map (λ member. value (member_form n [] member) costs.low) (members_of costs 0) place (Low 0 0) (pos 0) (omega (arith, first_long costs, members_long costs 0, place_in)))
+
+-- the numbers of x - low, by the units
+rows_by : (a m : ℕ) (f : ℕ → List ℤ) (more : List ℤ) → lows_by (map (λ v. pos 0) (numbers_from a m) ++ more) (map f (numbers_from a m)) ≡ map (λ v. pos 0 ∷ f v) (numbers_from a m)
+rows_by a zero f more = refl
+rows_by a (suc m) f more = ap (λ rows. (pos 0 ∷ f a) ∷ rows) (rows_by (a + 1) m f more)
+
+-- the starting basis
+pub start_at_basis : (costs : CostBox) (rows : List Form) → IsBox (length costs.low) costs → All (FitsBox costs) rows → AreAtBasis costs rows (starting costs) 1 (start_rows (length costs.low) 0 (length costs.low))
+start_at_basis costs rows box fit =
+    let n = length costs.low in
+    record {
+      high_count = box.high_count;
+      counts = λ k d k_in. (fit k d k_in).count;
+      count = length-mapped (low_member costs) 0 n;
+      members = all_mapped (IsFormOf costs rows) (low_member costs) n (λ k k_in. (k_in, refl));
+      positive = omega arith;
+      long = starts_long n 0 n;
+      mixtures = starting_mixtures costs rows;
+      own = λ k k_in. starting_own costs rows k (suc k) k_in (omega (arith, k_in)) ∙ unit_same n k k_in;
+      elsewhere = λ k place k_in place_in apart. starting_own costs rows k place k_in (omega (arith, place_in)) ∙ elsewhere_none n k place apart;
+      lead = λ k k_in. starting_leads n 0 n k k (sym (zero-add k)) k_in k_in;
+    }
+
+unit_within : (n v : ℕ) → AllWithin 1 (unit n v (pos 1))
+unit_within n v = all_mapped (λ (z : ℤ). nat_abs z ≤ 1) (λ k. cond (k == v) (pos 1) (pos 0)) n (λ k k_in. either (k == v))
+  where
+    either : (b : Bool) → nat_abs (cond b (pos 1) (pos 0)) ≤ 1
+    either true = omega arith
+    either false = omega arith
+
+-- what the kernel of a box is made of
+pub record IsStarting (k : Kernel) (costs : CostBox) : Type 0 where
+  pub common : k.common ≡ pos 1
+  pub reach : k.reach ≡ pos 1
+  pub weight : k.weight ≡ pos 1
+  pub lows : k.lows.items ≡ map (λ v. unit (length costs.low) v (pos 1)) (numbers_from 0 (length costs.low))
+  pub constants : k.constants.items ≡ first_constants costs
+  pub small : AllWithin (2 ^ 27) k.constants.items
+  pub left : length costs.low ≤ vec_capacity k.left
+  pub line : length k.line.items ≡ length costs.low
+  pub along : length k.along.items ≡ length costs.low + length costs.low
+
+starting_shaped : (k : Kernel) → IsWholeTable k.table → HasRoom k.table → k.table.rows.items ≡ [] → IsStarting k k.table.costs → IsShaped k
+starting_shaped k w room rows_are s =
+    let n = width_of k in
+    let none : length k.table.rows.items ≡ 0 = ap length rows_are in
+    let counted = ap length s.constants ∙ first_long k.table.costs in
+    let many = members_long k.table.costs (length k.table.rows.items) in
+    record {
+      room = room;
+      lows = ap length s.lows ∙ length-mapped (λ v. unit n v (pos 1)) 0 n;
+      each = subst (All (λ (row : List ℤ). length row ≡ n)) (sym s.lows) (all_mapped (λ (row : List ℤ). length row ≡ n) (λ v. unit n v (pos 1)) n (λ v v_in. length-mapped (λ j. cond (j == v) (pos 1) (pos 0)) 0 n));
+      constants = omega (arith, counted, many, none);
+      line = s.line;
+      left = s.left;
+      along = s.along ∙ sym counted;
+      lines = omega (arith, lines_long k.table w, counted, none);
+      wide = λ i d i_in. line_wide i d i_in;
+    }
+  where
+    line_wide : (i : ℕ) (d : List Fraction) → i < length k.table.lines.items → length (slice_index_or k.table.lines.items i d) ≡ suc (width_of k)
+    line_wide i d i_in = subst (λ (line : List Fraction). length line ≡ suc (width_of k)) (get_or_default k.table.lines.items i [] d i_in) (line_long k.table w i i_in)
+
+starting_bounded : (k : Kernel) → 2 ^ 39 ≤ k.table.top → k.table.rows.items ≡ [] → IsStarting k k.table.costs → IsBounded k
+starting_bounded k top rows_are s =
+    let n = width_of k in
+    record {
+      top = top;
+      positive = subst (λ (z : ℤ). pos 0 <ℤ z) (sym s.common) (omega (arith, ints));
+      common = subst (λ (z : ℤ). z ≤ℤ pos (2 ^ 22)) (sym s.common) (omega (arith, ints));
+      reach = subst (λ (z : ℤ). pos 1 ≤ℤ z) (sym s.reach) (omega (arith, ints));
+      weight = subst (λ (z : ℤ). pos 1 ≤ℤ z) (sym s.weight) (omega (arith, ints));
+      product = subst (λ (z : ℤ). nat_abs z * nat_abs k.reach ≤ 2 ^ 22) (sym s.weight) (subst (λ (z : ℤ). 1 * nat_abs z ≤ 2 ^ 22) (sym s.reach) (omega arith));
+      lows = subst (λ (z : ℤ). All (AllWithin (nat_abs z)) k.lows.items) (sym s.reach)
+          (subst (All (AllWithin 1)) (sym s.lows) (all_mapped (AllWithin 1) (λ v. unit n v (pos 1)) n (λ v v_in. unit_within n v)));
+      rows = subst (All (λ (f : Form). weight_of f ≤ nat_abs k.weight)) (sym rows_are) (λ i d i_in. absurd (omega (arith, i_in)));
+      constants = λ i d i_in. omega (arith, s.small i d i_in);
+    }
+
+-- the kernel of a box without rows
+starting_is : (k : Kernel) → 2 ^ 39 ≤ k.table.top → IsWholeTable k.table → HasRoom k.table → k.table.rows.items ≡ [] → k.table.basis.items ≡ starting k.table.costs → IsStarting k k.table.costs → IsKernel k
+starting_is k top w room rows_are basis_is s =
+    let n = width_of k in
+    let costs = k.table.costs in
+    let rows = k.table.rows.items in
+    let one : nat_abs k.common ≡ 1 = ap nat_abs s.common in
+    let lows_are : lows_of k ≡ start_rows n 0 n =
+    ap (λ zs. lows_by zs k.lows.items) s.constants
+    ∙ ap (lows_by (first_constants costs)) s.lows
+    ∙ rows_by 0 n (λ v. unit n v (pos 1)) (map (λ v. pos (slice_index costs.high v) -ℤ pos (slice_index costs.low v)) (numbers_from 0 n)) in
+    let shaped = starting_shaped k w room rows_are s in
+    basis_kernel k shaped (starting_bounded k top rows_are s) w.box w.fit
+    (subst (λ (D : ℕ). AreAtBasis costs rows k.table.basis.items D (lows_of k)) (sym one)
+    (subst (AreAtBasis costs rows k.table.basis.items 1) (sym lows_are)
+    (subst (λ (basis : List Member). AreAtBasis costs rows basis 1 (start_rows n 0 n)) (sym basis_is) (start_at_basis costs rows w.box w.fit))))
+    (λ place place_in.
+    let place_there : place < length (first_constants costs) = subst (λ (zs : List ℤ). place < length zs) s.constants place_in in
+    let member = slice_index_or (members_of costs (length rows)) place (Low 0 0) in
+    let is = members_are costs rows place (Low 0 0) (omega (arith, shaped.constants, place_in)) in
+    let f = member_form n rows member in
+    ap (λ zs. number_at zs place) s.constants
+    ∙ first_at costs rows place rows_are place_there
+    ∙ sym (number_start n costs.low f 0 (coefficients_long costs rows member w.fit is) (omega arith))
+    ∙ ap (λ (D : ℕ). number_of D costs.low (start_rows n 0 n) f 0) (sym one)
+    ∙ ap (λ lows. number_of (nat_abs k.common) costs.low lows f 0) (sym lows_are))
+
+pub started : (k : Kernel) (costs : CostBox) (top : ℕ) → held_of k.table Open ≡ record { top = top; costs = costs; rows = []; basis = starting costs; stage = Open } → IsSound k.table Open → IsStarting k costs → 2 ^ 39 ≤ top → IsKernel k
+started k costs top held sound s large =
+    let costs_are : k.table.costs ≡ costs = ap (λ (h : Held). h.costs) held in
+    starting_is k (subst (λ (m : ℕ). 2 ^ 39 ≤ m) (sym (ap (λ (h : Held). h.top) held)) large) (sound.whole tt) sound.room
+    (ap (λ (h : Held). h.rows) held)
+    (ap (λ (h : Held). h.basis) held ∙ ap starting (sym costs_are))
+    (subst (IsStarting k) (sym costs_are) s)

@@ -1,0 +1,45 @@
+-- A column that is left at last comes first.
+use Rattle.std.proofs.Common.{◌∙◌, ◌≡◌, sym, subst, List, length, refl, arith}
+use Rattle.std.specs.Prelude.{ℤ, vec_len, ◌==◌, true}
+use Rattle.std.proofs.lemmas.Bool.Decides.{nat_tests}
+use Rattle.table_kernel.specs.declared.kernel.Kernel.{Kernel}
+use Rattle.table_kernel.specs.Choices.{AreLeft, ArePositive}
+use Rattle.table_kernel.proofs.Lefts.{chosen_best, none_best, none_looked_at}
+use Rattle.table_kernel.proofs.Rooms.{keeps_kernel, keeps_twice, left_keeps}
+use Rattle.table_kernel.proofs.kernel.Kernel.choose.Goals as goal
+
+pub look_at_all-requires-clause-kernel : goal.look_at_all-requires-clause-kernel
+look_at_all-requires-clause-kernel c =
+    let k = c.args.self.now in
+    let n : Kernel = record k { left = c.put_positive.new.left } in
+    keeps_kernel k n (left_keeps k n refl (omega (arith, c.put_positive.ensures.room))) c.requires.kernel
+
+pub look_at_all-requires-clause-left : goal.look_at_all-requires-clause-left
+look_at_all-requires-clause-left c =
+    none_looked_at c.args.self.now.lows.items c.args.self.now.line.items c.put_positive.new.left.items
+    (subst (λ (line : List ℤ). ArePositive line (length line) c.put_positive.new.left.items) c.as_slice.ensures.value c.put_positive.ensures.positive)
+
+pub returns-then-is_empty-clause-best : goal.returns-then-is_empty-clause-best
+returns-then-is_empty-clause-best c =
+    let left = c.put_positive.new.left in
+    let tested : (vec_len left == 0) ≡ true = sym c.is_empty.ensures ∙ c.if-is_empty.true in
+    let none : vec_len left ≡ 0 = grind (arith, nat_tests) in
+    none_best c.args.self.now left.items c.requires.kernel.shaped
+    (subst (λ (line : List ℤ). ArePositive line (length line) left.items) c.as_slice.ensures.value c.put_positive.ensures.positive)
+    (omega (arith, none, left.ok.0))
+
+pub returns-clause-best : goal.returns-clause-best
+returns-clause-best c =
+    let k = c.args.self.now in
+    let left = c.look_at_all.new.self.left in
+    chosen_best k left.items c.index.result.now c.requires.kernel.shaped
+    (subst (λ (m : Kernel). AreLeft m.lows.items m.line.items (length m.lows.items) left.items) c.look_at_all.ensures.keeps c.look_at_all.ensures.left)
+    (omega (arith, c.look_at_all.ensures.some, left.ok.0))
+    c.index.ensures
+
+pub returns-clause-keeps : goal.returns-clause-keeps
+returns-clause-keeps c =
+    let k = c.args.self.now in
+    let n : Kernel = record k { left = c.put_positive.new.left } in
+    keeps_twice k n c.look_at_all.new.self (left_keeps k n refl (omega (arith, c.put_positive.ensures.room)))
+    (left_keeps n c.look_at_all.new.self c.look_at_all.ensures.keeps (omega (arith, c.look_at_all.ensures.room)))

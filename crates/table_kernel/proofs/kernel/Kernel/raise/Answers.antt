@@ -1,0 +1,33 @@
+-- The line is put down and a column chosen, which only takes room; then the pivot lets the rank rise, or the line is stuck.
+use Rattle.std.proofs.Common.{sym, subst}
+use Rattle.std.specs.Prelude.{Some}
+use Rattle.fraction_table.specs.declared.stage.Solved.TheVariants.{Refuted}
+use Rattle.fraction_table.specs.declared.table.Table.{Table}
+use Rattle.fraction_table.specs.Pivots.{IsAhead}
+use Rattle.table_kernel.specs.Kernels.{stated}
+use Rattle.table_kernel.specs.Turns.{IsBestOf}
+use Rattle.table_kernel.proofs.Rooms.{keeps_kernel, keeps_twice, same_stated}
+use Rattle.table_kernel.proofs.Settling.{line_in, line_stuck, none_positive}
+use Rattle.table_kernel.proofs.kernel.Kernel.raise.Goals as goal
+
+pub choose-requires-clause-kernel : goal.choose-requires-clause-kernel
+choose-requires-clause-kernel c = keeps_kernel c.args.self.now c.put_line.new.self c.put_line.ensures.keeps c.requires.kernel
+
+pub pivot-requires-clause-kernel : goal.pivot-requires-clause-kernel
+pivot-requires-clause-kernel c =
+    keeps_kernel c.args.self.now c.choose.new.self (keeps_twice c.args.self.now c.put_line.new.self c.choose.new.self c.put_line.ensures.keeps c.choose.ensures.keeps) c.requires.kernel
+
+pub returns-in-None-clause-kernel : goal.returns-in-None-clause-kernel
+returns-in-None-clause-kernel c =
+    keeps_kernel c.args.self.now c.choose.new.self (keeps_twice c.args.self.now c.put_line.new.self c.choose.new.self c.put_line.ensures.keeps c.choose.ensures.keeps) c.requires.kernel
+
+pub returns-in-None-clause-ahead : goal.returns-in-None-clause-ahead
+returns-in-None-clause-ahead c =
+    let old = c.args.self.now in
+    let both = keeps_twice old c.put_line.new.self c.choose.new.self c.put_line.ensures.keeps c.choose.ensures.keeps in
+    let best = subst (IsBestOf c.put_line.new.self) c.in-None.is c.choose.ensures.best in
+    subst (λ (t : Table). IsAhead (stated old) t (Some (Refuted c.args.place))) (sym (same_stated old c.choose.new.self both)) (
+      line_in old c.requires.kernel c.args.place c.requires.place,
+      line_stuck old c.requires.kernel c.args.place c.requires.place c.requires.below
+          (none_positive old c.put_line.new.self c.args.place c.put_line.ensures.keeps c.put_line.ensures.line best),
+    )

@@ -1,0 +1,24 @@
+-- The rank of the table that the kernel stands for rises at each step.
+use Rattle.std.proofs.Common.{subst, List}
+use Rattle.whole_numbers.specs.Fractions.{Fraction}
+use Rattle.fraction_table.specs.declared.stage.Stage.TheVariants.{Ended}
+use Rattle.fraction_table.specs.Pivots.{IsAhead}
+use Rattle.fraction_table.specs.Wholes.{IsShown}
+use Rattle.fraction_table.proofs.Ranks.{nearer}
+use Rattle.table_kernel.specs.Kernels.{stated}
+use Rattle.table_kernel.proofs.AtBasis.{stated_lines}
+use Rattle.table_kernel.proofs.kernel.Kernel.settle.Goals as goal
+
+pub pivots-smaller : goal.pivots-smaller
+pivots-smaller c =
+    let old = c.pivots.self in
+    let new = c.advance.new.self in
+    nearer (stated old) (stated new) c.in_ok-solved.ensures.kernel.whole c.in_ok-solved.ensures.keeps
+    (subst (IsAhead (stated old) (stated new)) c.in_default.is c.in_ok-solved.ensures.ahead)
+
+-- the table's lines are the kernel's
+pub returns-in-Some-clause-shown : goal.returns-in-Some-clause-shown
+returns-in-Some-clause-shown c =
+    let new = c.advance.new.self in
+    subst (λ (lines : List (List Fraction)). IsShown new.table.basis.items lines (Ended c.in-Some.solved)) (stated_lines new c.in_ok-solved.ensures.kernel.shaped)
+    (subst (IsAhead (stated c.pivots.self) (stated new)) c.in-Some.is c.in_ok-solved.ensures.ahead)

@@ -1,0 +1,9 @@
+-- One more zero is put.
+use Rattle.std.proofs.Common.{refl, []}
+use Rattle.std.specs.Prelude.{pos}
+use Rattle.fraction_table.proofs.StartLines.{put_more}
+use Rattle.table_kernel.proofs.start.zeros.Goals as goal
+
+pub loop-preserved : goal.loop-preserved
+loop-preserved c =
+    put_more [] c.loop.list.items c.push.new.list.items (λ place. pos 0) c.loop.counter (pos 0) c.in_ok-push.ensures c.loop.invariant refl

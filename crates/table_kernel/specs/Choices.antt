@@ -1,0 +1,39 @@
+-- How the columns are narrowed down of which one is chosen.
+use Rattle.std.specs.Prelude.{◌≡◌, ℕ, ◌<◌, ◌⊎◌, List, [], ◌∷◌, ℤ, pos, ◌*ℤ◌, ◌<ℤ◌, nat_abs, length, slice_index_or}
+use Rattle.fraction_table.specs.Pivots.{LeadsNoNegative, numbers_in, turned_column}
+use Rattle.fraction_table.specs.Wholes.{number_at}
+
+-- the column is one of these
+abbrev pub Has : List ℕ → ℕ → Type 0
+Has [] c = ⊥
+Has (x ∷ xs) c = (c ≡ x) ⊎ Has xs c
+
+-- the line is positive in the column
+abbrev pub IsPositiveAt : List ℤ → ℕ → Type 0
+IsPositiveAt line c = (c < length line) × (pos 0 <ℤ number_at line c)
+
+-- the number in a column times the line's in another
+abbrev pub crosswise : List ℤ → List ℤ → ℕ → ℕ → ℤ
+crosswise numbers line c d = number_at numbers c *ℤ number_at line d
+
+-- those of the columns before a bound in which the line is positive
+pub record ArePositive (line : List ℤ) (bound : ℕ) (left : List ℕ) : Type 0 where
+  pub each : (c : ℕ) → Has left c → IsPositiveAt line c
+  pub all : (c : ℕ) → c < bound → IsPositiveAt line c → Has left c
+
+-- those of some columns in which a variable's number, over the line's, is least
+pub record AreLeast (numbers line : List ℤ) (seen least : List ℕ) : Type 0 where
+  pub within : (c : ℕ) → Has least c → Has seen c
+  pub level : (c d : ℕ) → Has least c → Has least d → crosswise numbers line c d ≡ crosswise numbers line d c
+  pub others : (c : ℕ) → Has seen c → Has least c ⊎ ((d : ℕ) → Has least d → crosswise numbers line d c <ℤ crosswise numbers line c d)
+
+-- the first column, over the line's number there, doesn't come after the second one over its own
+abbrev pub ComesFirst : List (List ℤ) → List ℤ → ℕ → ℕ → Type 0
+ComesFirst rows line first second =
+    LeadsNoNegative (turned_column (nat_abs (number_at line first)) (numbers_in second rows) (number_at line second) (numbers_in first rows))
+
+-- the columns that are left once so many variables were looked at
+pub record AreLeft (rows : List (List ℤ)) (line : List ℤ) (count : ℕ) (left : List ℕ) : Type 0 where
+  pub each : (c : ℕ) → Has left c → IsPositiveAt line c
+  pub level : (c d u : ℕ) → Has left c → Has left d → u < count → crosswise (slice_index_or rows u []) line c d ≡ crosswise (slice_index_or rows u []) line d c
+  pub others : (c : ℕ) → IsPositiveAt line c → Has left c ⊎ ((d : ℕ) → Has left d → ComesFirst rows line d c)

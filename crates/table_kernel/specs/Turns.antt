@@ -1,0 +1,126 @@
+-- What the work on a kernel needs and leaves: its room, the choice of a column, a turn, a row more, and another box.
+use Rattle.std.specs.Prelude.{◌≡◌, ◌≢◌, Bool, true, false, ℕ, zero, suc, ◌+◌, ◌*◌, ◌^◌, ◌<◌, ◌≤◌, List, [], ◌∷◌, ℤ, pos, ◌-ℤ◌, ◌*ℤ◌, ◌+ℤ◌, ◌<ℤ◌, ◌≤ℤ◌, nat_abs, Option, None, Some, map, length, slice_index_or, vec_capacity, vec_len, All}
+use Rattle.cost_base.specs.Lists.{numbers_from}
+use Rattle.path_rows.specs.declared.form.CostBox.{CostBox}
+use Rattle.path_rows.specs.declared.form.Form.{Form}
+use Rattle.path_rows.specs.Basis.{member_form}
+use Rattle.path_rows.specs.Forms.{value}
+use Rattle.fraction_table.specs.Pivots.{LeadsNoNegative, member_at, turned_column}
+use Rattle.fraction_table.specs.RowLines.{HasPlace}
+use Rattle.fraction_table.specs.Wholes.{members_of, number_at}
+use Rattle.table_kernel.specs.declared.kernel.Kernel.{Kernel}
+use Rattle.table_kernel.specs.declared.turn.Turn.{Turn}
+use Rattle.table_kernel.specs.Numbers.{AllWithin, number_in, product_sum, weight_of}
+use Rattle.table_kernel.specs.Kernels.{width_of}
+
+-- the kernels differ in their room alone
+pub record KeepsNumbers (old new : Kernel) : Type 0 where
+  pub table : new.table ≡ old.table
+  pub common : new.common ≡ old.common
+  pub reach : new.reach ≡ old.reach
+  pub weight : new.weight ≡ old.weight
+  pub lows : new.lows ≡ old.lows
+  pub constants : new.constants ≡ old.constants
+  pub line : length new.line.items ≡ length old.line.items
+  pub along : length new.along.items ≡ length old.along.items
+  pub left : vec_capacity old.left ≤ vec_capacity new.left
+
+-- the form of a place
+abbrev pub form_in : Kernel → ℕ → Form
+form_in k place = member_form (width_of k) k.table.rows.items (member_at k.table place)
+
+-- the numbers of x - low for each variable at a column
+abbrev pub column_of : Kernel → ℕ → List ℤ
+column_of k column = map (λ row. number_at row column) k.lows.items
+
+-- the numbers of a place's form at the columns
+abbrev pub line_numbers : Kernel → ℕ → List ℤ
+line_numbers k place = map (λ column. number_in (form_in k place) (column_of k column)) (numbers_from 0 (width_of k))
+
+-- the numbers of all forms at a column
+abbrev pub along_numbers : Kernel → ℕ → List ℤ
+along_numbers k column =
+    map (λ member. number_in (member_form (width_of k) k.table.rows.items member) (column_of k column)) (members_of k.table.costs (length k.table.rows.items))
+
+-- the first column, over its positive number in the line, doesn't come after the second one over its own
+abbrev pub IsNotAfter : Kernel → ℕ → ℕ → Type 0
+IsNotAfter k first second =
+    LeadsNoNegative (turned_column (nat_abs (number_at k.line.items first)) (column_of k second) (number_at k.line.items second) (column_of k first))
+
+-- a best of the columns in which the line is positive; none where it is positive in none
+abbrev pub IsBestOf : Kernel → Option ℕ → Type 0
+IsBestOf k None = (c : ℕ) → c < width_of k → number_at k.line.items c ≤ℤ pos 0
+IsBestOf k (Some best) =
+    (best < width_of k) × (pos 0 <ℤ number_at k.line.items best) × ((c : ℕ) → c < width_of k → c ≢ best → pos 0 <ℤ number_at k.line.items c → IsNotAfter k best c)
+
+-- what a search for a negative constant finds
+abbrev pub IsFoundNegative : Kernel → Option ℕ → Type 0
+IsFoundNegative k None = All (λ z. pos 0 ≤ℤ z) k.constants.items
+IsFoundNegative k (Some place) = (place < length k.constants.items) × (number_at k.constants.items place <ℤ pos 0)
+
+-- the pivot's number times a number, less what stands along with it times what stands across
+abbrev pub crossed : Turn → ℤ → ℤ → ℤ
+crossed turn number along = (turn.pivot *ℤ number) -ℤ (along *ℤ turn.across)
+
+-- the number after the pivot: that over the old denominator
+abbrev pub IsTurned : Turn → ℤ → ℤ → ℤ → Type 0
+IsTurned turn number along new = (new *ℤ turn.common) ≡ crossed turn number along
+
+-- no step of a turn is wide
+pub record IsSmallTurn (turn : Turn) : Type 0 where
+  pub pivot : (pos 0 <ℤ turn.pivot) × (turn.pivot ≤ℤ pos (2 ^ 22))
+  pub across : nat_abs turn.across ≤ 2 ^ 39
+  pub common : (pos 0 <ℤ turn.common) × (turn.common ≤ℤ pos (2 ^ 22))
+
+-- a form's constant at the basis, by those of x - low
+abbrev pub row_constant_of : Kernel → Form → ℤ
+row_constant_of k f = (k.common *ℤ value f k.table.costs.low) +ℤ product_sum f.coefficients k.constants.items
+
+-- the kernel's bounds hold with the row, too
+pub record IsCovered (k : Kernel) (f : Form) : Type 0 where
+  pub product : weight_of f * nat_abs k.reach ≤ 2 ^ 22
+  pub constant : nat_abs (row_constant_of k f) ≤ 2 ^ 39
+
+-- the kernels hold the same numbers
+pub record HoldsNumbers (old new : Kernel) : Type 0 where
+  pub common : new.common ≡ old.common
+  pub reach : new.reach ≡ old.reach
+  pub weight : new.weight ≡ old.weight
+  pub lows : new.lows.items ≡ old.lows.items
+  pub constants : new.constants.items ≡ old.constants.items
+  pub line : new.line.items ≡ old.line.items
+  pub left : vec_capacity old.left ≤ vec_capacity new.left
+  pub along : new.along.items ≡ old.along.items
+
+-- there is a place for one more form, its lines and its numbers
+pub record HasRowPlace (k : Kernel) : Type 0 where
+  pub table : HasPlace k.table
+  pub constants : vec_len k.constants < vec_capacity k.constants
+  pub along : vec_len k.along < vec_capacity k.along
+
+-- how far a constant can move where a bound moves by 1: the greatest number of a form at a column, or the denominator
+abbrev pub step_of : Kernel → ℕ
+step_of k = nat_abs k.reach * nat_abs k.weight + nat_abs k.common
+
+-- the sum of the differences of two lists, place by place
+abbrev pub distance_of : List ℕ → List ℕ → ℕ
+distance_of [] ys = 0
+distance_of (x ∷ xs) [] = 0
+distance_of (x ∷ xs) (y ∷ ys) = nat_abs (pos y -ℤ pos x) + distance_of xs ys
+
+-- how far the bounds of two boxes are from each other
+abbrev pub box_distance : CostBox → CostBox → ℕ
+box_distance old new = distance_of old.low new.low + distance_of old.high new.high
+
+-- the constants stay within their limit where the bounds move this far
+abbrev pub MayMove : Kernel → ℕ → Type 0
+MayMove k far = (most : ℕ) × (AllWithin most k.constants.items × (most + far * step_of k ≤ 2 ^ 39))
+
+-- a move keeps what bounds the numbers
+pub record KeepsBounds (old new : Kernel) : Type 0 where
+  pub top : new.table.top ≡ old.table.top
+  pub rows : new.table.rows ≡ old.table.rows
+  pub width : length new.table.costs.low ≡ length old.table.costs.low
+  pub common : new.common ≡ old.common
+  pub reach : new.reach ≡ old.reach
+  pub weight : new.weight ≡ old.weight

@@ -1,0 +1,146 @@
+//! The choice of a pivot's column.
+ghost use Rattle.std.specs.Prelude.{◌≡◌, ℕ, ◌+◌, ◌^◌, ◌<◌, ◌≤◌, pos, ◌<ℤ◌, length, take, vec_capacity, vec_len};
+ghost use Rattle.std.specs.Ordering.{int_cmp};
+ghost use Rattle.fraction_table.specs.Wholes.{number_at};
+ghost use Rattle.table_kernel.specs.Choices.{AreLeast, AreLeft, ArePositive, Has, IsPositiveAt, crosswise};
+ghost use Rattle.table_kernel.specs.Kernels.{IsKernel};
+ghost use Rattle.table_kernel.specs.Numbers.{AllWithin};
+ghost use Rattle.table_kernel.specs.Turns.{IsBestOf, KeepsNumbers};
+
+use crate::Kernel;
+use std::cmp::Ordering;
+
+/// Puts the columns in which the line is positive into `left`.
+fn put_positive(left: &mut Vec<usize>, line: &[i64])
+    requires room { length line.now ≤ vec_capacity left.old }
+    ensures positive { ArePositive line.now (length line.now) left.new.items }
+    ensures room { vec_capacity left.new ≡ vec_capacity left.old }
+{
+    left.clear();
+    for column in 0..line.len() {
+        if line[column] > 0 {
+            left.push_reserved(column);
+        }
+    }
+}
+
+/// How a variable's numbers in two columns stand to each other, each over the line's there, which is positive.
+fn column_order(numbers: &[i64], line: &[i64], column: usize, other: usize) -> Ordering
+    requires long { length line.now ≤ length numbers.now }
+    requires small { AllWithin (2 ^ 22) numbers.now }
+    requires line { AllWithin (2 ^ 22) line.now }
+    requires column { column < length line.now }
+    requires other { other < length line.now }
+    requires positive { pos 0 <ℤ number_at line.now other }
+    ensures { result ≡ int_cmp (crosswise numbers.now line.now column other) (crosswise numbers.now line.now other column) }
+{
+    let own = numbers[column];
+    let others = numbers[other];
+    if others == 0 {
+        return own.cmp(&0);
+    }
+    let first = own * line[other];
+    let second = others * line[column];
+    first.cmp(&second)
+}
+
+/// Of some columns puts those to the front in which a variable's number, over the line's, is least, and tells how many
+/// they are.
+fn put_least(left: &mut [usize], numbers: &[i64], line: &[i64]) -> usize
+    requires some { 0 < length left.old }
+    requires positive { (c : ℕ) → Has left.old c → IsPositiveAt line.now c }
+    requires long { length line.now ≤ length numbers.now }
+    requires small { AllWithin (2 ^ 22) numbers.now }
+    requires line { AllWithin (2 ^ 22) line.now }
+    ensures some { (0 < result) × (result ≤ length left.old) }
+    ensures least { AreLeast numbers.now line.now left.old (take result left.new) }
+{
+    let mut kept = 1;
+    for index in 1..left.len() {
+        let column = left[index];
+        match column_order(numbers, line, column, left[0]) {
+            Ordering::Less => {
+                left[0] = column;
+                kept = 1;
+            }
+            Ordering::Equal => {
+                left[kept] = column;
+                kept += 1;
+            }
+            Ordering::Greater => {}
+        }
+    }
+    kept
+}
+
+/// Keeps of some columns those in which a variable's number, over the line's, is least.
+fn keep_least(left: &mut Vec<usize>, numbers: &[i64], line: &[i64])
+    requires some { 0 < vec_len left.old }
+    requires positive { (c : ℕ) → Has left.old.items c → IsPositiveAt line.now c }
+    requires long { length line.now ≤ length numbers.now }
+    requires small { AllWithin (2 ^ 22) numbers.now }
+    requires line { AllWithin (2 ^ 22) line.now }
+    ensures some { 0 < vec_len left.new }
+    ensures least { AreLeast numbers.now line.now left.old.items left.new.items }
+    ensures room { vec_capacity left.new ≡ vec_capacity left.old }
+{
+    let kept = put_least(left.as_mut_slice(), numbers, line);
+    left.truncate(kept);
+}
+
+impl Kernel {
+    /// Keeps of the columns that are left those in which the variable's number, over the line's, is least.
+    fn look_at(&mut self, var: usize)
+        requires kernel { IsKernel self.old }
+        requires line { AllWithin (2 ^ 22) self.old.line.items }
+        requires var { var < length self.old.lows.items }
+        requires some { 0 < vec_len self.old.left }
+        requires left { AreLeft self.old.lows.items self.old.line.items var self.old.left.items }
+        ensures left { AreLeft self.new.lows.items self.new.line.items (var + 1) self.new.left.items }
+        ensures some { 0 < vec_len self.new.left }
+        ensures room { vec_capacity self.new.left ≡ vec_capacity self.old.left }
+        ensures keeps { self.new ≡ record self.old { left = self.new.left } }
+    {
+        keep_least(
+            &mut self.left,
+            self.lows[var].as_slice(),
+            self.line.as_slice(),
+        );
+    }
+
+    /// Looks at one variable after the other, as long as several columns are left.
+    fn look_at_all(&mut self)
+        requires kernel { IsKernel self.old }
+        requires line { AllWithin (2 ^ 22) self.old.line.items }
+        requires some { 0 < vec_len self.old.left }
+        requires left { AreLeft self.old.lows.items self.old.line.items 0 self.old.left.items }
+        ensures left { AreLeft self.new.lows.items self.new.line.items (length self.new.lows.items) self.new.left.items }
+        ensures some { 0 < vec_len self.new.left }
+        ensures room { vec_capacity self.new.left ≡ vec_capacity self.old.left }
+        ensures keeps { self.new ≡ record self.old { left = self.new.left } }
+    {
+        for var in 0..self.lows.len() {
+            if self.left.len() == 1 {
+                return;
+            }
+            self.look_at(var);
+        }
+    }
+
+    /// Of the columns in which the line is positive the least one, each over the line's number there: they are compared
+    /// at the forms x - low, in order.
+    pub fn choose(&mut self) -> Option<usize>
+        requires kernel { IsKernel self.old }
+        requires line { AllWithin (2 ^ 22) self.old.line.items }
+        ensures best { IsBestOf self.old result }
+        ensures line { self.new.line ≡ self.old.line }
+        ensures keeps { KeepsNumbers self.old self.new }
+    {
+        put_positive(&mut self.left, self.line.as_slice());
+        if self.left.is_empty() {
+            return None;
+        }
+        self.look_at_all();
+        Some(self.left[0])
+    }
+}

@@ -1,0 +1,23 @@
+//! The kernel: the table of a box and of rows at a basis in 64-bit whole numbers over one denominator, and the
+//! lexicographic dual simplex over it.
+//!
+//! It takes the same pivots as the table in fractions, and stops before a step that its bounds don't cover; then that
+//! table takes over at the same basis.
+#![tactic(auto)]
+
+mod add_row;
+mod bounds;
+mod choice;
+mod corner;
+mod kernel;
+mod line;
+mod moves;
+mod multipliers;
+mod restate;
+mod settle;
+mod start;
+mod turn;
+
+pub use bounds::OutOfRange;
+pub use kernel::Kernel;
+pub use start::starting_kernel;

@@ -1,0 +1,202 @@
+//! The numbers of one form at all columns, and of all forms at one column.
+ghost use Rattle.std.specs.Prelude.{◌≡◌, ℕ, ◌^◌, ◌+◌, ◌<◌, ◌≤◌, [], ◌*ℤ◌, neg_ℤ, pos, nat_abs, length, map, slice_index_or, All};
+ghost use Rattle.path_rows.specs.Basis.{IsFormOf, member_form};
+ghost use Rattle.path_rows.specs.Forms.{no_form};
+ghost use Rattle.fraction_table.specs.Wholes.{number_at};
+ghost use Rattle.table_kernel.specs.Kernels.{IsKernel, IsMoving, width_of};
+ghost use Rattle.table_kernel.specs.Numbers.{AllWithin, more_sums, number_in, weight_of};
+ghost use Rattle.table_kernel.specs.Turns.{KeepsNumbers, along_numbers, column_of, line_numbers};
+
+use crate::Kernel;
+use cost_base::Listed;
+use path_rows::{Form, Member};
+
+/// Puts a multiple of some numbers to sums, place by place.
+pub fn put_multiple(sums: &mut [i64], factor: i64, numbers: &[i64])
+    requires long { length sums.old ≡ length numbers.now }
+    requires sums { AllWithin (2 ^ 44) sums.old }
+    requires factor { nat_abs factor ≤ 2 ^ 22 }
+    requires numbers { AllWithin (2 ^ 22) numbers.now }
+    ensures { sums.new ≡ more_sums sums.old factor numbers.now }
+{
+    for index in 0..sums.len() {
+        sums[index] += factor * numbers[index];
+    }
+}
+
+/// A form's number at a column, by those of x - low there, which stand first among `numbers`: the sum of its
+/// coefficients times these.
+fn row_number(form: &Form, numbers: &[i64]) -> i64
+    requires count { length form.now.coefficients ≤ length numbers.now }
+    requires light { weight_of form.now ≤ 2 ^ 22 }
+    requires small { (v : ℕ) → v < length form.now.coefficients → nat_abs (number_at numbers.now v) ≤ 2 ^ 22 }
+    ensures { result ≡ number_in form.now numbers.now }
+{
+    let mut sum = 0;
+    for term in form.terms() {
+        sum += term.coefficient * numbers[term.var as usize];
+    }
+    sum
+}
+
+/// A form's number at a column, by the numbers of x - low for each variable: the sum of its coefficients times these.
+fn row_entry(form: &Form, lows: &[Listed<i64>], column: usize) -> i64
+    requires count { length form.now.coefficients ≤ length lows.now }
+    requires light { weight_of form.now ≤ 2 ^ 22 }
+    requires long { All (λ row. column < length row) lows.now }
+    requires small { All (AllWithin (2 ^ 22)) lows.now }
+    ensures { result ≡ number_in form.now (map (λ row. number_at row column) lows.now) }
+{
+    let mut sum = 0;
+    for term in form.terms() {
+        sum += term.coefficient * lows[term.var as usize].as_slice()[column];
+    }
+    sum
+}
+
+/// Puts a multiple of some numbers in place of `line`.
+fn put_scaled(line: &mut [i64], factor: i64, numbers: &[i64])
+    requires long { length line.old ≡ length numbers.now }
+    requires factor { nat_abs factor ≤ 2 ^ 22 }
+    requires numbers { AllWithin (2 ^ 22) numbers.now }
+    ensures { line.new ≡ map (λ z. factor *ℤ z) numbers.now }
+{
+    for column in 0..line.len() {
+        line[column] = factor * numbers[column];
+    }
+}
+
+/// Puts 0 at each place.
+fn clear(line: &mut [i64])
+    ensures { (place : ℕ) → place < length line.old → number_at line.new place ≡ pos 0 }
+{
+    for number in line.iter_mut() {
+        *number = 0;
+    }
+}
+
+/// Puts a form's numbers at the columns in place of `line`: the sum of its coefficients, each times its variable's
+/// numbers.
+fn put_sums(line: &mut [i64], form: &Form, lows: &[Listed<i64>])
+    requires count { length form.now.coefficients ≤ length lows.now }
+    requires light { weight_of form.now ≤ 2 ^ 22 }
+    requires long { All (λ row. length row ≡ length line.old) lows.now }
+    requires small { All (AllWithin (2 ^ 22)) lows.now }
+    ensures { (column : ℕ) → column < length line.old → number_at line.new column ≡ number_in form.now (map (λ row. number_at row column) lows.now) }
+{
+    clear(line);
+    for term in form.terms() {
+        put_multiple(line, term.coefficient, lows[term.var as usize].as_slice());
+    }
+}
+
+/// Puts the numbers of x - low and of high - x for each variable at a column in front of `along`.
+fn put_bounds(along: &mut [i64], lows: &[Listed<i64>], column: usize)
+    requires room { length lows.now + length lows.now ≤ length along.old }
+    requires long { All (λ row. column < length row) lows.now }
+    requires small { All (AllWithin (2 ^ 22)) lows.now }
+    ensures low { (v : ℕ) → v < length lows.now → number_at along.new v ≡ number_at (slice_index_or lows.now v []) column }
+    ensures high { (v : ℕ) → v < length lows.now → number_at along.new (length lows.now + v) ≡ neg_ℤ (number_at (slice_index_or lows.now v []) column) }
+{
+    let width = lows.len();
+    for var in 0..width {
+        let number = lows[var].as_slice()[column];
+        along[var] = number;
+        along[width + var] = -number;
+    }
+}
+
+/// Puts each row's number at a column at its place in `along`, by those of x - low, which stand first there.
+fn put_rows(along: &mut [i64], rows: &[Form], first: usize)
+    requires room { first + length rows.now ≤ length along.old }
+    requires count { All (λ f. length f.coefficients ≤ first) rows.now }
+    requires light { All (λ f. weight_of f ≤ 2 ^ 22) rows.now }
+    requires small { (v : ℕ) → v < first → nat_abs (number_at along.old v) ≤ 2 ^ 22 }
+    ensures before { (v : ℕ) → v < first → number_at along.new v ≡ number_at along.old v }
+    ensures rows { (row : ℕ) → row < length rows.now → number_at along.new (first + row) ≡ number_in (slice_index_or rows.now row no_form) along.old }
+{
+    for row in 0..rows.len() {
+        let number = row_number(&rows[row], along);
+        along[first + row] = number;
+    }
+}
+
+/// Puts the numbers of all forms at a column into `along`: of x - low, of high - x and of the rows.
+fn put_forms(along: &mut [i64], rows: &[Form], lows: &[Listed<i64>], column: usize)
+    requires room { length lows.now + length lows.now + length rows.now ≤ length along.old }
+    requires count { All (λ f. length f.coefficients ≤ length lows.now) rows.now }
+    requires light { All (λ f. weight_of f ≤ 2 ^ 22) rows.now }
+    requires long { All (λ row. column < length row) lows.now }
+    requires small { All (AllWithin (2 ^ 22)) lows.now }
+    ensures low { (v : ℕ) → v < length lows.now → number_at along.new v ≡ number_at (slice_index_or lows.now v []) column }
+    ensures high { (v : ℕ) → v < length lows.now → number_at along.new (length lows.now + v) ≡ neg_ℤ (number_at (slice_index_or lows.now v []) column) }
+    ensures rows { (row : ℕ) → row < length rows.now → number_at along.new (length lows.now + length lows.now + row) ≡ number_in (slice_index_or rows.now row no_form) (map (λ row. number_at row column) lows.now) }
+{
+    put_bounds(along, lows, column);
+    put_rows(along, rows, lows.len() + lows.len());
+}
+
+impl Kernel {
+    /// The number of a member's form at a column.
+    pub fn entry(&self, member: Member, column: usize) -> i64
+        requires kernel { IsKernel self.now }
+        requires member { IsFormOf self.now.table.costs self.now.table.rows.items member }
+        requires column { column < width_of self.now }
+        ensures { result ≡ number_in (member_form (width_of self.now) self.now.table.rows.items member) (column_of self.now column) }
+    {
+        match member {
+            Member::Low(var, _) => self.lows[var as usize].as_slice()[column],
+            Member::High(var, _) => -self.lows[var as usize].as_slice()[column],
+            Member::Row(row) => row_entry(
+                &self.table.rows[row as usize],
+                self.lows.as_slice(),
+                column,
+            ),
+        }
+    }
+
+    /// Puts the numbers of a place's form at the columns into `line`.
+    pub fn put_line(&mut self, place: usize)
+        requires kernel { IsMoving self.old }
+        requires place { place < length self.old.constants.items }
+        ensures line { self.new.line.items ≡ line_numbers self.old place }
+        ensures within { AllWithin (2 ^ 22) self.new.line.items }
+        ensures along { self.new.along ≡ self.old.along }
+        ensures keeps { KeepsNumbers self.old self.new }
+    {
+        match self.table.member_at(place) {
+            Member::Low(var, _) => put_scaled(
+                self.line.as_mut_slice(),
+                1,
+                self.lows[var as usize].as_slice(),
+            ),
+            Member::High(var, _) => put_scaled(
+                self.line.as_mut_slice(),
+                -1,
+                self.lows[var as usize].as_slice(),
+            ),
+            Member::Row(row) => put_sums(
+                self.line.as_mut_slice(),
+                &self.table.rows[row as usize],
+                self.lows.as_slice(),
+            ),
+        }
+    }
+
+    /// Puts the numbers of all forms at a column into `along`.
+    pub fn put_along(&mut self, column: usize)
+        requires kernel { IsMoving self.old }
+        requires column { column < width_of self.old }
+        ensures along { self.new.along.items ≡ along_numbers self.old column }
+        ensures within { AllWithin (2 ^ 22) self.new.along.items }
+        ensures line { self.new.line ≡ self.old.line }
+        ensures keeps { KeepsNumbers self.old self.new }
+    {
+        put_forms(
+            self.along.as_mut_slice(),
+            self.table.rows.as_slice(),
+            self.lows.as_slice(),
+            column,
+        );
+    }
+}
