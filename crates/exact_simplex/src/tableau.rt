@@ -4,16 +4,14 @@ ghost use Rattle.path_rows.specs.Basis.{IsBasis};
 ghost use Rattle.path_rows.specs.Boxes.{IsBox, Refutes};
 ghost use Rattle.path_rows.specs.Earnest.{IsLeast};
 ghost use Rattle.path_rows.specs.Steps.{IsTooWide};
-ghost use Rattle.exact_simplex.specs.declared.stage.Solved.TheVariants.{Feasible, Refuted};
-ghost use Rattle.exact_simplex.specs.declared.stage.Stage.TheVariants.{Ended, Stopped};
-ghost use Rattle.exact_simplex.specs.Tableaus.{FitsBox, IsAmongForms, IsGoing, IsRebased, IsRefused, IsSolved, IsStop, IsTold, MeetsRows, starting, wide_at};
+ghost use Rattle.fraction_table.specs.declared.stage.Solved.TheVariants.{Feasible, Refuted};
+ghost use Rattle.fraction_table.specs.declared.stage.Stage.TheVariants.{Ended, Stopped};
+ghost use Rattle.fraction_table.specs.Tableaus.{FitsBox, IsAmongForms, IsGoing, IsRebased, IsRefused, IsSolved, IsStop, IsTold, MeetsRows, starting, wide_at};
 
-use crate::fit::{fit_box, fits_box, is_box};
-use crate::start::starting_table;
-use crate::table::Table;
-use crate::{SimplexStop, Solved, Stage};
+use crate::active::ActiveTable;
 use area_graph::Point;
 use cost_base::OutOfMemory;
+use fraction_table::{SimplexStop, Solved, Stage, fit_box, fits_box, is_box};
 use path_rows::{CostBox, Form, Member, Parts};
 use std::alloc::Global;
 use std::marker::Model;
@@ -23,20 +21,21 @@ use wide_fraction::{Top, Wide};
 /// rows as they were added, the members of the basis, and how far the work on it is.
 #[derive(Drop)]
 pub struct Tableau {
-    table: Table,
+    table: ActiveTable,
     stage: Stage,
 }
 
 impl Model for Tableau {
-    ghost use Rattle.exact_simplex.specs.Tableaus.{Held};
+    ghost use Rattle.fraction_table.specs.Tableaus.{Held};
 
     ghost Value = { Held };
 
-    ghost use Rattle.exact_simplex.specs.Wholes.{IsSound, held_of};
+    ghost use Rattle.fraction_table.specs.Wholes.{held_of};
+    ghost use Rattle.exact_simplex.specs.Actives.{IsSoundActive};
 
-    ghost view = { λ t. held_of t.table t.stage };
+    ghost view = { λ t. held_of t.table.kernel.table t.stage };
 
-    ghost invariant = { λ t. IsSound t.table t.stage };
+    ghost invariant = { λ t. IsSoundActive t.table t.stage };
 }
 
 impl Tableau {
@@ -51,7 +50,7 @@ impl Tableau {
         ensures { IfOk result (λ tableau. tableau ≡ record { top = top; costs = costs.now; rows = []; basis = starting costs.now; stage = Stage.Open }) }
     {
         Ok(Tableau {
-            table: starting_table(alloc, costs, top)?,
+            table: ActiveTable::start(alloc, costs, top)?,
             stage: Stage::Open,
         })
     }
@@ -65,7 +64,7 @@ impl Tableau {
         ensures members { IfOk result (λ members. members.items ≡ self.now.basis) }
         ensures basis { IsBasis self.now.costs self.now.rows self.now.basis }
     {
-        match self.table.basis.as_slice().to_vec(alloc) {
+        match self.table.kernel.table.basis.as_slice().to_vec(alloc) {
             Ok(members) => Ok(members),
             Err(_) => Err(OutOfMemory),
         }
@@ -92,7 +91,7 @@ impl Tableau {
     pub fn takes(&self, form: &Form) -> bool
         ensures { IsTrue result ↔ FitsBox self.now.costs form.now }
     {
-        fits_box(&self.table.costs, form)
+        fits_box(&self.table.kernel.table.costs, form)
     }
 
     /// Whether it can move to another box: one of as many variables, none of whose ranges is empty, over which it would
@@ -100,11 +99,11 @@ impl Tableau {
     pub fn fits(&self, costs: &CostBox) -> bool
         ensures { IsTrue result ↔ (IsBox (length self.now.costs.low) costs.now × All (FitsBox costs.now) self.now.rows) }
     {
-        let width = self.table.costs.low.as_slice().len();
+        let width = self.table.kernel.table.costs.low.as_slice().len();
         if costs.low.as_slice().len() != width || !is_box(costs) {
             return false;
         }
-        fit_box(costs, self.table.rows.as_slice())
+        fit_box(costs, self.table.kernel.table.rows.as_slice())
     }
 
     /// Adds the form of a row, with its line at the present basis: first the line's constant, and then its columns in

@@ -7,7 +7,7 @@ use Rattle.std.proofs.lemmas.List.Elements.{Contains-append_cases}
 use Rattle.area_graph.specs.declared.Point.{Point}
 use Rattle.path_rows.specs.Forms.{Form}
 use Rattle.path_rows.specs.declared.form.CostBox.{CostBox}
-use Rattle.exact_simplex.specs.Tableaus.{FitsBox}
+use Rattle.fraction_table.specs.Tableaus.{FitsBox}
 use Rattle.form_search.specs.declared.table.HeldTableau.{HeldTableau}
 use Rattle.form_search.specs.Sources.{Grows, IsTrueForm}
 use Rattle.form_search.specs.Points.{IsCostsBox}

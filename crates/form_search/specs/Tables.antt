@@ -8,9 +8,9 @@ use Rattle.path_rows.specs.Boxes.{Refutes}
 use Rattle.path_rows.specs.Steps.{IsTooWide}
 use Rattle.path_rows.specs.Earnest.{IsLeast}
 use Rattle.path_rows.specs.Text.{IsPrinted}
-use Rattle.exact_simplex.specs.Tableaus.{Held, IsGoing, MeetsRows, wide_at}
-use Rattle.exact_simplex.specs.declared.stage.SimplexStop.{SimplexStop}
-use Rattle.exact_simplex.specs.declared.stage.SimplexStop.TheVariants.{TooWide as StepTooWide, OutOfMemory}
+use Rattle.fraction_table.specs.Tableaus.{Held, IsGoing, MeetsRows, wide_at}
+use Rattle.fraction_table.specs.declared.stage.SimplexStop.{SimplexStop}
+use Rattle.fraction_table.specs.declared.stage.SimplexStop.TheVariants.{TooWide as StepTooWide, OutOfMemory}
 use Rattle.form_search.specs.declared.table.HeldTableau.{HeldTableau}
 use Rattle.form_search.specs.declared.table.Least.{Least}
 use Rattle.form_search.specs.declared.table.Least.TheVariants.{Point as AtPoint, Refuted, Wide}

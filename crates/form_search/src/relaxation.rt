@@ -1,6 +1,6 @@
 //! The relaxation of a box: its least accepted point, or why there is none.
 ghost use Rattle.std.specs.Prelude.{◌≡◌, ℕ, ◌^◌, ◌<◌, length, All, IfOk, IfSome, None, OnOk};
-ghost use Rattle.exact_simplex.specs.Tableaus.{MeetsRows};
+ghost use Rattle.fraction_table.specs.Tableaus.{MeetsRows};
 ghost use Rattle.path_rows.specs.Earnest.{IsLeast};
 ghost use Rattle.form_search.specs.Sources.{Grows, SameSource};
 ghost use Rattle.form_search.specs.Points.{IsCostsBox};

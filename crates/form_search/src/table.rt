@@ -4,12 +4,13 @@ ghost use Rattle.path_rows.specs.Forms.{Form};
 ghost use Rattle.path_rows.specs.Boxes.{IsBox};
 ghost use Rattle.path_rows.specs.Steps.{IsTooWide, ratio_of};
 ghost use Rattle.path_rows.specs.Text.{IsPrinted};
-ghost use Rattle.exact_simplex.specs.Tableaus.{FitsBox, IsGoing, wide_at};
+ghost use Rattle.fraction_table.specs.Tableaus.{FitsBox, IsGoing, wide_at};
 ghost use Rattle.form_search.specs.Tables.{IsHeld, IsKept, IsPrintedWide, IsStepTold, IsTold, StandsAt};
 
 use area_graph::Point;
 use cost_base::{Listed, OutOfMemory, Ratio};
-use exact_simplex::{SimplexStop, Solved, Tableau};
+use exact_simplex::Tableau;
+use fraction_table::{SimplexStop, Solved};
 use path_rows::{CostBox, Form, Parts, WideAt};
 use std::alloc::Global;
 use wide_fraction::{Frac, Top, Wide};

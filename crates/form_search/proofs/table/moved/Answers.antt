@@ -1,7 +1,7 @@
 use Rattle.std.proofs.Common.{sym, subst, List, length}
 use Rattle.std.specs.Prelude.{All, Option}
 use Rattle.path_rows.specs.Forms.{Form}
-use Rattle.exact_simplex.specs.Tableaus.{FitsBox}
+use Rattle.fraction_table.specs.Tableaus.{FitsBox}
 use Rattle.form_search.specs.declared.table.HeldTableau.{HeldTableau}
 use Rattle.form_search.specs.Tables.{IsHeld, IsKept}
 use Rattle.form_search.proofs.Entries.{all_take}

@@ -3,7 +3,7 @@ use Rattle.std.proofs.Common.{◌≡◌, ℕ, sym, ◌∙◌, ap, subst, List, l
 use Rattle.std.specs.Prelude.{All}
 use Rattle.path_rows.specs.declared.form.Form.{Form}
 use Rattle.path_rows.specs.Boxes.{IsBox}
-use Rattle.exact_simplex.specs.Tableaus.{FitsBox, Held}
+use Rattle.fraction_table.specs.Tableaus.{FitsBox, Held}
 use Rattle.exact_simplex.proofs.tableau.Tableau.fits.Goals as goal
 
 pub returns : goal.returns

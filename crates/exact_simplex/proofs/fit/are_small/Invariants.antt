@@ -1,7 +1,0 @@
--- The terms before the counter have small coefficients.
-use Rattle.std.proofs.Common.{ℕ, ◌^◌, ◌<◌, ◌≤◌, nat_abs}
-use Rattle.fraction_rows.proofs.Sums.{term_in}
-use Rattle.exact_simplex.proofs.fit.are_small.Given as goal
-
-abbrev pub invariant-loop-term : goal.invariant-loop-term
-invariant-loop-term l = (k : ℕ) → k < l.term-index → nat_abs (term_in l.terms k).coefficient ≤ 2 ^ 26

@@ -1,8 +1,0 @@
--- The rows before the counter fit.
-use Rattle.std.proofs.Common.{ℕ, ◌<◌, get_or}
-use Rattle.path_rows.specs.Forms.{no_form}
-use Rattle.exact_simplex.specs.Tableaus.{FitsBox}
-use Rattle.exact_simplex.proofs.fit.fit_box.Given as goal
-
-abbrev pub invariant-loop-index : goal.invariant-loop-index
-invariant-loop-index l = (k : ℕ) → k < l.index → FitsBox l.costs (get_or l.rows k no_form)

@@ -1,6 +1,0 @@
--- The bounds before the counter are the new ones.
-use Rattle.std.proofs.Common.{◌≡◌, ◌++◌, take, drop}
-use Rattle.exact_simplex.proofs.restart.put_bounds.Given as goal
-
-abbrev pub invariant-loop-var : goal.invariant-loop-var
-invariant-loop-var l = l.bounds ≡ take l.var l.news ++ drop l.var l.initial.bounds

@@ -1,7 +1,0 @@
--- The terms before the counter are put.
-use Rattle.path_rows.specs.Forms.{value}
-use Rattle.exact_simplex.proofs.Restarts.{IsPutTo}
-use Rattle.exact_simplex.proofs.restart.put_form_line.Given as goal
-
-abbrev pub invariant-loop-term : goal.invariant-loop-term
-invariant-loop-term l = IsPutTo (value l.form l.costs.low) l.form.coefficients l.terms l.term-index l.line

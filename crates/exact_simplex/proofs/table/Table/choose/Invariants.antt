@@ -1,6 +1,0 @@
--- The best of the columns before the counter.
-use Rattle.exact_simplex.specs.Pivots.{IsBestBelow}
-use Rattle.exact_simplex.proofs.table.Table.choose.Given as goal
-
-abbrev pub invariant-loop-column : goal.invariant-loop-column
-invariant-loop-column l = IsBestBelow l.self l.line l.column l.best

@@ -1,8 +1,0 @@
--- The point that was put is the least.
-use Rattle.exact_simplex.proofs.CornerScales.{values_least}
-use Rattle.exact_simplex.proofs.table.Table.put_corner.Goals as goal
-
-pub returns-clause-least : goal.returns-clause-least
-returns-clause-least c =
-    values_least c.args.self.now c.requires.whole c.requires.high (record { scale = c.in_ok-scale.scale; values = c.put_corner_values.new.into })
-    c.in_ok-scale.ensures.common c.put_corner_values.ensures.places c.put_corner_values.ensures.values

@@ -1,0 +1,195 @@
+//! The table that a tableau works on: the kernel, and from the first step that its bounds don't cover the table in
+//! fractions.
+ghost use Rattle.std.specs.Prelude.{◌≡◌, ℕ, suc, ◌^◌, ◌<◌, ◌≤◌, ◌++◌, [], ◌∷◌, length, map, true, false, All, IfErr, IfOk, IsTrue, OnErr, OnOk};
+ghost use Rattle.cost_base.specs.Lists.{numbers_from};
+ghost use Rattle.path_rows.specs.Boxes.{IsBox, Refutes};
+ghost use Rattle.path_rows.specs.Earnest.{IsLeast};
+ghost use Rattle.path_rows.specs.Steps.{IsStuck, IsTooWide};
+ghost use Rattle.fraction_rows.specs.TableRows.{nothing};
+ghost use Rattle.fraction_table.specs.declared.stage.Stage.{Stage};
+ghost use Rattle.fraction_table.specs.declared.stage.Stage.TheVariants.{Ended, Open};
+ghost use Rattle.fraction_table.specs.Multipliers.{IsToldOf};
+ghost use Rattle.fraction_table.specs.Pivots.{AreHigh, KeepsForms, line_at};
+ghost use Rattle.fraction_table.specs.RowLines.{HasPlace};
+ghost use Rattle.fraction_table.specs.Tableaus.{FitsBox, IsRebased, MeetsRows, starting, wide_at};
+ghost use Rattle.fraction_table.specs.Wholes.{HasRoom, IsShown, held_of};
+ghost use Rattle.table_kernel.specs.Turns.{HasRowPlace};
+ghost use Rattle.exact_simplex.specs.Actives.{IsActive, IsSoundActive, table_of};
+
+use area_graph::Point;
+use cost_base::OutOfMemory;
+use fraction_table::{BlankRow, SimplexStop, Solved};
+use path_rows::{CostBox, Form, Parts};
+use std::alloc::Global;
+use table_kernel::{Kernel, starting_kernel};
+use wide_fraction::{Top, Wide};
+
+/// A table in one of two representations: whole numbers over one denominator, or fractions.
+#[derive(Drop)]
+pub struct ActiveTable {
+    pub kernel: Kernel,
+    /// Whether the kernel works. Else the table in fractions does, for good.
+    pub in_kernel: bool,
+}
+
+/// Whether the kernel may work: at widths below 127 bits a step that it doesn't take could be too wide.
+fn is_wide(top: Top) -> bool
+    ensures { IsTrue result → 2 ^ 39 ≤ top }
+{
+    top.size() >= 1 << 126
+}
+
+impl ActiveTable {
+    /// The table of a box without rows, at the basis of the forms x - low. The kernel works where the greatest number
+    /// is that of 127 bits.
+    ///
+    /// # Errors
+    ///
+    /// `OutOfMemory` where something got no memory.
+    pub fn start(alloc: Global, costs: &CostBox, top: Top) -> Result<ActiveTable, OutOfMemory>
+        requires ranges { IsBox (length costs.now.low) costs.now }
+        requires few { length costs.now.low < 2 ^ 32 }
+        ensures held { IfOk result (λ table. held_of table.kernel.table Open ≡ record { top = top; costs = costs.now; rows = []; basis = starting costs.now; stage = Open }) }
+        ensures sound { IfOk result (λ table. IsSoundActive table Open) }
+    {
+        Ok(ActiveTable {
+            kernel: starting_kernel(alloc, costs, top)?,
+            in_kernel: is_wide(top),
+        })
+    }
+
+    /// Makes room for one more row, and the row's parts.
+    ///
+    /// # Errors
+    ///
+    /// `OutOfMemory` where something got no memory. Then the table holds what it held.
+    pub fn make_room(&mut self, alloc: Global, form: &Form) -> Result<BlankRow, OutOfMemory>
+        requires room { HasRoom self.old.kernel.table }
+        ensures sound { (stage : Stage) → IsSoundActive self.old stage → IsSoundActive self.new stage }
+        ensures held { held_of self.new.kernel.table Open ≡ held_of self.old.kernel.table Open }
+        ensures place { OnOk result (HasRowPlace self.new.kernel) }
+        ensures form { IfOk result (λ row. row.form ≡ form.now) }
+        ensures blank { IfOk result (λ row. row.line ≡ nothing ∷ map (λ column. nothing) (numbers_from 0 (length self.old.kernel.table.costs.low))) }
+    {
+        self.kernel.make_room(alloc, form)
+    }
+
+    /// Goes on with the table in fractions, at the same basis.
+    fn leave_kernel(&mut self)
+        requires active { IsActive self.old }
+        requires kernel { self.old.in_kernel ≡ true }
+        ensures active { IsActive self.new }
+        ensures left { self.new.in_kernel ≡ false }
+        ensures keeps { KeepsForms self.old.kernel.table self.new.kernel.table }
+        ensures basis { self.new.kernel.table.basis.items ≡ self.old.kernel.table.basis.items }
+        ensures place { HasPlace self.old.kernel.table → HasPlace self.new.kernel.table }
+    {
+        self.kernel.restate();
+        self.in_kernel = false;
+    }
+
+    /// Adds a row for which there is room.
+    ///
+    /// # Errors
+    ///
+    /// `Wide` where a step of the row's line makes a whole number that passes the top. The row was added nevertheless.
+    pub fn put_row(&mut self, row: BlankRow) -> Result<(), Wide>
+        requires active { IsActive self.old }
+        requires place { HasRowPlace self.old.kernel }
+        requires fits { FitsBox self.old.kernel.table.costs row.form }
+        requires blank { row.line ≡ nothing ∷ map (λ column. nothing) (numbers_from 0 (length self.old.kernel.table.costs.low)) }
+        ensures held { held_of self.new.kernel.table Open ≡ record { top = self.old.kernel.table.top; costs = self.old.kernel.table.costs; rows = self.old.kernel.table.rows.items ++ row.form ∷ []; basis = self.old.kernel.table.basis.items; stage = Open } }
+        ensures active { OnOk result (IsActive self.new) }
+        ensures room { HasRoom self.new.kernel.table }
+        ensures wide { IfErr result (λ wide. IsTooWide self.new.kernel.table.top self.new.kernel.table.costs self.new.kernel.table.rows.items (wide_at wide self.new.kernel.table.basis.items)) }
+    {
+        if self.in_kernel {
+            if self.kernel.covers(&row.form) {
+                self.kernel.put_row(row);
+                return Ok(());
+            }
+            self.leave_kernel();
+        }
+        self.kernel.table.put_row(row)
+    }
+
+    /// Works until the table shows the answer.
+    ///
+    /// # Errors
+    ///
+    /// `Wide` where a step makes a whole number that passes the top; it is one at the basis that is left.
+    pub fn settle(&mut self) -> Result<Solved, Wide>
+        requires active { IsActive self.old }
+        ensures active { OnOk result (IsActive self.new) }
+        ensures shown { IfOk result (λ solved. IsShown self.new.kernel.table.basis.items (table_of self.new).lines.items (Ended solved)) }
+        ensures keeps { KeepsForms self.old.kernel.table self.new.kernel.table }
+        ensures room { HasRoom self.new.kernel.table }
+        ensures wide { IfErr result (λ wide. IsTooWide self.new.kernel.table.top self.new.kernel.table.costs self.new.kernel.table.rows.items (wide_at wide self.new.kernel.table.basis.items)) }
+    {
+        if self.in_kernel {
+            match self.kernel.settle() {
+                Ok(solved) => return Ok(solved),
+                Err(_) => self.leave_kernel(),
+            }
+        }
+        self.kernel.table.settle()
+    }
+
+    /// Puts the corner, at which the basis is 0, in place of a point.
+    ///
+    /// # Errors
+    ///
+    /// `Wide` where a step of this makes a whole number that passes the top; then `into` is as before.
+    pub fn put_corner(&self, into: &mut Point) -> Result<(), Wide>
+        requires active { IsActive self.now }
+        requires high { AreHigh (table_of self.now) }
+        requires places { length into.old.values ≡ length self.now.kernel.table.costs.low }
+        ensures least { OnOk result (IsLeast (MeetsRows self.now.kernel.table.rows.items) self.now.kernel.table.costs into.new) }
+        ensures small { OnOk result (into.new.scale < 2 ^ 100) }
+        ensures kept { OnErr result (into.new ≡ into.old) }
+        ensures wide { IfErr result (λ wide. IsTooWide self.now.kernel.table.top self.now.kernel.table.costs self.now.kernel.table.rows.items (wide_at wide self.now.kernel.table.basis.items)) }
+    {
+        if self.in_kernel {
+            self.kernel.put_corner(into);
+            return Ok(());
+        }
+        self.kernel.table.put_corner(into)
+    }
+
+    /// Whole multipliers of rows that refute the box, by a line that is stuck.
+    ///
+    /// # Errors
+    ///
+    /// `TooWide` where a step makes a whole number that passes the top; `OutOfMemory`.
+    pub fn multipliers(&self, alloc: Global, line: usize) -> Result<Parts, SimplexStop>
+        requires active { IsActive self.now }
+        requires line { line < length (table_of self.now).lines.items }
+        requires stuck { IsStuck self.now.kernel.table.basis.items (line_at (table_of self.now) line) }
+        ensures refutes { IfOk result (λ parts. Refutes self.now.kernel.table.rows.items parts self.now.kernel.table.costs) }
+        ensures few { IfOk result (λ parts. length parts ≤ suc (length self.now.kernel.table.costs.low)) }
+        ensures told { IfErr result (IsToldOf self.now.kernel.table) }
+    {
+        if self.in_kernel {
+            return self.kernel.multipliers(alloc, line);
+        }
+        self.kernel.table.multipliers(alloc, line)
+    }
+
+    /// Moves the table to another box, bound by bound; where a step of that is too wide, it is started anew. It takes
+    /// no memory.
+    pub fn rebase(&mut self, costs: &CostBox)
+        requires active { IsActive self.old }
+        requires ranges { IsBox (length self.old.kernel.table.costs.low) costs.now }
+        requires fits { All (FitsBox costs.now) self.old.kernel.table.rows.items }
+        ensures active { IsActive self.new }
+        ensures rebased { IsRebased (held_of self.old.kernel.table Open) costs.now (held_of self.new.kernel.table Open) }
+    {
+        if self.in_kernel {
+            match self.kernel.rebase(costs) {
+                Ok(()) => return,
+                Err(_) => self.leave_kernel(),
+            }
+        }
+        self.kernel.table.rebase(costs);
+    }
+}
