@@ -1,7 +1,7 @@
 //! What a tableau answers to a line of a script.
 ghost use Rattle.std.specs.Prelude.{◌≡◌};
-ghost use Rattle.exact_simplex.specs.declared.stage.Solved.TheVariants.{Feasible, Refuted};
-ghost use Rattle.exact_simplex.specs.declared.stage.Stage.TheVariants.{Ended};
+ghost use Rattle.fraction_table.specs.declared.stage.Solved.TheVariants.{Feasible, Refuted};
+ghost use Rattle.fraction_table.specs.declared.stage.Stage.TheVariants.{Ended};
 
 use crate::command::{Command, read_command};
 use crate::scene::Scene;
@@ -9,7 +9,8 @@ use crate::search::search_text;
 use area_graph::Point;
 use cost_base::Listed;
 use entry_words::{Named, Part, Step};
-use exact_simplex::{SimplexStop, Solved, Tableau, is_box};
+use exact_simplex::Tableau;
+use fraction_table::{SimplexStop, Solved, is_box};
 use path_rows::{CostBox, Form, Parts};
 use std::alloc::{AllocError, Global};
 use wide_fraction::Top;

@@ -6,7 +6,7 @@ use crate::advisors::advisor_of;
 use crate::scene::Scene;
 use advisor_box::Advisor;
 use entry_words::Line;
-use exact_simplex::is_box;
+use fraction_table::is_box;
 use form_search::{FormPool, Found, RowSource, search};
 use path_rows::{CostBox, Tree};
 use std::alloc::{AllocError, Global};
