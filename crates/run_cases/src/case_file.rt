@@ -29,7 +29,7 @@ struct Draft {
 }
 
 /// A name, or a text, of these bytes.
-fn name_of(alloc: Global, bytes: &[u8]) -> Result<Name> {
+pub(crate) fn name_of(alloc: Global, bytes: &[u8]) -> Result<Name> {
     Name::from_bytes(alloc, bytes).map_err(|_| anyhow!("out of memory"))
 }
 
@@ -152,7 +152,7 @@ impl Draft {
 }
 
 /// The bytes of a file.
-fn read(rt: &(impl Files + AllocGlobal), path: &str) -> Result<Vec<u8>> {
+pub(crate) fn read(rt: &(impl Files + AllocGlobal), path: &str) -> Result<Vec<u8>> {
     Ok(fs::read(rt, path).context(format_args!("reading {path}"))?)
 }
 

@@ -8,9 +8,12 @@ mod case;
 mod case_file;
 mod pieces;
 mod play;
+mod script;
+mod steps;
 
 use crate::case_file::read_case;
-use crate::play::play;
+use crate::play::play_as;
+use crate::script::{play_script, script_of};
 use anyhow::{Context, Result, ensure};
 use std::rt::Files;
 use std::{fs, io};
@@ -24,10 +27,7 @@ fn play_run(
     own: &str,
 ) -> Result<()> {
     let case = read_case(rt, common, own)?;
-    if let Some(difference) = play(rt.alloc(), case)? {
-        told.push_str(format!(in rt.alloc(); " {label}: {difference};")?.as_str())?;
-    }
-    Ok(())
+    play_as(rt.alloc(), told, label, case)
 }
 
 /// Plays the runs of a case, and tells those that differ. What stands before the first line `run LABEL` goes for every run.
@@ -50,7 +50,10 @@ fn play_runs(rt: &(impl Files + AllocGlobal), text: &str) -> Result<String> {
 fn play_case(rt: &(impl Files + AllocGlobal), name: &str) -> Result<String> {
     let path = format!(in rt.alloc(); "{name}/case.txt")?;
     let text = fs::read_to_string(rt, path.as_str()).context("reading case.txt")?;
-    play_runs(rt, text.as_str())
+    match script_of(text.as_str()) {
+        Some(script) => play_script(rt, script, text.as_str()),
+        None => play_runs(rt, text.as_str()),
+    }
 }
 
 /// Plays a case and prints its line. Whether all went as wanted is the answer.

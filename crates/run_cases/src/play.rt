@@ -71,7 +71,7 @@ fn difference_with(
 }
 
 /// Runs the words of a case over its files, and tells what differs from what is wanted, or None.
-pub(crate) fn play(alloc: Global, case: Case) -> Result<Option<String>> {
+fn play(alloc: Global, case: Case) -> Result<Option<String>> {
     let mut advisors: Vec<Box<dyn Advisor>> = Vec::new(alloc);
     for adviser in case.advisers.as_slice() {
         match *adviser {
@@ -91,4 +91,12 @@ pub(crate) fn play(alloc: Global, case: Case) -> Result<Option<String>> {
     let mut sink = sink.map_err(|_| anyhow!("out of memory"))?;
     let status = run(alloc, &case.words, &mut shelf, &mut sink, &mut advisors);
     Ok(difference_with(alloc, advisors.len(), status, sink.got(), &case.wanted)?)
+}
+
+/// Plays a run, and adds what differs to a text, under the run's label.
+pub(crate) fn play_as(alloc: Global, told: &mut String, label: &str, case: Case) -> Result<()> {
+    if let Some(difference) = play(alloc, case)? {
+        told.push_str(format!(in alloc; " {label}: {difference};")?.as_str())?;
+    }
+    Ok(())
 }
