@@ -31,7 +31,7 @@ deviation_dearer g p gone t d settled target u (e ∷ path) (i ∷ rest) joins l
     ]
 
 -- where each walk that leaves a path costs more, the path leads
-pub leads_from_dearer : (g : Area) (p : Point) (gone : List ℕ) (t : ℕ) (d : List ℕ) → FitsGraph g → FitsPoint g p → length d ≡ length g.vertices → AreReached g p gone t d → (u : ℕ) (path : List ℕ) → Joins g u path t → cost g p path < far p → ((walk : List ℕ) → Deviates g gone t u path walk → cost g p path < cost g p walk) → Leads g p gone d path
+pub leads_from_dearer : (g : Area) (p : Point) (gone : List ℕ) (t : ℕ) (d : List ℕ) → FitsGraph g → FitsPoint g p → length d ≡ length g.vertices → AreReached g p gone t (far p) d → (u : ℕ) (path : List ℕ) → Joins g u path t → cost g p path < far p → ((walk : List ℕ) → Deviates g gone t u path walk → cost g p path < cost g p walk) → Leads g p gone d path
 leads_from_dearer g p gone t d graph fits count are u [] joins near dearer = tt
 leads_from_dearer g p gone t d graph fits count are u (e ∷ path) joins near dearer = (
   all_out (IsDearer g p gone d e (cost g p (e ∷ path))) g (edge_at g e).from (λ i known from lacks other.
@@ -91,7 +91,7 @@ only_dearer g p ends path walk graph fits only deviates =
         differs equal less = let costs = ap (cost g p) equal in omega (arith, costs, less)
 
 -- a path of a request leads exactly where it is only cheapest
-pub leads_only : (g : Area) (p : Point) (ends : Ends) (d : List ℕ) (path : List ℕ) → FitsGraph g → FitsPoint g p → length d ≡ length g.vertices → AreReached g p ends.gone ends.end d → SettledBelow (length g.edges) g p ends.gone d → cost g p path < far p → IsPathOf g ends path → Leads g p ends.gone d path ↔ IsOnlyCheapest g p ends path
+pub leads_only : (g : Area) (p : Point) (ends : Ends) (d : List ℕ) (path : List ℕ) → FitsGraph g → FitsPoint g p → length d ≡ length g.vertices → AreReached g p ends.gone ends.end (far p) d → SettledBelow (length g.edges) g p ends.gone d → cost g p path < far p → IsPathOf g ends path → Leads g p ends.gone d path ↔ IsOnlyCheapest g p ends path
 leads_only g p ends d path graph fits count are settled near is_path = (
   λ leads. record {
     path = is_path;

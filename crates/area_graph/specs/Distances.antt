@@ -22,10 +22,10 @@ pub record WalkWithin (g : Area) (p : Point) (gone : List ℕ) (v t most : ℕ) 
   pub kept : Avoids gone edges
   pub within : cost g p edges ≤ most
 
--- each number is far, or some walk to t costs no more
-pub record AreReached (g : Area) (p : Point) (gone : List ℕ) (t : ℕ) (d : List ℕ) : Type 0 where
+-- some walk to t costs no more than each number below a limit
+pub record AreReached (g : Area) (p : Point) (gone : List ℕ) (t limit : ℕ) (d : List ℕ) : Type 0 where
   pub target : slice_index d t ≡ 0
-  pub reached : (v : ℕ) → v < length d → slice_index d v < far p → WalkWithin g p gone v t (slice_index d v)
+  pub reached : (v : ℕ) → v < length d → slice_index d v < limit → WalkWithin g p gone v t (slice_index d v)
 
 -- what a vertex would get by an edge
 abbrev pub through : Point → Edge → List ℕ → ℕ

@@ -1,85 +1,19 @@
 //! Whether a path is only cheapest, by plain distances: passes over all edges until nothing changes. A checker stands on
-//! this module alone for its test of paths, and on no shortest-path algorithm.
+//! this module and on the passes alone for its test of paths, and on no shortest-path algorithm.
 
-ghost use Rattle.std.specs.Prelude.{◌≡◌, ◌↔◌, ◌++◌, ◌∷◌, [], ◌≤◌, ◌<◌, ◌*◌, ◌+◌, ◌^◌, ℕ, All, IfOk, IsTrue, List, MatchBool, false, length, sum, true};
-ghost use Rattle.cost_base.specs.Lists.{Lacks};
+ghost use Rattle.std.specs.Prelude.{◌≡◌, ◌↔◌, ◌++◌, ◌∷◌, [], ◌≤◌, ◌<◌, ◌*◌, ◌+◌, ◌^◌, ℕ, All, IfOk, IsTrue, List, length};
 ghost use Rattle.area_graph.specs.Area.{edge_at, edges_out};
-ghost use Rattle.area_graph.specs.Costs.{FitsPoint, IsOnlyCheapest, IsPriced, cost, price_at};
+ghost use Rattle.area_graph.specs.Costs.{FitsPoint, IsOnlyCheapest, cost};
 ghost use Rattle.area_graph.specs.Paths.{IsPathOf, IsSimple};
-ghost use Rattle.area_graph.specs.Distances.{AreMarks, AreReached, IsDearer, Leads, SettledBelow, ShorterBy, StaysBy, far, through};
+ghost use Rattle.area_graph.specs.Distances.{AreMarks, AreReached, IsDearer, Leads, SettledBelow, far, through};
 
 use crate::costs::{path_cost, price_of};
+use crate::passes::put_distances;
 use crate::paths::edge_of;
 use crate::removal::{Removal, mark_gone};
-use crate::{Edge, Graph, Path, Point};
+use crate::{Graph, Path, Point};
 use cost_base::OutOfMemory;
 use std::alloc::Global;
-
-/// Lowers the number of an edge's start to the edge's price and its end's number, where that is less.
-fn shorten(edge: Edge, point: &Point, distances: &mut Vec<u128>) -> bool
-    requires scale { point.now.scale < 2 ^ 100 }
-    requires price { price_at point.now edge.price ≤ 65535 * point.now.scale }
-    requires known { IsPriced (length point.now.values) edge.price }
-    requires from { edge.from < length distances.old.items }
-    requires to { edge.to < length distances.old.items }
-    requires bounded { All (λ x. x ≤ far point.now) distances.old.items }
-    ensures { MatchBool result (ShorterBy point.now edge distances.old.items distances.new.items)
-        (StaysBy point.now edge distances.old.items distances.new.items) }
-{
-    let least = price_of(edge.price, point) + distances[edge.to as usize];
-    if least < distances[edge.from as usize] {
-        distances[edge.from as usize] = least;
-        true
-    } else {
-        false
-    }
-}
-
-/// Looks at one edge, unless it is gone, and tells whether the number of its start was lowered.
-fn visit(
-    graph: &Graph,
-    point: &Point,
-    removal: &Removal,
-    number: u32,
-    distances: &mut Vec<u128>,
-) -> bool
-    requires fits { FitsPoint graph.now point.now }
-    requires known { number < length graph.now.edges }
-    requires count { length distances.old.items ≡ length graph.now.vertices }
-    requires bounded { All (λ x. x ≤ far point.now) distances.old.items }
-    ensures lowered { IsTrue result → Lacks removal.now number × ShorterBy point.now (edge_at graph.now number) distances.old.items distances.new.items }
-    ensures same { (result ≡ false) → distances.new.items ≡ distances.old.items }
-    ensures least { (result ≡ false) → Lacks removal.now number → StaysBy point.now (edge_at graph.now number) distances.old.items distances.new.items }
-{
-    graph.keeps_conditions();
-    if removal.leaves(number) {
-        shorten(edge_of(graph, number), point, distances)
-    } else {
-        false
-    }
-}
-
-/// Goes once through the edges that aren't gone, and tells whether a number was lowered.
-fn pass(graph: &Graph, point: &Point, removal: &Removal, distances: &mut Vec<u128>) -> bool
-    requires fits { FitsPoint graph.now point.now }
-    requires count { length distances.old.items ≡ length graph.now.vertices }
-    requires bounded { All (λ x. x ≤ far point.now) distances.old.items }
-    ensures count { length distances.new.items ≡ length distances.old.items }
-    ensures bounded { All (λ x. x ≤ far point.now) distances.new.items }
-    ensures reached { (t : ℕ) → AreReached graph.now point.now removal.now t distances.old.items →
-        AreReached graph.now point.now removal.now t distances.new.items }
-    ensures lower { IsTrue result → sum distances.new.items < sum distances.old.items }
-    ensures settled { (result ≡ false) → SettledBelow (length graph.now.edges) graph.now point.now removal.now distances.new.items }
-{
-    graph.keeps_conditions();
-    let mut lowered = false;
-    for number in 0..graph.edges().len() {
-        if visit(graph, point, removal, number as u32, distances) {
-            lowered = true;
-        }
-    }
-    lowered
-}
 
 /// The least costs of the vertices to a target: a vertex from which no path leads there has 2^26 times the scale.
 fn distances_to(
@@ -93,16 +27,19 @@ fn distances_to(
     requires target { target < length graph.now.vertices }
     ensures count { IfOk result (λ d. length d.items ≡ length graph.now.vertices) }
     ensures bounded { IfOk result (λ d. All (λ x. x ≤ far point.now) d.items) }
-    ensures reached { IfOk result (λ d. AreReached graph.now point.now removal.now target d.items) }
+    ensures reached { IfOk result (λ d. AreReached graph.now point.now removal.now target (far point.now) d.items) }
     ensures settled { IfOk result (λ d. SettledBelow (length graph.now.edges) graph.now point.now removal.now d.items) }
 {
-    let mut distances = vec![in alloc; (1 << 26) * point.scale; graph.vertices().len()]?;
-    distances[target as usize] = 0;
-    loop {
-        if !pass(graph, point, removal, &mut distances) {
-            return Ok(distances);
-        }
-    }
+    let mut distances = vec![in alloc; 0; graph.vertices().len()]?;
+    put_distances(
+        graph,
+        point,
+        removal,
+        target,
+        (1 << 26) * point.scale,
+        &mut distances,
+    );
+    Ok(distances)
 }
 
 /// Whether an edge is gone, is the named one, or leads to the target at a cost above `most`.

@@ -12,23 +12,9 @@ use Rattle.path_rows.specs.declared.problem.Request.{Request}
 use Rattle.path_rows.specs.Problems.{ends_of}
 use Rattle.set_separation.specs.declared.prefix_tree.Step.{Step}
 use Rattle.set_separation.specs.Departures.{IsTiedTree}
-use Rattle.set_separation.specs.PrefixTrees.{Begins, IsGrown, prefix_at}
+use Rattle.set_separation.specs.PrefixTrees.{IsGrown}
+use Rattle.set_separation.proofs.GrownTrees.{grown_first}
 use Rattle.network_cases.specs.Members.{TiesWith, wanted_of}
-
--- the tree of the empty prefix alone
-pub grown_first : (wanted : List (List ℕ)) (path : List ℕ) → Contains wanted path → IsGrown wanted [] []
-grown_first wanted path has = record {
-  prefixes = [] ∷ [];
-  count = refl;
-  root = refl;
-  before = λ i i_in. absurd (omega arith);
-  grown = λ i i_in. absurd (omega arith);
-  different = λ k l k_in l_in same. omega arith;
-  begun = λ k k_in.
-      let none : k ≡ 0 = omega arith in
-      subst (λ (n : ℕ). Begins wanted (prefix_at ([] ∷ []) n)) (sym none) (record { path = path; listed = has; more = path; same = refl });
-  passed = λ done listed. absurd (omega (arith, listed.1));
-}
 
 -- the tree of the first path
 pub one_grown : (edges : List ℕ) (others : List Path) (old new : List Step) (inserted : List ℕ) → old ≡ [] → inserted ≡ edges →

@@ -4,7 +4,7 @@ use crate::networks::graph;
 use crate::outsiders::outsider_text;
 use crate::paths::{avoids_text, copy_text, only_text, path_text, vertex_text};
 use crate::rivals::rival_text;
-use crate::searches::{new_room_text, search_text};
+use crate::searches::{new_room_text, search_text, within_text};
 use area_graph::Graph;
 use case_scripts::next_word;
 use cost_base::OutOfMemory;
@@ -28,6 +28,7 @@ fn asked(
         "rival" => rival_text(alloc, graph, words),
         "outsider" => outsider_text(alloc, graph, words),
         "search" => search_text(alloc, graph, words),
+        "within" => within_text(alloc, graph, words),
         _ => Ok(String::from_str(alloc, "")?),
     }
 }

@@ -1,10 +1,12 @@
 //! Lines of a script that ask for least costs, ties and next hops.
+
+ghost use Rattle.std.specs.Prelude.{◌<◌, length};
 ghost use Rattle.area_graph.specs.Costs.{FitsPoint};
 ghost use Rattle.spf_ties.specs.Distances.{IsRoomFor};
 
 use crate::networks::point;
 use area_graph::{Graph, Point, point_fits};
-use case_scripts::{Written, next_numbers};
+use case_scripts::{Written, next_numbers, next_word};
 use cost_base::OutOfMemory;
 use spf_ties::Room;
 use std::alloc::{AllocError, Global};
@@ -74,6 +76,32 @@ fn add_hops(
     Ok(())
 }
 
+/// What is searched for at each point: the least costs to these targets where some edges are gone, all of them or those below
+/// a limit.
+#[derive(Drop)]
+struct Wanted {
+    targets: Vec<u32>,
+    gone: Vec<u32>,
+    limit: Option<u128>,
+}
+
+/// Searches for the least costs to a vertex.
+fn find(room: &mut Room, graph: &Graph, point: &Point, target: u32, wanted: &Wanted)
+    requires room { IsRoomFor graph.now room.old }
+    requires fits { FitsPoint graph.now point.now }
+    requires target { target < length graph.now.vertices }
+    ensures { IsRoomFor graph.now room.new }
+{
+    let gone = wanted.gone.as_slice();
+    if let Some(limit) = wanted.limit {
+        room.distances_within(graph, point, target, gone, limit);
+    } else if gone.is_empty() {
+        room.distances_to(graph, point, target);
+    } else {
+        room.distances_without(graph, point, target, gone);
+    }
+}
+
 /// Searches for the least costs to a vertex, and adds what is found.
 fn add_search(
     alloc: Global,
@@ -82,7 +110,7 @@ fn add_search(
     point: &Point,
     room: &mut Room,
     target: u32,
-    gone: &[u32],
+    wanted: &Wanted,
 ) -> Result<(), AllocError>
     requires room { IsRoomFor graph.now room.old }
     requires fits { FitsPoint graph.now point.now }
@@ -91,11 +119,7 @@ fn add_search(
     if graph.vertices().len() <= target as usize {
         return text.push_str("\n  no vertex");
     }
-    if gone.is_empty() {
-        room.distances_to(graph, point, target);
-    } else {
-        room.distances_without(graph, point, target, gone);
-    }
+    find(room, graph, point, target, wanted);
     text.push_str(format!(in alloc; "\n  to {target}: costs")?.as_str())?;
     add_costs(alloc, text, graph, room)?;
     let tight = tight_edges(alloc, graph, point, room)?;
@@ -103,51 +127,69 @@ fn add_search(
     add_hops(alloc, text, graph, point, room)
 }
 
-/// Searches for the least costs to each of these vertices, in one room.
+/// Searches for the least costs to each target, in one room.
 fn add_searches(
     alloc: Global,
     text: &mut String,
     graph: &Graph,
     point: &Point,
     room: &mut Room,
-    targets: &[u32],
-    gone: &[u32],
+    wanted: &Wanted,
 ) -> Result<(), AllocError>
     requires room { IsRoomFor graph.now room.old }
     requires fits { FitsPoint graph.now point.now }
     ensures { IsRoomFor graph.now room.new }
 {
-    for target in targets {
-        add_search(alloc, text, graph, point, room, *target, gone)?;
+    for target in wanted.targets.as_slice() {
+        add_search(alloc, text, graph, point, room, *target, wanted)?;
     }
     Ok(())
 }
 
-/// `search TARGETS GONE POINT ..`: the least costs to each target where some edges are gone, the edges that are tight, and
-/// the next hops of each vertex. One room serves at all points.
-pub(crate) fn search_text(
+/// What is found at the points of these words. One room serves at all of them.
+fn searches_text(
     alloc: Global,
     graph: &Graph,
+    wanted: &Wanted,
     words: &mut SplitWhitespace<'_>,
 ) -> Result<String, OutOfMemory> {
-    let targets = next_numbers(alloc, words)?;
-    let gone = next_numbers(alloc, words)?;
     let mut room = Room::new(alloc, graph)?;
     let mut text = String::new(alloc);
     for word in words {
         let point = point(alloc, word)?;
         if point_fits(graph, &point) {
-            let targets = targets.as_slice();
-            add_searches(
-                alloc,
-                &mut text,
-                graph,
-                &point,
-                &mut room,
-                targets,
-                gone.as_slice(),
-            )?;
+            add_searches(alloc, &mut text, graph, &point, &mut room, wanted)?;
         }
     }
     Ok(text)
+}
+
+/// `search TARGETS GONE POINT ..`: the least costs to each target where some edges are gone, the edges that are tight, and
+/// the next hops of each vertex.
+pub(crate) fn search_text(
+    alloc: Global,
+    graph: &Graph,
+    words: &mut SplitWhitespace<'_>,
+) -> Result<String, OutOfMemory> {
+    let wanted = Wanted {
+        targets: next_numbers(alloc, words)?,
+        gone: next_numbers(alloc, words)?,
+        limit: None,
+    };
+    searches_text(alloc, graph, &wanted, words)
+}
+
+/// `within LIMIT TARGETS GONE POINT ..`: the same of the least costs that are below a limit.
+pub(crate) fn within_text(
+    alloc: Global,
+    graph: &Graph,
+    words: &mut SplitWhitespace<'_>,
+) -> Result<String, OutOfMemory> {
+    let limit = next_word(words).parse::<u128>().unwrap_or(0);
+    let wanted = Wanted {
+        targets: next_numbers(alloc, words)?,
+        gone: next_numbers(alloc, words)?,
+        limit: Some(limit),
+    };
+    searches_text(alloc, graph, &wanted, words)
 }

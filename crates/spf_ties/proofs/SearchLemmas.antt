@@ -1,8 +1,8 @@
 -- The steps of a search for least costs.
 use Rattle.std.proofs.Common.{◌≡◌, ◌≢◌, ℕ, zero, suc, ◌+◌, ◌<◌, ◌≤◌, refl, sym, ◌∙◌, ap, subst, List, [], ◌∷◌, All, length, get_or, set, replicate, Bool, true, false, not, cond, eqb, eq-eqb, count_by, inl, inr, ◌⊎◌, arith, get_or-set_same, get_or-set_other, length-set, IsPermutation, Contains}
-use Rattle.std.proofs.lemmas.Bool.{eqb-true, ne_eqb}
+use Rattle.std.proofs.lemmas.Bool.{cases_lt, eqb-true, ne_eqb}
 use Rattle.std.proofs.lemmas.List.{get_or-replicate, length-replicate}
-use Rattle.std.proofs.lemmas.List.Elements.{All-head, All-tail, All-nil, All-cons, All-set, All-contains, All-replicate}
+use Rattle.std.proofs.lemmas.List.Elements.{All-head, All-tail, All-nil, All-cons, All-set, All-contains, All-replicate, All-weaker}
 use Rattle.std.proofs.lemmas.List.Sorted.{All-permutation, Contains-permutation}
 use Rattle.std.proofs.lemmas.List.Sums.{sum_by-cons, count_by-le-length, length-filter}
 use native.Mathlib.Decide.{ℕ_discrete}
@@ -10,12 +10,11 @@ use Rattle.cost_base.specs.Lists.{Lacks, numbers_from}
 use Rattle.cost_base.proofs.ListLemmas.{length-numbers_from, all_kept, kept_all, all_lacks}
 use Rattle.area_graph.specs.declared.Point.{Point}
 use Rattle.area_graph.specs.Area.{Area, edge_at, edges_in, no_edge, FitsGraph, FitsEdge}
-use Rattle.area_graph.specs.Costs.{price_at, FitsPoint}
-use Rattle.area_graph.specs.Distances.{far, WalkWithin, AreReached, through}
-use Rattle.area_graph.proofs.Passes.{reached_by_walk}
+use Rattle.area_graph.specs.Costs.{price_at}
+use Rattle.area_graph.specs.Distances.{far, WalkWithin, through}
+use Rattle.area_graph.proofs.PassSteps.{reached_by_walk, reached_none}
 use Rattle.spf_ties.specs.declared.heap.Entry.{Entry}
 use Rattle.spf_ties.specs.Searches.{IsFront, is_settled, open_edges, MayWait, LeadsToLast, Underway}
-use Rattle.spf_ties.proofs.LeastCosts.{reached_none}
 
 clash : {P : Type 0} → true ≡ false → P
 clash h = cc
@@ -54,23 +53,25 @@ none_settled (suc n) zero = refl
 none_settled (suc n) (suc v) = none_settled n v
 
 -- an entry of a settled vertex is passed over
-pub passed_over : (g : Area) (p : Point) (gone : List ℕ) (t least : ℕ) (d : List ℕ) (settled : List Bool) (entry : Entry) (waiting rest : List Entry) → Underway g p gone t least [] d settled waiting → IsPermutation waiting (entry ∷ rest) → is_settled settled entry.vertex ≡ true → Underway g p gone t least [] d settled rest
-passed_over g p gone t least d settled entry waiting rest under moved done = record {
+pub passed_over : (g : Area) (p : Point) (gone : List ℕ) (t limit least : ℕ) (d : List ℕ) (settled : List Bool) (entry : Entry) (waiting rest : List Entry) → Underway g p gone t limit least [] d settled waiting → IsPermutation waiting (entry ∷ rest) → is_settled settled entry.vertex ≡ true → Underway g p gone t limit least [] d settled rest
+passed_over g p gone t limit least d settled entry waiting rest under moved done = record {
   reached = under.reached;
+  bounded = under.bounded;
   before = under.before;
   waits = λ v known unsettled near. elim (contains_cases entry (entry_of (get_or d v 0) v) rest (Contains-permutation waiting (entry ∷ rest) (entry_of (get_or d v 0) v) moved (under.waits v known unsettled near))) [
     | inl same ↦ clash (sym done ∙ ap (λ (e : Entry). is_settled settled e.vertex) same ∙ unsettled)
     | inr later ↦ later
   ];
-  entries = All-tail (MayWait p least d) entry rest (All-permutation (MayWait p least d) waiting (entry ∷ rest) moved under.entries);
+  entries = All-tail (MayWait limit least d) entry rest (All-permutation (MayWait limit least d) waiting (entry ∷ rest) moved under.entries);
   edges = under.edges;
   closed = under.closed;
 }
 
 -- the nearest vertex that waits is settled, and the edges into it are yet to be looked at
-pub settled_next : (g : Area) (p : Point) (gone : List ℕ) (t least : ℕ) (d : List ℕ) (settled : List Bool) (entry : Entry) (waiting rest : List Entry) → IsFront g p d settled → Underway g p gone t least [] d settled waiting → IsPermutation waiting (entry ∷ rest) → All (λ other. entry.distance ≤ other.distance) waiting → is_settled settled entry.vertex ≡ false → Underway g p gone t entry.distance (edges_in g entry.vertex) d (set settled entry.vertex true) rest
-settled_next g p gone t least d settled entry waiting rest front under moved nearest unsettled = record {
+pub settled_next : (g : Area) (p : Point) (gone : List ℕ) (t limit least : ℕ) (d : List ℕ) (settled : List Bool) (entry : Entry) (waiting rest : List Entry) → IsFront g p d settled → Underway g p gone t limit least [] d settled waiting → IsPermutation waiting (entry ∷ rest) → All (λ other. entry.distance ≤ other.distance) waiting → is_settled settled entry.vertex ≡ false → Underway g p gone t limit entry.distance (edges_in g entry.vertex) d (set settled entry.vertex true) rest
+settled_next g p gone t limit least d settled entry waiting rest front under moved nearest unsettled = record {
   reached = under.reached;
+  bounded = under.bounded;
   before = before;
   waits = waits;
   entries = λ i other within. let may = may_wait i other within in let near = nearer i other within in record { known = may.known; near = may.near; later = near; not_below = may.not_below };
@@ -81,11 +82,11 @@ settled_next g p gone t least d settled entry waiting rest front under moved nea
     marked : List Bool
     marked = set settled entry.vertex true
 
-    first : MayWait p least d entry
-    first = All-head (MayWait p least d) entry rest (All-permutation (MayWait p least d) waiting (entry ∷ rest) moved under.entries)
+    first : MayWait limit least d entry
+    first = All-head (MayWait limit least d) entry rest (All-permutation (MayWait limit least d) waiting (entry ∷ rest) moved under.entries)
 
-    may_wait : All (MayWait p least d) rest
-    may_wait = All-tail (MayWait p least d) entry rest (All-permutation (MayWait p least d) waiting (entry ∷ rest) moved under.entries)
+    may_wait : All (MayWait limit least d) rest
+    may_wait = All-tail (MayWait limit least d) entry rest (All-permutation (MayWait limit least d) waiting (entry ∷ rest) moved under.entries)
 
     nearer : All (λ other. entry.distance ≤ other.distance) rest
     nearer = All-tail (λ (other : Entry). entry.distance ≤ other.distance) entry rest (All-permutation (λ (other : Entry). entry.distance ≤ other.distance) waiting (entry ∷ rest) moved nearest)
@@ -103,8 +104,11 @@ settled_next g p gone t least d settled entry waiting rest front under moved nea
     at_most = first.not_below
 
     at_least : entry.distance ≤ get_or d entry.vertex 0
-    at_least = All-contains (λ (other : Entry). entry.distance ≤ other.distance) waiting (entry_of (get_or d entry.vertex 0) entry.vertex) nearest
-        (under.waits entry.vertex first.known unsettled (let near = first.near in let below = first.not_below in omega arith))
+    at_least = elim (cases_lt (get_or d entry.vertex 0) limit) [
+      | inl near ↦ All-contains (λ (other : Entry). entry.distance ≤ other.distance) waiting (entry_of (get_or d entry.vertex 0) entry.vertex) nearest
+          (under.waits entry.vertex first.known unsettled near)
+      | inr more ↦ omega (arith, first.near, more)
+    ]
 
     before : (v : ℕ) → is_settled (set settled entry.vertex true) v ≡ true → get_or d v 0 ≤ entry.distance
     before v done = elim (ℕ_discrete v entry.vertex) [
@@ -112,7 +116,7 @@ settled_next g p gone t least d settled entry waiting rest front under moved nea
       | no other ↦ let earlier = under.before v (sym (there v other) ∙ done) in let later = first.later in omega arith
     ]
 
-    waits : (v : ℕ) → v < length d → is_settled (set settled entry.vertex true) v ≡ false → get_or d v 0 < far p → Contains rest (entry_of (get_or d v 0) v)
+    waits : (v : ℕ) → v < length d → is_settled (set settled entry.vertex true) v ≡ false → get_or d v 0 < limit → Contains rest (entry_of (get_or d v 0) v)
     waits v known still near = elim (ℕ_discrete v entry.vertex) [
       | yes same ↦ clash (sym here ∙ ap (is_settled (set settled entry.vertex true)) (sym same) ∙ still)
       | no other ↦ elim (contains_cases entry (entry_of (get_or d v 0) v) rest (Contains-permutation waiting (entry ∷ rest) (entry_of (get_or d v 0) v) moved (under.waits v known (sym (there v other) ∙ still) near))) [
@@ -135,9 +139,10 @@ settled_next g p gone t least d settled entry waiting rest front under moved nea
     ]
 
 -- an edge that is gone, or leads to no smaller number
-pub kept : (g : Area) (p : Point) (gone : List ℕ) (t least e : ℕ) (todo : List ℕ) (d : List ℕ) (settled : List Bool) (waiting : List Entry) → Underway g p gone t least (e ∷ todo) d settled waiting → (Lacks gone e → get_or d (edge_at g e).from 0 ≤ through p (edge_at g e) d) → Underway g p gone t least todo d settled waiting
-kept g p gone t least e todo d settled waiting under short = record {
+pub kept : (g : Area) (p : Point) (gone : List ℕ) (t limit least e : ℕ) (todo : List ℕ) (d : List ℕ) (settled : List Bool) (waiting : List Entry) → Underway g p gone t limit least (e ∷ todo) d settled waiting → (Lacks gone e → get_or d (edge_at g e).from 0 ≤ through p (edge_at g e) d) → Underway g p gone t limit least todo d settled waiting
+kept g p gone t limit least e todo d settled waiting under short = record {
   reached = under.reached;
+  bounded = under.bounded;
   before = under.before;
   waits = under.waits;
   entries = under.entries;
@@ -149,12 +154,13 @@ kept g p gone t least e todo d settled waiting under short = record {
 }
 
 -- an edge that leads to a smaller number: it is lowered, and its vertex waits under it
-pub lowered : (g : Area) (p : Point) (gone : List ℕ) (t least e : ℕ) (todo : List ℕ) (d : List ℕ) (settled : List Bool) (waiting new : List Entry) → FitsGraph g → IsFront g p d settled → Underway g p gone t least (e ∷ todo) d settled waiting → Lacks gone e → through p (edge_at g e) d < get_or d (edge_at g e).from 0 → IsPermutation (entry_of (through p (edge_at g e) d) (edge_at g e).from ∷ waiting) new → Underway g p gone t least todo (set d (edge_at g e).from (through p (edge_at g e) d)) settled new
-lowered g p gone t least e todo d settled waiting new graph front under left less moved = record {
-  reached = reached_by_walk g p gone t from x d within less walk under.reached;
+pub lowered : (g : Area) (p : Point) (gone : List ℕ) (t limit least e : ℕ) (todo : List ℕ) (d : List ℕ) (settled : List Bool) (waiting new : List Entry) → FitsGraph g → IsFront g p d settled → Underway g p gone t limit least (e ∷ todo) d settled waiting → Lacks gone e → through p (edge_at g e) d < get_or d (edge_at g e).from 0 → IsPermutation (entry_of (through p (edge_at g e) d) (edge_at g e).from ∷ waiting) new → Underway g p gone t limit least todo (set d (edge_at g e).from (through p (edge_at g e) d)) settled new
+lowered g p gone t limit least e todo d settled waiting new graph front under left less moved = record {
+  reached = reached_by_walk g p gone t limit from x d within less walk under.reached;
+  bounded = All-set (λ y. y ≤ limit) d from x (let most = bound in omega (arith, less)) under.bounded;
   before = λ v done. let old = under.before v done in let value = settled_same v done in omega arith;
   waits = waits;
-  entries = All-permutation (MayWait p least now) (entry_of x from ∷ waiting) new moved (All-cons (MayWait p least now) (entry_of x from) waiting first others);
+  entries = All-permutation (MayWait limit least now) (entry_of x from ∷ waiting) new moved (All-cons (MayWait limit least now) (entry_of x from) waiting first others);
   edges = λ i other inside. let old = rest i other inside in record { known = old.known; is_settled_there = old.is_settled_there; last = let value = settled_same (edge_at g (get_or todo i other)).to old.is_settled_there in let least_there = old.last in omega arith };
   closed = closed;
 }
@@ -183,8 +189,8 @@ lowered g p gone t least e todo d settled waiting new graph front under left les
     to_within : (edge_at g e).to < length d
     to_within = let known = edge.to in let count = front.count in omega arith
 
-    bound : get_or d (edge_at g e).from 0 ≤ far p
-    bound = front.bounded (edge_at g e).from 0 within
+    bound : get_or d (edge_at g e).from 0 ≤ limit
+    bound = under.bounded (edge_at g e).from 0 within
 
     unsettled : is_settled settled (edge_at g e).from ≡ false
     unsettled = go (is_settled settled (edge_at g e).from) refl
@@ -193,7 +199,7 @@ lowered g p gone t least e todo d settled waiting new graph front under left les
         go false is = is
         go true is = let early = under.before (edge_at g e).from is in let last = head.last in absurd (omega (arith, less))
 
-    walk : through p (edge_at g e) d < far p → WalkWithin g p gone (edge_at g e).from t (through p (edge_at g e) d)
+    walk : through p (edge_at g e) d < limit → WalkWithin g p gone (edge_at g e).from t (through p (edge_at g e) d)
     walk near =
         let behind = under.reached.reached (edge_at g e).to to_within (omega arith) in
         let longer = sum_by-cons (λ i. price_at p (edge_at g i).price) e behind.edges in
@@ -217,7 +223,7 @@ lowered g p gone t least e todo d settled waiting new graph front under left les
     size : length (set d (edge_at g e).from (through p (edge_at g e) d)) ≡ length d
     size = length-set d (edge_at g e).from (through p (edge_at g e) d)
 
-    first : MayWait p least (set d (edge_at g e).from (through p (edge_at g e) d)) (entry_of (through p (edge_at g e) d) (edge_at g e).from)
+    first : MayWait limit least (set d (edge_at g e).from (through p (edge_at g e) d)) (entry_of (through p (edge_at g e) d) (edge_at g e).from)
     first = record {
       known = let known = within in let same = size in omega arith;
       near = let most = bound in omega (arith, less);
@@ -225,7 +231,7 @@ lowered g p gone t least e todo d settled waiting new graph front under left les
       not_below = let value = here in omega arith;
     }
 
-    others : All (MayWait p least (set d (edge_at g e).from (through p (edge_at g e) d))) waiting
+    others : All (MayWait limit least (set d (edge_at g e).from (through p (edge_at g e) d))) waiting
     others i other inside = let may = under.entries i other inside in record {
       known = let known = may.known in let same = size in omega arith;
       near = may.near;
@@ -233,7 +239,7 @@ lowered g p gone t least e todo d settled waiting new graph front under left les
       not_below = let old = may.not_below in let less = not_more (get_or waiting i other).vertex in omega arith;
     }
 
-    waits : (v : ℕ) → v < length (set d (edge_at g e).from (through p (edge_at g e) d)) → is_settled settled v ≡ false → get_or (set d (edge_at g e).from (through p (edge_at g e) d)) v 0 < far p → Contains new (entry_of (get_or (set d (edge_at g e).from (through p (edge_at g e) d)) v 0) v)
+    waits : (v : ℕ) → v < length (set d (edge_at g e).from (through p (edge_at g e) d)) → is_settled settled v ≡ false → get_or (set d (edge_at g e).from (through p (edge_at g e) d)) v 0 < limit → Contains new (entry_of (get_or (set d (edge_at g e).from (through p (edge_at g e) d)) v 0) v)
     waits v known still near = elim (ℕ_discrete v (edge_at g e).from) [
       | yes same ↦
           let value : get_or (set d (edge_at g e).from (through p (edge_at g e) d)) v 0 ≡ through p (edge_at g e) d = ap (λ (i : ℕ). get_or (set d (edge_at g e).from (through p (edge_at g e) d)) i 0) same ∙ here in
@@ -243,7 +249,7 @@ lowered g p gone t least e todo d settled waiting new graph front under left les
           let value = there v other in
           subst (λ (y : ℕ). Contains new (entry_of y v)) (sym value)
           (Contains-permutation (entry_of x from ∷ waiting) new (entry_of (get_or d v 0) v) moved (contains_behind (entry_of x from) (entry_of (get_or d v 0) v) waiting
-          (under.waits v (let same = size in omega arith) still (subst (λ (y : ℕ). y < far p) value near))))
+          (under.waits v (let same = size in omega arith) still (subst (λ (y : ℕ). y < limit) value near))))
     ]
 
     closed : (i : ℕ) → i < length g.edges → Lacks gone i → is_settled settled (edge_at g i).to ≡ true → Lacks todo i → get_or (set d (edge_at g e).from (through p (edge_at g e) d)) (edge_at g i).from 0 ≤ through p (edge_at g i) (set d (edge_at g e).from (through p (edge_at g e) d))
@@ -257,46 +263,51 @@ lowered g p gone t least e todo d settled waiting new graph front under left les
           | no other ↦ let old = under.closed i known there_left done (other, lacks) in let less = not_more (edge_at g i).from in omega arith
         ]
 
+-- no number is above the limit at the start
+bounded_begun : (t limit n : ℕ) → All (λ x. x ≤ limit) (set (replicate n limit) t 0)
+bounded_begun t limit n = All-set (λ x. x ≤ limit) (replicate n limit) t 0 (omega arith) (All-replicate (λ x. x ≤ limit) n limit (omega arith))
+
 -- the target alone waits at the start
-pub begun : (g : Area) (p : Point) (gone : List ℕ) (t n m : ℕ) (waiting : List Entry) → FitsPoint g p → t < n → IsPermutation (entry_of 0 t ∷ []) waiting → Underway g p gone t 0 [] (set (replicate n (far p)) t 0) (replicate m false) waiting
-begun g p gone t n m waiting fits within moved = record {
-  reached = reached_none g p gone t n within;
+pub begun : (g : Area) (p : Point) (gone : List ℕ) (t limit n m : ℕ) (waiting : List Entry) → t < n → IsPermutation (entry_of 0 t ∷ []) waiting → Underway g p gone t limit 0 [] (set (replicate n limit) t 0) (replicate m false) waiting
+begun g p gone t limit n m waiting within moved = record {
+  reached = reached_none g p gone t limit n within;
+  bounded = bounded_begun t limit n;
   before = λ v done. clash (sym done ∙ none_settled m v);
   waits = λ v known unsettled near. elim (ℕ_discrete v t) [
     | yes same ↦
-        let value : get_or (set (replicate n (far p)) t 0) v 0 ≡ 0 = ap (λ (i : ℕ). get_or (set (replicate n (far p)) t 0) i 0) same ∙ here in
+        let value : get_or (set (replicate n limit) t 0) v 0 ≡ 0 = ap (λ (i : ℕ). get_or (set (replicate n limit) t 0) i 0) same ∙ here in
         subst (λ (y : ℕ). Contains waiting (entry_of y v)) (sym value) (subst (λ (i : ℕ). Contains waiting (entry_of 0 i)) (sym same) (Contains-permutation (entry_of 0 t ∷ []) waiting (entry_of 0 t) moved (contains_first (entry_of 0 t) [])))
     | no other ↦
-        let size = length-replicate n (far p) in
-        let kept_size = length-set (replicate n (far p)) t 0 in
-        let value : get_or (set (replicate n (far p)) t 0) v 0 ≡ far p = get_or-set_other (replicate n (far p)) t v 0 0 other ∙ get_or-replicate n v (far p) 0 (omega arith) in
+        let size = length-replicate n limit in
+        let kept_size = length-set (replicate n limit) t 0 in
+        let value : get_or (set (replicate n limit) t 0) v 0 ≡ limit = get_or-set_other (replicate n limit) t v 0 0 other ∙ get_or-replicate n v limit 0 (omega arith) in
         absurd (omega (arith, near))
   ];
-  entries = All-permutation (MayWait p 0 (set (replicate n (far p)) t 0)) (entry_of 0 t ∷ []) waiting moved (All-cons (MayWait p 0 (set (replicate n (far p)) t 0)) (entry_of 0 t) [] first (All-nil (MayWait p 0 (set (replicate n (far p)) t 0))));
-  edges = All-nil (LeadsToLast g 0 (set (replicate n (far p)) t 0) (replicate m false));
+  entries = All-permutation (MayWait limit 0 (set (replicate n limit) t 0)) (entry_of 0 t ∷ []) waiting moved (All-cons (MayWait limit 0 (set (replicate n limit) t 0)) (entry_of 0 t) [] first (All-nil (MayWait limit 0 (set (replicate n limit) t 0))));
+  edges = All-nil (LeadsToLast g 0 (set (replicate n limit) t 0) (replicate m false));
   closed = λ e known left done lacks. clash (sym done ∙ none_settled m (edge_at g e).to);
 }
   where
-    t_within : t < length (replicate n (far p))
-    t_within = let size = length-replicate n (far p) in omega arith
+    t_within : t < length (replicate n limit)
+    t_within = let size = length-replicate n limit in omega arith
 
-    here : get_or (set (replicate n (far p)) t 0) t 0 ≡ 0
-    here = get_or-set_same (replicate n (far p)) t 0 0 t_within
+    here : get_or (set (replicate n limit) t 0) t 0 ≡ 0
+    here = get_or-set_same (replicate n limit) t 0 0 t_within
 
-    first : MayWait p 0 (set (replicate n (far p)) t 0) (entry_of 0 t)
+    first : MayWait limit 0 (set (replicate n limit) t 0) (entry_of 0 t)
     first = record {
-      known = let same = length-set (replicate n (far p)) t 0 in let inside = t_within in omega arith;
-      near = let scale = fits.scale in omega arith;
+      known = let same = length-set (replicate n limit) t 0 in let inside = t_within in omega arith;
+      near = omega arith;
       later = omega arith;
       not_below = let value = here in omega arith;
     }
 
 -- the front at the start
-pub front_begun : (g : Area) (p : Point) (t n m : ℕ) → n ≡ length g.vertices → m ≡ length g.vertices → IsFront g p (set (replicate n (far p)) t 0) (replicate m false)
-front_begun g p t n m count marks = record {
-  count = length-set (replicate n (far p)) t 0 ∙ length-replicate n (far p) ∙ count;
+pub front_begun : (g : Area) (p : Point) (t limit n m : ℕ) → limit ≤ far p → n ≡ length g.vertices → m ≡ length g.vertices → IsFront g p (set (replicate n limit) t 0) (replicate m false)
+front_begun g p t limit n m most count marks = record {
+  count = length-set (replicate n limit) t 0 ∙ length-replicate n limit ∙ count;
   marks = length-replicate m false ∙ marks;
-  bounded = All-set (λ x. x ≤ far p) (replicate n (far p)) t 0 (omega arith) (All-replicate (λ x. x ≤ far p) n (far p) (omega arith));
+  bounded = All-weaker (λ x. x ≤ limit) (λ x. x ≤ far p) (λ x within. omega (arith, most, within)) (set (replicate n limit) t 0) (bounded_begun t limit n);
 }
 
 -- what is settled is no longer open

@@ -1,17 +1,18 @@
 -- A simple path has least cost exactly where each of its edges is tight.
-use Rattle.std.proofs.Common.{◌≡◌, ◌↔◌, ℕ, ◌+◌, ◌<◌, sym, ◌∙◌, ap, List, length, get_or, map, arith, Some, None, Bool, true, false, cond, ◌∷◌, []}
+use Rattle.std.proofs.Common.{◌≡◌, ◌↔◌, ℕ, ◌+◌, ◌<◌, sym, ◌∙◌, ap, List, length, get_or, map, inl, inr, arith, Some, None, Bool, true, false, cond, ◌∷◌, []}
 use Rattle.std.proofs.Math.Dec.{ltb}
-use Rattle.std.proofs.lemmas.Bool.{lt-ltb, eqb-true, eq-eqb}
+use Rattle.std.proofs.lemmas.Bool.{cases_lt, lt-ltb, eqb-true, eq-eqb}
 use Rattle.std.proofs.lemmas.List.{get_or-map}
 use Rattle.std.proofs.lemmas.List.Sums.{sum_by-cons}
 use Rattle.area_graph.specs.declared.Point.{Point}
 use Rattle.area_graph.specs.Area.{Area, edge_at, no_edge, FitsGraph, FitsEdge, HasMetrics}
 use Rattle.area_graph.specs.Paths.{IsPathOf, Joins, Avoids}
 use Rattle.area_graph.specs.Costs.{cost, price_at, FitsPoint}
-use Rattle.area_graph.specs.Distances.{far, AreReached, SettledBelow}
+use Rattle.area_graph.specs.Distances.{AreReached, SettledBelow}
 use Rattle.area_graph.proofs.Walks.{potential-le}
 use Rattle.area_graph.proofs.Bounds.{cost_below as bounded_cost}
 use Rattle.spf_ties.specs.Distances.{Findings, cost_below, adds_up, is_tight, AreTight, distance_at}
+use Rattle.spf_ties.proofs.LeastCosts.{IsNear}
 
 -- a number below the bound is known
 known : (bound a : ℕ) → a < bound → cost_below bound a ≡ Some a
@@ -78,16 +79,22 @@ least_if_tight g p bound t m w d graph count target s (e ∷ es) joins tight =
     let longer = sum_by-cons (λ i. price_at p (edge_at g i).price) e es in
     omega arith
 
--- a simple path has least cost exactly where each of its edges is tight
-pub tight_paths : (g : Area) (p : Point) (gone : List ℕ) (t : ℕ) (m : List Bool) (w d : List ℕ) → FitsGraph g → HasMetrics g → FitsPoint g p → length d ≡ length g.vertices → AreReached g p gone t d → SettledBelow (length g.edges) g p gone d → (s : ℕ) (es : List ℕ) → IsPathOf g (record { start = s; end = t; gone = gone }) es → (distance_at (room_of m w (far p) d) s ≡ Some (cost g p es)) ↔ AreTight g p (room_of m w (far p) d) es
-tight_paths g p gone t m w d graph metrics fits count reached settled s es path = (
-  λ least. tight_if_least g p gone (far p) t m w d graph count settled reached.target s es path.simple.joins path.kept near (same_number (far p) (get_or d s 0) (cost g p es) (sym value ∙ least)),
-  λ tight. let same = least_if_tight g p (far p) t m w d graph count reached.target s es path.simple.joins tight in
-      value ∙ ap (cost_below (far p)) same ∙ known (far p) (cost g p es) near,
+-- a simple path that costs less than the limit has least cost exactly where each of its edges is tight
+pub tight_paths : (g : Area) (p : Point) (gone : List ℕ) (t limit near : ℕ) (m : List Bool) (w d : List ℕ) → FitsGraph g → HasMetrics g → FitsPoint g p → IsNear p limit near → length d ≡ length g.vertices → AreReached g p gone t near d → SettledBelow (length g.edges) g p gone d → (s : ℕ) (es : List ℕ) → IsPathOf g (record { start = s; end = t; gone = gone }) es → cost g p es < limit → (distance_at (room_of m w near d) s ≡ Some (cost g p es)) ↔ AreTight g p (room_of m w near d) es
+tight_paths g p gone t limit near m w d graph metrics fits is_near count reached settled s es path less = (
+  λ least. tight_if_least g p gone near t m w d graph count settled reached.target s es path.simple.joins path.kept below (same_number near (get_or d s 0) (cost g p es) (sym value ∙ least)),
+  λ tight. let same = least_if_tight g p near t m w d graph count reached.target s es path.simple.joins tight in
+      value ∙ ap (cost_below near) same ∙ known near (cost g p es) below,
 )
   where
-    near : cost g p es < far p
-    near = bounded_cost g p s es t graph metrics fits path.simple.joins path.simple.none_twice
+    below : cost g p es < near
+    below = elim (cases_lt near limit) [
+      | inl short ↦
+          let most = bounded_cost g p s es t graph metrics fits path.simple.joins path.simple.none_twice in
+          let whole = is_near.whole short in
+          omega (arith, most, whole)
+      | inr whole ↦ omega (arith, less, whole)
+    ]
 
-    value : distance_at (room_of m w (far p) d) s ≡ cost_below (far p) (get_or d s 0)
-    value = get_or-map (cost_below (far p)) d s 0 None (let start = path.simple.start in omega (arith, start, count))
+    value : distance_at (room_of m w near d) s ≡ cost_below near (get_or d s 0)
+    value = get_or-map (cost_below near) d s 0 None (let start = path.simple.start in omega (arith, start, count))

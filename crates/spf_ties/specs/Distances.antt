@@ -1,5 +1,5 @@
 -- Least costs over simple paths, and the edges on which they lie.
-use Rattle.std.specs.Prelude.{◌≡◌, ℕ, ◌+◌, ◌≤◌, ◌==◌, nat_lt, List, [], ◌∷◌, length, slice_index_or, filter, Option, Some, None, Bool, true, false, cond}
+use Rattle.std.specs.Prelude.{◌≡◌, ℕ, ◌+◌, ◌<◌, ◌≤◌, ◌==◌, nat_lt, List, [], ◌∷◌, length, slice_index_or, filter, Option, Some, None, Bool, true, false, cond}
 use Rattle.area_graph.specs.declared.Point.{Point}
 use Rattle.area_graph.specs.Area.{Area, edge_at, edges_out}
 use Rattle.area_graph.specs.Paths.{Ends, IsPathOf}
@@ -16,6 +16,11 @@ pub record IsLeast (g : Area) (p : Point) (ends : Ends) (least : ℕ) : Type 0 w
 abbrev pub IsLeastCost : Area → Point → Ends → Option ℕ → Type 0
 IsLeastCost g p ends (Some least) = IsLeast g p ends least
 IsLeastCost g p ends None = (path : List ℕ) → IsPathOf g ends path → ⊥
+
+-- the least cost of a path of the request, where it is below a limit; None where every path costs at least that
+abbrev pub IsLeastBelow : Area → Point → Ends → ℕ → Option ℕ → Type 0
+IsLeastBelow g p ends limit (Some least) = IsLeast g p ends least × (least < limit)
+IsLeastBelow g p ends limit None = (path : List ℕ) → IsPathOf g ends path → limit ≤ cost g p path
 
 -- what a room tells: each vertex's least cost to the target of the last call, a mark for each edge that the call took
 -- away, and the edges of a path

@@ -19,10 +19,10 @@ is_settled settled v = slice_index_or settled v false
 abbrev pub open_edges : Area → List Bool → ℕ
 open_edges g settled = count_by (λ e. not (is_settled settled (edge_at g e).to)) (numbers_from 0 (length g.edges))
 
--- an entry tells of a vertex, at no less than its number and than what was settled last
-pub record MayWait (p : Point) (least : ℕ) (d : List ℕ) (entry : Entry) : Type 0 where
+-- an entry tells of a vertex, at no more than the limit and no less than its number and than what was settled last
+pub record MayWait (limit least : ℕ) (d : List ℕ) (entry : Entry) : Type 0 where
   pub known : entry.vertex < length d
-  pub near : entry.distance < far p
+  pub near : entry.distance ≤ limit
   pub later : least ≤ entry.distance
   pub not_below : slice_index d entry.vertex ≤ entry.distance
 
@@ -32,11 +32,13 @@ pub record LeadsToLast (g : Area) (least : ℕ) (d : List ℕ) (settled : List B
   pub is_settled_there : is_settled settled (edge_at g e).to ≡ true
   pub last : least ≤ slice_index d (edge_at g e).to
 
--- where a search stands that settled a vertex at `least` last, and has yet to look at the edges `todo` into it
-pub record Underway (g : Area) (p : Point) (gone : List ℕ) (t least : ℕ) (todo : List ℕ) (d : List ℕ) (settled : List Bool) (waiting : List Entry) : Type 0 where
-  pub reached : AreReached g p gone t d
+-- where a search for least costs below a limit stands that settled a vertex at `least` last, and has yet to look at the
+-- edges `todo` into it
+pub record Underway (g : Area) (p : Point) (gone : List ℕ) (t limit least : ℕ) (todo : List ℕ) (d : List ℕ) (settled : List Bool) (waiting : List Entry) : Type 0 where
+  pub reached : AreReached g p gone t limit d
+  pub bounded : All (λ x. x ≤ limit) d
   pub before : (v : ℕ) → is_settled settled v ≡ true → slice_index d v ≤ least
-  pub waits : (v : ℕ) → v < length d → is_settled settled v ≡ false → slice_index d v < far p → Contains waiting (record { distance = slice_index d v; vertex = v })
-  pub entries : All (MayWait p least d) waiting
+  pub waits : (v : ℕ) → v < length d → is_settled settled v ≡ false → slice_index d v < limit → Contains waiting (record { distance = slice_index d v; vertex = v })
+  pub entries : All (MayWait limit least d) waiting
   pub edges : All (LeadsToLast g least d settled) todo
   pub closed : (e : ℕ) → e < length g.edges → Lacks gone e → is_settled settled (edge_at g e).to ≡ true → Lacks todo e → slice_index d (edge_at g e).from ≤ through p (edge_at g e) d

@@ -11,7 +11,7 @@ use std::marker::Model;
 /// A vertex that waits, with the distance under which it was put in. Entries are compared by distance, then by vertex.
 #[derive(Clone, Copy, PartialEq, Eq, PartialOrd, Ord)]
 pub(crate) struct Entry {
-    pub(crate) distance: u128,
+    pub(crate) distance: u64,
     pub(crate) vertex: u32,
 }
 

@@ -4,11 +4,11 @@ ghost use Rattle.std.specs.Prelude.{◌≡◌, ◌↔◌, ◌++◌, ◌∷◌, L
 ghost use Rattle.area_graph.specs.Distances.{AreMarks};
 ghost use Rattle.area_graph.specs.Costs.{FitsPoint, cost};
 ghost use Rattle.area_graph.specs.Paths.{IsPathOf};
-ghost use Rattle.spf_ties.specs.Distances.{AreTight, IsLeastCost, IsRoomFor, distance_at, is_tight, tight_out};
+ghost use Rattle.spf_ties.specs.Distances.{AreTight, IsLeastBelow, IsLeastCost, IsRoomFor, distance_at, is_tight, tight_out};
 
 use crate::NextHops;
 use crate::heap::Heap;
-use crate::search::{Front, find};
+use crate::search::{Front, find_in_either};
 use area_graph::{Graph, Point, Removal, edge_of, mark_gone, price_of};
 use cost_base::OutOfMemory;
 use std::alloc::Global;
@@ -20,20 +20,27 @@ use std::marker::Model;
 pub struct Room {
     far: u128,
     front: Front,
+    wide: Vec<u128>,
+    is_wide: bool,
     marks: Vec<bool>,
     path: Vec<u32>,
 }
 
 impl Model for Room {
-    ghost use Rattle.std.specs.Prelude.{◌≡◌, ◌<◌, ◌≤◌, length, map, vec_capacity};
+    ghost use Rattle.std.specs.Prelude.{◌≡◌, ◌<◌, ◌≤◌, cond, length, map, vec_capacity};
     ghost use Rattle.spf_ties.specs.Distances.{Findings, cost_below};
 
     ghost Value = { Findings };
 
-    ghost view = { λ r. record { costs = map (cost_below r.far) r.front.numbers.items; marks = r.marks.items; path = r.path.items } };
+    ghost view = { λ r. record {
+      costs = map (cost_below r.far) (cond r.is_wide r.wide.items r.front.numbers.items);
+      marks = r.marks.items;
+      path = r.path.items;
+    } };
 
     ghost invariant = { λ r. record {
       settled : length r.front.settled.items ≡ length r.front.numbers.items;
+      wide : length r.wide.items ≡ length r.front.numbers.items;
       places : length r.marks.items < r.front.waiting.places;
       path : length r.front.numbers.items ≤ vec_capacity r.path;
     } };
@@ -53,6 +60,7 @@ impl Room {
         let waiting = Heap::with_places(alloc, graph.edges().len() + 1)?;
         let numbers = vec![in alloc; 0; graph.vertices().len()]?;
         let settled = vec![in alloc; false; graph.vertices().len()]?;
+        let wide = vec![in alloc; 0; graph.vertices().len()]?;
         let marks = vec![in alloc; false; graph.edges().len()]?;
         let path = Vec::with_capacity(alloc, graph.vertices().len())?;
         Ok(Room {
@@ -62,6 +70,8 @@ impl Room {
                 settled,
                 waiting,
             },
+            wide,
+            is_wide: false,
             marks,
             path,
         })
@@ -97,13 +107,48 @@ impl Room {
             (distance_at self.new v ≡ Some (cost graph.now point.now path)) ↔ AreTight graph.now point.now self.new path }
     {
         graph.keeps_conditions();
+        self.distances_within(graph, point, target, gone, (1 << 26) * point.scale);
+    }
+
+    /// Finds each vertex's least cost of a simple path to the target that has none of the edges of `gone`, where that is
+    /// below a limit. Among the paths that cost less than the limit one has least cost exactly where each of its edges is
+    /// tight. It takes time in proportion to the edges near the target, times the logarithm of their number; at scales from
+    /// 2^37 on it goes over all edges, again and again until no number falls.
+    pub fn distances_within(
+        &mut self,
+        graph: &Graph,
+        point: &Point,
+        target: u32,
+        gone: &[u32],
+        limit: u128,
+    )
+        requires room { IsRoomFor graph.now self.old }
+        requires fits { FitsPoint graph.now point.now }
+        requires target { target < length graph.now.vertices }
+        ensures room { IsRoomFor graph.now self.new }
+        ensures marks { AreMarks gone.now self.new.marks }
+        ensures least { (v : ℕ) → v < length graph.now.vertices →
+            IsLeastBelow graph.now point.now (record { start = v; end = target; gone = gone.now }) limit (distance_at self.new v) }
+        ensures tight { (v : ℕ) (path : List ℕ) → IsPathOf graph.now (record { start = v; end = target; gone = gone.now }) path →
+            cost graph.now point.now path < limit →
+            (distance_at self.new v ≡ Some (cost graph.now point.now path)) ↔ AreTight graph.now point.now self.new path }
+    {
+        graph.keeps_conditions();
         mark_gone(&mut self.marks, gone);
         let removal = Removal {
             gone,
             marks: self.marks.as_slice(),
         };
-        find(graph, point, &removal, target, &mut self.front);
-        self.far = (1 << 26) * point.scale;
+        self.far = limit.min((1 << 26) * point.scale);
+        self.is_wide = find_in_either(
+            graph,
+            point,
+            &removal,
+            target,
+            self.far,
+            &mut self.front,
+            &mut self.wide,
+        );
     }
 
     /// The least cost of a simple path from the vertex to the target of the last call; None where none leads there, or
@@ -112,7 +157,11 @@ impl Room {
         requires { vertex < length self.now.costs }
         ensures { result ≡ distance_at self.now vertex }
     {
-        let number = self.front.numbers[vertex as usize];
+        let number = if self.is_wide {
+            self.wide[vertex as usize]
+        } else {
+            self.front.numbers[vertex as usize] as u128
+        };
         if number < self.far {
             Some(number)
         } else {

@@ -1,7 +1,6 @@
 use Rattle.std.proofs.Common.{rules, ◌≡◌, ◌<◌, ◌∷◌, [], ℕ, ap, sym, subst, arith, IsPermutation, List, Bool, length, set, replicate, false}
 use Rattle.std.proofs.lemmas.List.Elements.{All-head}
 use Rattle.std.proofs.lemmas.List.Sorted.{All-permutation, length_permutation}
-use Rattle.area_graph.specs.Distances.{far}
 use Rattle.spf_ties.specs.declared.heap.Entry.{Entry}
 use Rattle.spf_ties.specs.Searches.{IsFront, MayWait, Underway}
 use Rattle.spf_ties.proofs.SearchLemmas.{begun, entry_of, front_begun, open-le}
@@ -9,7 +8,8 @@ use Rattle.spf_ties.proofs.search.find.Goals as goal
 
 pub loop-entry-init : goal.loop-entry-init
 loop-entry-init c =
-    let numbers : c.fill.new.self.items ≡ replicate (length c.args.front.now.numbers.items) (far c.args.point.now) = search rules in
+    let limit = c.args.limit in
+    let numbers : c.fill.new.self.items ≡ replicate (length c.args.front.now.numbers.items) limit = search rules in
     let marks : c.fill-2.new.self.items ≡ replicate (length c.args.front.now.settled.items) false = search rules in
     let g = c.args.graph.now in
     let p = c.args.point.now in
@@ -21,22 +21,22 @@ loop-entry-init c =
     let within : t < n = let target = c.requires.target in let count = c.requires.count in omega arith in
     record {
       front = subst (λ (d : List ℕ). IsFront g p (set d t 0) c.fill-2.new.self.items) (sym numbers)
-          (subst (λ (settled : List Bool). IsFront g p (set (replicate n (far p)) t 0) settled) (sym marks) (front_begun g p t n m c.requires.count c.requires.marks));
+          (subst (λ (settled : List Bool). IsFront g p (set (replicate n limit) t 0) settled) (sym marks) (front_begun g p t limit n m c.requires.limit c.requires.count c.requires.marks));
       places = let places = ap (λ w. w.places) c.clear.ensures in let before = c.requires.places in let more = c.push.ensures.places in omega arith;
       room = let count = length_permutation (entry_of 0 t ∷ []) c.push.new.self.entries alone in let most = open-le c.args.graph.now c.fill-2.new.self.items in omega arith;
       underway = (
         0,
-        subst (λ (d : List ℕ). Underway g p c.args.removal.now t 0 [] (set d t 0) c.fill-2.new.self.items c.push.new.self.entries) (sym numbers)
-            (subst (λ (settled : List Bool). Underway g p c.args.removal.now t 0 [] (set (replicate n (far p)) t 0) settled c.push.new.self.entries) (sym marks)
-            (begun g p c.args.removal.now t n m c.push.new.self.entries c.requires.fits within alone)),
+        subst (λ (d : List ℕ). Underway g p c.args.removal.now t limit 0 [] (set d t 0) c.fill-2.new.self.items c.push.new.self.entries) (sym numbers)
+            (subst (λ (settled : List Bool). Underway g p c.args.removal.now t limit 0 [] (set (replicate n limit) t 0) settled c.push.new.self.entries) (sym marks)
+            (begun g p c.args.removal.now t limit n m c.push.new.self.entries within alone)),
       );
     }
 
 pub take_in-requires-clause-vertex : goal.take_in-requires-clause-vertex
 take_in-requires-clause-vertex c =
     let under = c.loop-entry.invariant.underway.1 in
-    let may = All-head (MayWait c.args.point.now c.loop-entry.invariant.underway.0 c.loop-entry.front.numbers.items) c.in-Some.entry c.pop.new.self.entries
-    (All-permutation (MayWait c.args.point.now c.loop-entry.invariant.underway.0 c.loop-entry.front.numbers.items) c.loop-entry.front.waiting.entries (c.in-Some.entry ∷ c.pop.new.self.entries) c.in-Some.ensures.entry under.entries) in
+    let may = All-head (MayWait c.args.limit c.loop-entry.invariant.underway.0 c.loop-entry.front.numbers.items) c.in-Some.entry c.pop.new.self.entries
+    (All-permutation (MayWait c.args.limit c.loop-entry.invariant.underway.0 c.loop-entry.front.numbers.items) c.loop-entry.front.waiting.entries (c.in-Some.entry ∷ c.pop.new.self.entries) c.in-Some.ensures.entry under.entries) in
     let known = may.known in
     let count = c.loop-entry.invariant.front.count in
     omega arith
@@ -62,5 +62,5 @@ loop-entry-preserved c =
       front = c.take_in.ensures.front;
       places = let before = c.loop-entry.invariant.places in let same = c.in-Some.ensures.places in let after = c.take_in.ensures.places in omega arith;
       room = let before = c.loop-entry.invariant.room in let fewer = c.take_in.ensures.fewer in omega arith;
-      underway = c.take_in.ensures.underway c.args.target c.loop-entry.invariant.underway.0 c.loop-entry.front.waiting.entries c.loop-entry.invariant.underway.1 c.in-Some.ensures.entry c.in-Some.ensures.none;
+      underway = c.take_in.ensures.underway c.args.target c.args.limit c.loop-entry.invariant.underway.0 c.loop-entry.front.waiting.entries c.loop-entry.invariant.underway.1 c.in-Some.ensures.entry c.in-Some.ensures.none;
     }

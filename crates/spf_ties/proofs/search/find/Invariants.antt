@@ -7,7 +7,7 @@ invariant-loop-entry l = record {
   front : IsFront l.graph l.point l.front.numbers.items l.front.settled.items;
   places : length l.graph.edges < l.front.waiting.places;
   room : length l.front.waiting.entries + open_edges l.graph l.front.settled.items ≤ length l.graph.edges + 1;
-  underway : (least : ℕ) × Underway l.graph l.point l.removal l.target least [] l.front.numbers.items l.front.settled.items l.front.waiting.entries;
+  underway : (least : ℕ) × Underway l.graph l.point l.removal l.target l.limit least [] l.front.numbers.items l.front.settled.items l.front.waiting.entries;
 }
 
 abbrev pub decreases-loop-entry : goal.decreases-loop-entry

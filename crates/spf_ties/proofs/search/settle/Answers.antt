@@ -30,9 +30,9 @@ loop-number-preserved c =
       settled = c.look.ensures.settled ∙ c.loop-number.invariant.settled;
       places = let before = c.loop-number.invariant.places in let after = c.look.ensures.places in omega arith;
       count = let before = c.loop-number.invariant.count in let after = c.look.ensures.one in omega arith;
-      underway = λ t least under. c.look.ensures.underway t least (drop (i + 1) es)
-          (subst (λ (xs : List ℕ). Underway g c.args.point.now c.args.removal.now t least xs c.loop-number.front.numbers.items c.loop-number.front.settled.items c.loop-number.front.waiting.entries) split
-          (c.loop-number.invariant.underway t least under));
+      underway = λ t limit least under. c.look.ensures.underway t limit least (drop (i + 1) es)
+          (subst (λ (xs : List ℕ). Underway g c.args.point.now c.args.removal.now t limit least xs c.loop-number.front.numbers.items c.loop-number.front.settled.items c.loop-number.front.waiting.entries) split
+          (c.loop-number.invariant.underway t limit least under));
     }
 
 pub returns-clause-fewer : goal.returns-clause-fewer
@@ -46,8 +46,8 @@ returns-clause-fewer c =
     omega arith
 
 pub returns-clause-underway : goal.returns-clause-underway
-returns-clause-underway c = λ t least under.
+returns-clause-underway c = λ t limit least under.
     let es = edges_in c.args.graph.now c.args.vertex in
     let past : length es ≤ c.loop-number.number-index = subst (λ (xs : List ℕ). length xs ≤ c.loop-number.number-index) c.edges_in-number-items.ensures c.loop-number-test.false in
-    subst (λ (xs : List ℕ). Underway c.args.graph.now c.args.point.now c.args.removal.now t least xs c.loop-number.front.numbers.items c.loop-number.front.settled.items c.loop-number.front.waiting.entries)
-    (drop_of_length-le es past) (c.loop-number.invariant.underway t least under)
+    subst (λ (xs : List ℕ). Underway c.args.graph.now c.args.point.now c.args.removal.now t limit least xs c.loop-number.front.numbers.items c.loop-number.front.settled.items c.loop-number.front.waiting.entries)
+    (drop_of_length-le es past) (c.loop-number.invariant.underway t limit least under)

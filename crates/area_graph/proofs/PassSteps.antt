@@ -1,5 +1,6 @@
 -- One pass over the edges: the numbers fall, and stay what walks to the target cost at most.
-use Rattle.std.proofs.Common.{◌≡◌, ℕ, ◌+◌, ◌<◌, ◌≤◌, refl, sym, ◌∙◌, ap, subst, List, ◌∷◌, All, length, get_or, set, sum, Bool, true, false, arith, get_or-set_same, get_or-set_other, length-set, below_more}
+use Rattle.std.proofs.Common.{◌≡◌, ℕ, ◌+◌, ◌<◌, ◌≤◌, refl, sym, ◌∙◌, ap, subst, List, [], ◌∷◌, All, length, get_or, set, replicate, sum, Bool, true, false, arith, get_or-set_same, get_or-set_other, length-set, below_more}
+use Rattle.std.proofs.lemmas.List.{get_or-replicate, length-replicate}
 use Rattle.std.proofs.lemmas.List.Elements.{All-set}
 use Rattle.std.proofs.lemmas.List.Sums.{sum_by-cons, sum_by-set}
 use native.Mathlib.Decide.{ℕ_discrete}
@@ -13,7 +14,7 @@ use Rattle.area_graph.specs.Distances.{far, WalkWithin, AreReached, through, Set
 pub record Passed (g : Area) (p : Point) (gone : List ℕ) (n : ℕ) (old d : List ℕ) (lowered : Bool) : Type 0 where
   pub count : length d ≡ length old
   pub bounded : All (λ x. x ≤ far p) d
-  pub reached : (t : ℕ) → AreReached g p gone t old → AreReached g p gone t d
+  pub reached : (t limit : ℕ) → AreReached g p gone t limit old → AreReached g p gone t limit d
   pub lower : lowered ≡ true → sum d < sum old
   pub same : lowered ≡ false → sum d ≡ sum old
   pub settled : lowered ≡ false → SettledBelow n g p gone d
@@ -23,7 +24,7 @@ pub passed_none : (g : Area) (p : Point) (gone : List ℕ) (d : List ℕ) → Al
 passed_none g p gone d bounded = record {
   count = refl;
   bounded = bounded;
-  reached = λ t are. are;
+  reached = λ t limit are. are;
   lower = λ h. absurd (clash h);
   same = λ h. refl;
   settled = λ h e below lacks. absurd (omega arith);
@@ -57,8 +58,8 @@ walk_more g p gone n t d known lacks walk =
     }
 
 -- a number that is lowered to what a walk costs
-pub reached_by_walk : (g : Area) (p : Point) (gone : List ℕ) (t v x : ℕ) (d : List ℕ) → v < length d → x < get_or d v 0 → (x < far p → WalkWithin g p gone v t x) → AreReached g p gone t d → AreReached g p gone t (set d v x)
-reached_by_walk g p gone t v x d within less walk are = record {
+pub reached_by_walk : (g : Area) (p : Point) (gone : List ℕ) (t limit v x : ℕ) (d : List ℕ) → v < length d → x < get_or d v 0 → (x < limit → WalkWithin g p gone v t x) → AreReached g p gone t limit d → AreReached g p gone t limit (set d v x)
+reached_by_walk g p gone t limit v x d within less walk are = record {
   target = elim (ℕ_discrete t v) [
     | yes same ↦ let nothing = ap (λ (i : ℕ). get_or d i 0) same in let target = are.target in absurd (omega arith)
     | no other ↦ get_or-set_other d v t x 0 other ∙ are.target
@@ -66,16 +67,16 @@ reached_by_walk g p gone t v x d within less walk are = record {
   reached = λ u inside near. elim (ℕ_discrete u v) [
     | yes same ↦
         let value : get_or (set d v x) u 0 ≡ x = ap (λ (i : ℕ). get_or (set d v x) i 0) same ∙ get_or-set_same d v x 0 within in
-        subst (λ (y : ℕ). WalkWithin g p gone u t y) (sym value) (subst (λ (i : ℕ). WalkWithin g p gone i t x) (sym same) (walk (subst (λ (y : ℕ). y < far p) value near)))
+        subst (λ (y : ℕ). WalkWithin g p gone u t y) (sym value) (subst (λ (i : ℕ). WalkWithin g p gone i t x) (sym same) (walk (subst (λ (y : ℕ). y < limit) value near)))
     | no other ↦
         let value : get_or (set d v x) u 0 ≡ get_or d u 0 = get_or-set_other d v u x 0 other in
-        subst (λ (y : ℕ). WalkWithin g p gone u t y) (sym value) (are.reached u (subst (λ (n : ℕ). u < n) (length-set d v x) inside) (subst (λ (y : ℕ). y < far p) value near))
+        subst (λ (y : ℕ). WalkWithin g p gone u t y) (sym value) (are.reached u (subst (λ (n : ℕ). u < n) (length-set d v x) inside) (subst (λ (y : ℕ). y < limit) value near))
   ];
 }
 
 -- the numbers after one was lowered are still what walks cost at most
-reached_lower : (g : Area) (p : Point) (gone : List ℕ) (n t : ℕ) (d : List ℕ) → FitsEdge g (edge_at g n) → length d ≡ length g.vertices → All (λ x. x ≤ far p) d → n < length g.edges → Lacks gone n → through p (edge_at g n) d < get_or d (edge_at g n).from 0 → AreReached g p gone t d → AreReached g p gone t (set d (edge_at g n).from (through p (edge_at g n) d))
-reached_lower g p gone n t d edge count bounded known lacks less are = reached_by_walk g p gone t (edge_at g n).from (through p (edge_at g n) d) d from_within less walk are
+reached_lower : (g : Area) (p : Point) (gone : List ℕ) (n t limit : ℕ) (d : List ℕ) → FitsEdge g (edge_at g n) → length d ≡ length g.vertices → n < length g.edges → Lacks gone n → through p (edge_at g n) d < get_or d (edge_at g n).from 0 → AreReached g p gone t limit d → AreReached g p gone t limit (set d (edge_at g n).from (through p (edge_at g n) d))
+reached_lower g p gone n t limit d edge count known lacks less are = reached_by_walk g p gone t limit (edge_at g n).from (through p (edge_at g n) d) d from_within less walk are
   where
     from_within : (edge_at g n).from < length d
     from_within = omega (arith, edge.from, count)
@@ -83,7 +84,7 @@ reached_lower g p gone n t d edge count bounded known lacks less are = reached_b
     to_within : (edge_at g n).to < length d
     to_within = omega (arith, edge.to, count)
 
-    walk : through p (edge_at g n) d < far p → WalkWithin g p gone (edge_at g n).from t (through p (edge_at g n) d)
+    walk : through p (edge_at g n) d < limit → WalkWithin g p gone (edge_at g n).from t (through p (edge_at g n) d)
     walk near = walk_more g p gone n t d known lacks (are.reached (edge_at g n).to to_within (omega arith))
 
 -- an edge that led to a smaller number
@@ -93,7 +94,7 @@ passed_lower g p gone n old d new lowered graph count passed known lacks shorter
     (record {
       count = size ∙ passed.count;
       bounded = All-set (λ x. x ≤ far p) d (edge_at g n).from (through p (edge_at g n) d) (omega (arith, most, shorter.less)) passed.bounded;
-      reached = λ t are. reached_lower g p gone n t d edge (passed.count ∙ count) passed.bounded known lacks shorter.less (passed.reached t are);
+      reached = λ t limit are. reached_lower g p gone n t limit d edge (passed.count ∙ count) known lacks shorter.less (passed.reached t limit are);
       lower = λ h. falls;
       same = λ h. absurd (clash h);
       settled = λ h. absurd (clash h);
@@ -123,3 +124,18 @@ passed_lower g p gone n old d new lowered graph count passed known lacks shorter
         let step = sum_by-set (λ (x : ℕ). x) d (edge_at g n).from (through p (edge_at g n) d) 0 from_within in
         let before = at_most lowered passed.lower passed.same in
         omega (arith, step, before, shorter.less)
+
+-- at the start only the target's number is below the limit
+pub reached_none : (g : Area) (p : Point) (gone : List ℕ) (t limit n : ℕ) → t < n → AreReached g p gone t limit (set (replicate n limit) t 0)
+reached_none g p gone t limit n within = record {
+  target = get_or-set_same (replicate n limit) t 0 0 (let size = length-replicate n limit in omega (arith, size, within));
+  reached = λ v inside near. elim (ℕ_discrete v t) [
+    | yes same ↦ let value : get_or (set (replicate n limit) t 0) v 0 ≡ 0 = ap (λ (i : ℕ). get_or (set (replicate n limit) t 0) i 0) same ∙ get_or-set_same (replicate n limit) t 0 0 (let size = length-replicate n limit in omega (arith, size, within)) in
+        record { edges = []; joins = same; kept = tt; within = omega (arith, value) }
+    | no other ↦
+        let size = length-replicate n limit in
+        let kept = length-set (replicate n limit) t 0 in
+        let value : get_or (set (replicate n limit) t 0) v 0 ≡ limit = get_or-set_other (replicate n limit) t v 0 0 other ∙ get_or-replicate n v limit 0 (omega (arith, size, kept, inside)) in
+        absurd (omega (arith, value, near))
+  ];
+}

@@ -1,7 +1,7 @@
 use Rattle.std.proofs.Common.{rules, ◌+◌, ◌<◌, sym, subst, Bool, length}
-use Rattle.area_graph.proofs.Passes.{Passed, passed_lower, passed_stays}
-use Rattle.area_graph.proofs.only_cheapest.pass.Goals.{then-visit, else-visit}
-use Rattle.area_graph.proofs.only_cheapest.pass.Goals as goal
+use Rattle.area_graph.proofs.PassSteps.{Passed, passed_lower, passed_stays}
+use Rattle.area_graph.proofs.passes.pass.Goals.{then-visit, else-visit}
+use Rattle.area_graph.proofs.passes.pass.Goals as goal
 
 pub loop-number-preserved : goal.loop-number-preserved
 loop-number-preserved c =
