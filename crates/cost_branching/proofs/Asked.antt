@@ -1,24 +1,29 @@
 -- Requests that are asked one after another.
 use Rattle.std.proofs.Common.{◌≡◌, ℕ, ◌+◌, ◌<◌, ◌≤◌, refl, sym, ◌∙◌, ap, subst, inl, inr, get_or, List, [], ◌∷◌, ◌++◌, length, arith, append_assoc, append-nil}
-use Rattle.std.specs.Prelude.{ℤ, pos, ◌-ℤ◌, ◌<ℤ◌, ◌≤ℤ◌, ◌⊎◌, All, slice_get}
+use Rattle.std.specs.Prelude.{ℤ, pos, ◌-ℤ◌, ◌<ℤ◌, ◌≤ℤ◌, ◌⊎◌, All, Bool, MatchBool, Option, Some, false, slice_get, true}
 use Rattle.std.proofs.lemmas.Int.{ints}
 use Rattle.std.proofs.lemmas.Bool.{cases_lt}
 use Rattle.std.proofs.lemmas.List.{get_or-map, length-map, map-append}
+use Rattle.std.proofs.lemmas.Option.{slice_get-get_or}
 use Rattle.std.proofs.lemmas.List.Elements.{All-contains, All-from_get_or, All-nil, All-push, All-weaker, Contains-push}
 use Rattle.std.proofs.lemmas.List.Quantifiers.{all_pairs_push}
 use Rattle.area_graph.specs.declared.Point.{Point}
+use Rattle.area_graph.specs.Area.{Area}
 use Rattle.area_graph.specs.Costs.{LeadsBy, cost}
 use Rattle.path_rows.specs.declared.form.Row.{Row}
+use Rattle.path_rows.specs.declared.problem.Request.{Request}
 use Rattle.path_rows.specs.Forms.{Form}
 use Rattle.path_rows.specs.Forms.{no_form, value_at}
-use Rattle.path_rows.specs.Problems.{DesignProblem, IsProblem, ends_of, no_request}
-use Rattle.path_rows.specs.Rows.{IsRow, LeadsEach, form_of_row, forms_of_rows, path_edges}
+use Rattle.path_rows.specs.Problems.{DesignProblem, IsProblem, ends_of, no_request, request_at}
+use Rattle.path_rows.specs.Rows.{IsRivalOf, IsRow, LeadsEach, form_of_row, forms_of_rows, path_edges}
+use Rattle.rival_separation.specs.Askers.{RequestLeads}
+use Rattle.rival_separation.specs.Rivals.{IsCheapest}
 use Rattle.form_search.specs.Sources.{AreMet, Grows, IsAnswered}
 use Rattle.form_search.specs.declared.source.Asked.{Asked}
 use Rattle.form_search.specs.declared.source.Asked.TheVariants.{Nothing, Added}
 use Rattle.cost_branching.specs.Pools.{AreRows, Differ, IsPool}
-use Rattle.cost_branching.specs.Rivals.{IsKept, IsTooCheap, IsTrueOf, KnownRows, LeadsAt}
-use Rattle.cost_branching.specs.Asking.{AnswersBelow, AreAllAsked, AreAsked, AreAskedAmong, NoRow, OneRow}
+use Rattle.cost_branching.specs.Rivals.{BeginWith, IsKept, IsTooCheap, IsTrueOf, KnownRows, LeadsAt}
+use Rattle.cost_branching.specs.Asking.{AnswersBelow, AreAllAsked, AreAsked, AreAskedAmong, IsAskedOf, NoRow, OneRow}
 use Rattle.cost_branching.specs.SourceLaws.{row_met, value_between}
 
 -- where the forms of rows are at least 0, each of them is
@@ -73,6 +78,34 @@ more_lead point requests old old_forms now forms new new_forms asked are one =
 pub too_cheap_as : (p : DesignProblem) (point : Point) (k l : ℕ) (edges others : List ℕ) → l ≡ k → others ≡ edges → IsTooCheap p point k edges → IsTooCheap p point l others
 too_cheap_as p point k l edges others same_request same_edges too_cheap =
     subst (λ (i : ℕ). IsTooCheap p point i others) (sym same_request) (subst (λ (es : List ℕ). IsTooCheap p point k es) (sym same_edges) too_cheap)
+
+-- the cheapest rival of a request's path, where it is cheap
+too_cheap_of : (p : DesignProblem) (point : Point) (k : ℕ) (es : List ℕ) → k < length p.paths → IsCheapest p.graph point (ends_of (request_at p.paths k)) (request_at p.paths k).path.edges es → IsTooCheap p point k es
+too_cheap_of p point k es known cheapest =
+    let here : slice_get p.paths k ≡ Some (request_at p.paths k) = slice_get-get_or p.paths k no_request known in
+    record {
+      rival = subst (λ (r : Option Request). IsRivalOf p.graph r es) (sym here) (cheapest.rival.path, cheapest.rival.other);
+      cheap = subst (λ (r : Option Request). cost p.graph point es < cost p.graph point (path_edges r) + point.scale) (sym here) cheapest.cheap;
+    }
+
+either_too_cheap : (p : DesignProblem) (point : Point) (k : ℕ) (es : List ℕ) (beaten : Bool) → k < length p.paths → MatchBool beaten (IsCheapest p.graph point (ends_of (request_at p.paths k)) (request_at p.paths k).path.edges es) (LeadsAt p point k) → MatchBool beaten (IsTooCheap p point k es) (LeadsAt p point k)
+either_too_cheap p point k es true known cheapest = too_cheap_of p point k es known cheapest
+either_too_cheap p point k es false known leads = leads
+
+-- so it is with the graph and the paths under other names
+pub too_cheap_or_leads : (p : DesignProblem) (g : Area) (paths : List Request) (point : Point) (k : ℕ) (es : List ℕ) (beaten : Bool) → g ≡ p.graph → paths ≡ p.paths → k < length p.paths → MatchBool beaten (IsCheapest g point (ends_of (request_at paths k)) (request_at paths k).path.edges es) (RequestLeads g point (request_at paths k)) → MatchBool beaten (IsTooCheap p point k es) (LeadsAt p point k)
+too_cheap_or_leads p g paths point k es beaten same_graph same_paths known is =
+    let by_graph = subst (λ (h : Area). MatchBool beaten (IsCheapest h point (ends_of (request_at paths k)) (request_at paths k).path.edges es) (RequestLeads h point (request_at paths k))) same_graph is in
+    let by_paths = subst (λ (rs : List Request). MatchBool beaten (IsCheapest p.graph point (ends_of (request_at rs k)) (request_at rs k).path.edges es) (RequestLeads p.graph point (request_at rs k))) same_paths by_graph in
+    either_too_cheap p point k es beaten known by_paths
+
+-- the rows still begin with those
+pub begun_more : (first : List Row) (point : Point) (request : ℕ) (old : KnownRows) (forms : List Form) (new : KnownRows) (new_forms : List Form) (asked : Bool) → BeginWith first old.rows → IsAskedOf point request old forms new new_forms asked → BeginWith first new.rows
+begun_more first point request old forms new new_forms true begun one = record {
+  more = begun.more ++ one.row ∷ [];
+  same = ap (λ (s : KnownRows). s.rows) one.rows ∙ ap (λ (rows : List Row). rows ++ one.row ∷ []) begun.same ∙ append_assoc first begun.more (one.row ∷ []);
+}
+begun_more first point request old forms new new_forms false begun one = record { more = begun.more; same = ap (λ (s : KnownRows). s.rows) one.rows ∙ begun.same }
 
 below_zero : (rival wanted scale : ℕ) → rival < wanted + scale → ((pos rival -ℤ pos wanted) -ℤ pos scale) <ℤ pos 0
 below_zero rival wanted scale cheap = omega (arith, ints)

@@ -15,7 +15,7 @@ use advisor_box::Advisor;
 use cost_base::OutOfMemory;
 use form_search::search;
 use path_rows::{CostBox, Problem, box_at};
-use spf_ties::Room;
+use rival_separation::Asker;
 use std::alloc::Global;
 use std::marker::Brand;
 use std::mem;
@@ -44,9 +44,9 @@ fn search_rivals<B: Begun>(
         advisors.old.items advisors.new.items }
 {
     keeps_conditions(problem);
-    let room = Room::new(alloc, &problem.graph)?;
+    let asker = Asker::new(alloc, &problem.graph, problem.paths.as_slice())?;
     let rows = mem::replace(&mut pool.rows, Vec::new(alloc));
-    let mut source = Rivals::<B>::new(problem, room, rows);
+    let mut source = Rivals::<B>::new(problem, asker, rows);
     let found = search(alloc, &mut source, costs, limits, &mut pool.forms, advisors);
     pool.rows = source.into_rows();
     found

@@ -1,18 +1,17 @@
 //! The rivals of a problem's wanted paths, as the source of a search.
 ghost use Rattle.std.specs.Prelude.{◌≡◌, ◌<◌, ◌++◌, ◌∷◌, [], length, IfOk, IsTrue, MatchBool, OnErr, OnOk, ◌↔◌};
 ghost use Rattle.path_rows.specs.Rows.{IsRow, LeadsEach, form_of_row, forms_of_rows};
-ghost use Rattle.spf_ties.specs.Distances.{IsRoomFor};
+ghost use Rattle.rival_separation.specs.Askers.{IsAskerFor};
 ghost use Rattle.form_search.specs.Sources.{AreMet, Grows, IsCostPoint};
 ghost use Rattle.cost_branching.specs.Pools.{AreRows};
 ghost use Rattle.cost_branching.specs.Rivals.{BeginWith, IsKept, IsTooCheap, IsTrueOf, LeadsAt};
-ghost use Rattle.cost_branching.specs.Asking.{AreAllAsked, IsAskedOf};
+ghost use Rattle.cost_branching.specs.Asking.{AreAllAsked, AreMarkedAt, IsAskedOf};
 
 use area_graph::{Path, Point};
 use cost_base::{Listed, OutOfMemory};
 use form_search::{Asked, FormPool, RowSource};
 use path_rows::{Problem, Row, form_of};
-use rival_separation::find_rival;
-use spf_ties::Room;
+use rival_separation::Asker;
 use std::alloc::Global;
 use std::marker::{Brand, Model, PhantomData};
 
@@ -39,19 +38,19 @@ impl Begun for Brand {
 /// The source whose accepted points are those at which each wanted path of a problem leads by the scale, and whose true
 /// forms are those of the problem's rows. Contracts see the problem and the rows that are known.
 ///
-/// It keeps room for distances, and the rows of the pool's forms, in the same order: those with which the search began,
+/// It keeps what asks for rivals, and the rows of the pool's forms, in the same order: those with which the search began,
 /// and behind them those that came since.
 #[derive(Drop)]
 pub struct Rivals<'a, B: Begun> {
     problem: &'a Problem,
-    room: Room,
+    asker: Asker,
     rows: Vec<Row>,
     begun: PhantomData<B>,
 }
 
 impl<'a, B: Begun> Model for Rivals<'a, B> {
     ghost use Rattle.std.specs.Prelude.{◌≡◌};
-    ghost use Rattle.spf_ties.specs.Distances.{IsRoomFor};
+    ghost use Rattle.rival_separation.specs.Askers.{IsAskerFor};
     ghost use Rattle.cost_branching.specs.Rivals.{BeginWith, KnownRows};
 
     ghost Value = { KnownRows };
@@ -60,7 +59,7 @@ impl<'a, B: Begun> Model for Rivals<'a, B> {
 
     ghost invariant = { λ s. record {
       problem : s.problem.now ≡ B.problem;
-      room : IsRoomFor s.problem.now.graph s.room;
+      asker : IsAskerFor s.problem.now.graph s.problem.now.paths s.asker;
       begun : BeginWith B.rows s.rows.items;
     } };
 }
@@ -70,23 +69,6 @@ pub fn keeps_conditions(problem: &Problem)
     ensures { IsKept problem.now }
 {
     problem.graph.keeps_conditions();
-}
-
-/// Whether a request has a rival that costs less than its path and the scale. Then the room keeps the edges of the cheapest.
-fn is_beaten(problem: &Problem, request: u32, point: &Point, room: &mut Room) -> bool
-    requires room { IsRoomFor problem.now.graph room.old }
-    requires point { IsCostPoint (length problem.now.low) point.now }
-    requires request { request < length problem.now.paths }
-    ensures room { IsRoomFor problem.now.graph room.new }
-    ensures rival { MatchBool result (IsTooCheap problem.now point.now request room.new.path) (LeadsAt problem.now point.now request) }
-{
-    keeps_conditions(problem);
-    find_rival(
-        &problem.graph,
-        &problem.paths.as_slice()[request as usize],
-        point,
-        room,
-    )
 }
 
 /// The row of a request and a rival's edges. Its own start plays no part.
@@ -110,17 +92,147 @@ pub fn row_of(alloc: Global, request: u32, edges: &[u32]) -> Result<Row, OutOfMe
     }
 }
 
+/// Marks the requests whose paths don't lead at the point by the scale.
+fn mark_beaten(problem: &Problem, asker: &mut Asker, point: &Point)
+    requires asker { IsAskerFor problem.now.graph problem.now.paths asker.old }
+    requires point { IsCostPoint (length problem.now.low) point.now }
+    ensures asker { IsAskerFor problem.now.graph problem.now.paths asker.new }
+    ensures marks { AreMarkedAt problem.now point.now asker.new.marks }
+{
+    keeps_conditions(problem);
+    asker.mark_beaten(&problem.graph, problem.paths.as_slice(), point);
+}
+
+/// Whether each wanted path leads at the point by the scale.
+fn all_lead(problem: &Problem, asker: &mut Asker, point: &Point) -> bool
+    requires asker { IsAskerFor problem.now.graph problem.now.paths asker.old }
+    requires point { IsCostPoint (length problem.now.low) point.now }
+    ensures asker { IsAskerFor problem.now.graph problem.now.paths asker.new }
+    ensures leads { IsTrue result ↔ LeadsEach problem.now point.now }
+{
+    keeps_conditions(problem);
+    asker.each_leads(&problem.graph, problem.paths.as_slice(), point)
+}
+
+/// Whether a request has a rival that costs less than its path and the scale. Then the asker's room keeps the edges of the
+/// cheapest.
+fn is_beaten(problem: &Problem, asker: &mut Asker, request: u32, point: &Point) -> bool
+    requires asker { IsAskerFor problem.now.graph problem.now.paths asker.old }
+    requires point { IsCostPoint (length problem.now.low) point.now }
+    requires request { request < length problem.now.paths }
+    ensures asker { IsAskerFor problem.now.graph problem.now.paths asker.new }
+    ensures marks { asker.new.marks ≡ asker.old.marks }
+    ensures rival { MatchBool result (IsTooCheap problem.now point.now request asker.new.room.path) (LeadsAt problem.now point.now request) }
+{
+    keeps_conditions(problem);
+    asker.find_rival(&problem.graph, problem.paths.as_slice(), request, point)
+}
+
+/// Puts a row at the end, and its form at the end of the pool. Where memory is wanting both are as before.
+fn push_row(
+    alloc: Global,
+    problem: &Problem,
+    row: Row,
+    rows: &mut Vec<Row>,
+    pool: &mut FormPool,
+) -> Result<(), OutOfMemory>
+    requires { IsRow problem.now row }
+    ensures row { OnOk result (rows.new.items ≡ rows.old.items ++ row ∷ []) }
+    ensures form { OnOk result (pool.new ≡ pool.old ++ form_of_row problem.now row ∷ []) }
+    ensures same_rows { OnErr result (rows.new.items ≡ rows.old.items) }
+    ensures same_forms { OnErr result (pool.new ≡ pool.old) }
+{
+    if rows.reserve(1).is_err() {
+        return Err(OutOfMemory);
+    }
+    let form = form_of(alloc, problem, &row)?;
+    pool.push(form)?;
+    rows.push_reserved(row);
+    Ok(())
+}
+
+/// Asks for the cheapest rival of one request, where it is marked. Where that costs less than the path and the scale it
+/// becomes a row.
+fn ask_one(
+    alloc: Global,
+    problem: &Problem,
+    asker: &mut Asker,
+    request: u32,
+    point: &Point,
+    rows: &mut Vec<Row>,
+    pool: &mut FormPool,
+) -> Result<bool, OutOfMemory>
+    requires asker { IsAskerFor problem.now.graph problem.now.paths asker.old }
+    requires point { IsCostPoint (length problem.now.low) point.now }
+    requires request { request < length problem.now.paths }
+    requires marks { AreMarkedAt problem.now point.now asker.old.marks }
+    ensures asker { IsAskerFor problem.now.graph problem.now.paths asker.new }
+    ensures marks { AreMarkedAt problem.now point.now asker.new.marks }
+    ensures one { IfOk result (IsAskedOf point.now request (record { problem = problem.now; rows = rows.old.items }) pool.old
+        (record { problem = problem.now; rows = rows.new.items }) pool.new) }
+    ensures same_rows { OnErr result (rows.new.items ≡ rows.old.items) }
+    ensures same_forms { OnErr result (pool.new ≡ pool.old) }
+{
+    keeps_conditions(problem);
+    if !asker.is_marked(request) {
+        return Ok(false);
+    }
+    if !is_beaten(problem, asker, request, point) {
+        return Ok(false);
+    }
+    let row = row_of(alloc, request, asker.path())?;
+    push_row(alloc, problem, row, rows, pool)?;
+    Ok(true)
+}
+
+/// How many requests a problem has.
+fn requests(problem: &Problem) -> u32
+    ensures { result ≡ length problem.now.paths }
+{
+    problem.paths.as_slice().len() as u32
+}
+
+/// Asks for the cheapest rival of each request that is marked, in the requests' order; a path of another one leads.
+fn ask_marked(
+    alloc: Global,
+    problem: &Problem,
+    asker: &mut Asker,
+    point: &Point,
+    rows: &mut Vec<Row>,
+    pool: &mut FormPool,
+) -> Result<Asked, OutOfMemory>
+    requires asker { IsAskerFor problem.now.graph problem.now.paths asker.old }
+    requires marks { AreMarkedAt problem.now point.now asker.old.marks }
+    requires rows { AreRows problem.now rows.old.items }
+    requires point { IsCostPoint (length problem.now.low) point.now }
+    requires met { AreMet (forms_of_rows problem.now rows.old.items) point.now }
+    ensures asker { IsAskerFor problem.now.graph problem.now.paths asker.new }
+    ensures asked { IfOk result (AreAllAsked point.now (record { problem = problem.now; rows = rows.old.items }) pool.old
+        (record { problem = problem.now; rows = rows.new.items }) pool.new) }
+    ensures more { BeginWith rows.old.items rows.new.items }
+    ensures grows { Grows (IsTrueOf problem.now) pool.old pool.new }
+{
+    let count = requests(problem);
+    let mut asked = Asked::Nothing;
+    for request in 0..count {
+        if ask_one(alloc, problem, asker, request, point, rows, pool)? {
+            asked = Asked::Added;
+        }
+    }
+    Ok(asked)
+}
+
 impl<'a, B: Begun> Rivals<'a, B> {
     /// The rivals of a problem's paths, where a search begins with these rows.
-    pub fn new(problem: &'a Problem, room: Room, rows: Vec<Row>) -> Rivals<'a, B>
+    pub fn new(problem: &'a Problem, asker: Asker, rows: Vec<Row>) -> Rivals<'a, B>
         requires problem { problem.now ≡ B.problem }
-        requires room { IsRoomFor problem.now.graph room }
+        requires asker { IsAskerFor problem.now.graph problem.now.paths asker }
         requires begun { rows.items ≡ B.rows }
         ensures { result ≡ record { problem = problem.now; rows = rows.items } }
     {
         Rivals {
             problem,
-            room,
+            asker,
             rows,
             begun: PhantomData,
         }
@@ -134,7 +246,7 @@ impl<'a, B: Begun> Rivals<'a, B> {
     {
         let Rivals {
             problem: _,
-            room: _,
+            asker: _,
             rows,
             begun: _,
         } = self;
@@ -155,76 +267,14 @@ impl<'a, B: Begun> Rivals<'a, B> {
         self.rows.as_slice()
     }
 
-    /// How many requests the problem has.
-    fn requests(&self) -> u32
-        ensures { result ≡ length self.now.problem.paths }
-    {
-        let problem = self.problem;
-        problem.paths.as_slice().len() as u32
-    }
-
-    /// Whether a request has a rival that costs less than its path and the scale.
-    fn has_rival(&mut self, request: u32, point: &Point) -> bool
-        requires point { IsCostPoint (length self.old.problem.low) point.now }
-        requires request { request < length self.old.problem.paths }
-        ensures same { self.new ≡ self.old }
-        ensures rival { MatchBool result (LeadsAt self.old.problem point.now request → ⊥) (LeadsAt self.old.problem point.now request) }
-    {
-        is_beaten(self.problem, request, point, &mut self.room)
-    }
-
-    /// Puts a row at the end, and its form at the end of the pool. Where memory is wanting both are as before.
-    fn push_row(&mut self, alloc: Global, row: Row, pool: &mut FormPool) -> Result<(), OutOfMemory>
-        requires { IsRow self.old.problem row }
-        ensures row { OnOk result (self.new ≡ record self.old { rows = self.old.rows ++ row ∷ [] }) }
-        ensures form { OnOk result (pool.new ≡ pool.old ++ form_of_row self.old.problem row ∷ []) }
-        ensures same_rows { OnErr result (self.new ≡ self.old) }
-        ensures same_forms { OnErr result (pool.new ≡ pool.old) }
-    {
-        if self.rows.reserve(1).is_err() {
-            return Err(OutOfMemory);
-        }
-        let form = form_of(alloc, self.problem, &row)?;
-        pool.push(form)?;
-        self.rows.push_reserved(row);
-        Ok(())
-    }
-
-    /// Asks for the cheapest rival of one request. Where it costs less than the path and the scale it becomes a row.
-    fn ask_one(
-        &mut self,
-        alloc: Global,
-        request: u32,
-        point: &Point,
-        pool: &mut FormPool,
-    ) -> Result<bool, OutOfMemory>
-        requires point { IsCostPoint (length self.old.problem.low) point.now }
-        requires request { request < length self.old.problem.paths }
-        ensures one { IfOk result (IsAskedOf point.now request self.old pool.old self.new pool.new) }
-        ensures same_rows { OnErr result (self.new ≡ self.old) }
-        ensures same_forms { OnErr result (pool.new ≡ pool.old) }
-    {
-        keeps_conditions(self.problem);
-        if !is_beaten(self.problem, request, point, &mut self.room) {
-            return Ok(false);
-        }
-        let row = row_of(alloc, request, self.room.path())?;
-        self.push_row(alloc, row, pool)?;
-        Ok(true)
-    }
-
     /// Whether each wanted path leads at the point by the scale. It takes no memory.
     pub fn each_leads(&mut self, point: &Point) -> bool
         requires { IsCostPoint (length self.old.problem.low) point.now }
         ensures same { self.new ≡ self.old }
         ensures answer { IsTrue result ↔ LeadsEach self.old.problem point.now }
     {
-        for request in 0..self.requests() {
-            if self.has_rival(request, point) {
-                return false;
-            }
-        }
-        true
+        let problem = self.problem;
+        all_lead(problem, &mut self.asker, point)
     }
 
     /// Asks each request in order for its cheapest rival. Each that costs less than its path and the scale becomes a row, and
@@ -246,13 +296,9 @@ impl<'a, B: Begun> Rivals<'a, B> {
         ensures problem { self.new.problem ≡ self.old.problem }
         ensures grows { Grows (IsTrueOf self.old.problem) pool.old pool.new }
     {
-        let mut asked = Asked::Nothing;
-        for request in 0..self.requests() {
-            if self.ask_one(alloc, request, point, pool)? {
-                asked = Asked::Added;
-            }
-        }
-        Ok(asked)
+        let problem = self.problem;
+        mark_beaten(problem, &mut self.asker, point);
+        ask_marked(alloc, problem, &mut self.asker, point, &mut self.rows, pool)
     }
 }
 

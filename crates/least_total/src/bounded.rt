@@ -1,7 +1,7 @@
 //! The rivals of a problem's wanted paths and a bound of the total, as the source of a search.
 ghost use Rattle.std.specs.Prelude.{◌≡◌, ◌^◌, ◌<◌, ◌++◌, ◌∷◌, [], length, IfOk, OnErr, OnOk, MatchBool, pos, ◌<ℤ◌, ◌≤ℤ◌, None, Some};
 ghost use Rattle.path_rows.specs.Forms.{value_at};
-ghost use Rattle.spf_ties.specs.Distances.{IsRoomFor};
+ghost use Rattle.rival_separation.specs.Askers.{IsAskerFor};
 ghost use Rattle.form_search.specs.Sources.{IsCostPoint};
 ghost use Rattle.least_total.specs.Totals.{form_of_total};
 
@@ -11,7 +11,7 @@ use cost_base::OutOfMemory;
 use cost_branching::{Begun, Rivals, keeps_conditions};
 use form_search::{Asked, FormPool, RowSource};
 use path_rows::{Problem, Row};
-use spf_ties::Room;
+use rival_separation::Asker;
 use std::alloc::Global;
 use std::marker::Model;
 
@@ -40,15 +40,20 @@ impl<'a, B: Begun> Model for Bounded<'a, B> {
 
 impl<'a, B: Begun> Bounded<'a, B> {
     /// The rivals of a problem's paths and a bound of the total, where no row is known yet.
-    pub(crate) fn new(alloc: Global, problem: &'a Problem, room: Room, most: u32) -> Bounded<'a, B>
+    pub(crate) fn new(
+        alloc: Global,
+        problem: &'a Problem,
+        asker: Asker,
+        most: u32,
+    ) -> Bounded<'a, B>
         requires problem { problem.now ≡ B.problem }
-        requires room { IsRoomFor problem.now.graph room }
+        requires asker { IsAskerFor problem.now.graph problem.now.paths asker }
         requires begun { B.rows ≡ [] }
         requires small { most < 2 ^ 26 }
         ensures { result ≡ record { known = record { problem = problem.now; rows = [] }; most = most; before = None } }
     {
         Bounded {
-            rivals: Rivals::new(problem, room, Vec::new(alloc)),
+            rivals: Rivals::new(problem, asker, Vec::new(alloc)),
             most,
             before: None,
         }

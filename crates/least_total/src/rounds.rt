@@ -8,7 +8,7 @@ use cost_base::OutOfMemory;
 use cost_branching::{Begun, keeps_conditions};
 use form_search::{FormPool, Found, search};
 use path_rows::{CostBox, CostList, Problem, Row, Tree, box_at};
-use spf_ties::Room;
+use rival_separation::Asker;
 use std::alloc::Global;
 use std::marker::Brand;
 use wide_fraction::Limits;
@@ -57,8 +57,8 @@ fn search_within<B: Begun>(
     ensures { IfOk result (IsSought problem.now limits.now.top limits.now.nodes most costs.now) }
 {
     keeps_conditions(problem);
-    let room = Room::new(alloc, &problem.graph)?;
-    let mut source = Bounded::<B>::new(alloc, problem, room, most);
+    let asker = Asker::new(alloc, &problem.graph, problem.paths.as_slice())?;
+    let mut source = Bounded::<B>::new(alloc, problem, asker, most);
     let mut pool = FormPool::new(alloc);
     let mut advisors = Vec::new(alloc);
     let found = search(alloc, &mut source, costs, limits, &mut pool, &mut advisors)?;

@@ -1,3 +1,4 @@
 pub mod Rivals
 pub mod Offers
 pub mod Answers
+pub mod Askers

@@ -5,7 +5,7 @@ use Rattle.area_graph.specs.Area.{Area, edge_at}
 use Rattle.area_graph.specs.Paths.{Ends, IsPathOf}
 use Rattle.area_graph.specs.Costs.{cost}
 use Rattle.area_graph.specs.Distances.{AreMarks}
-use Rattle.spf_ties.specs.Distances.{AreTight, Findings, IsLeastCost, IsRoomFor, distance_at, is_tight}
+use Rattle.spf_ties.specs.Distances.{AreTight, Findings, IsLeastBelow, IsRoomFor, distance_at, is_tight}
 
 -- another simple path of the request
 pub record IsRival (g : Area) (ends : Ends) (wanted es : List ℕ) : Type 0 where
@@ -18,12 +18,18 @@ pub record IsCheapest (g : Area) (p : Point) (ends : Ends) (wanted es : List ℕ
   pub cheap : cost g p es < cost g p wanted + p.scale
   pub none_less : (others : List ℕ) → IsRival g ends wanted others → cost g p es ≤ cost g p others
 
--- what a room tells after the distances to the end of a request without the edges that it takes away
-pub record IsFound (g : Area) (p : Point) (ends : Ends) (room : Findings) : Type 0 where
+-- what a room tells after the distances to the end of a request without the edges that it takes away, those below a limit
+pub record IsFound (g : Area) (p : Point) (ends : Ends) (limit : ℕ) (room : Findings) : Type 0 where
   pub room_for : IsRoomFor g room
   pub marks : AreMarks ends.gone room.marks
-  pub least : (v : ℕ) → v < length g.vertices → IsLeastCost g p (record { start = v; end = ends.end; gone = ends.gone }) (distance_at room v)
-  pub tight : (v : ℕ) (path : List ℕ) → IsPathOf g (record { start = v; end = ends.end; gone = ends.gone }) path → (distance_at room v ≡ Some (cost g p path)) ↔ AreTight g p room path
+  pub least : (v : ℕ) → v < length g.vertices → IsLeastBelow g p (record { start = v; end = ends.end; gone = ends.gone }) limit (distance_at room v)
+  pub tight : (v : ℕ) (path : List ℕ) → IsPathOf g (record { start = v; end = ends.end; gone = ends.gone }) path → cost g p path < limit → (distance_at room v ≡ Some (cost g p path)) ↔ AreTight g p room path
+
+-- so it is with a limit of at least so much
+pub record IsFoundTo (g : Area) (p : Point) (ends : Ends) (enough : ℕ) (room : Findings) : Type 0 where
+  pub limit : ℕ
+  pub above : enough ≤ limit
+  pub found : IsFound g p ends limit room
 
 -- a tight edge out of a vertex that isn't taken away
 pub record IsNext (g : Area) (p : Point) (room : Findings) (v e : ℕ) : Type 0 where

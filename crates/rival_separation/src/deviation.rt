@@ -33,7 +33,7 @@ pub fn onward(
     number: u32,
 ) -> Option<u128>
     requires fits { FitsPoint graph.now point.now }
-    requires found { IsFound graph.now point.now (ends_of request.now) room.now }
+    requires found { (limit : ℕ) × IsFound graph.now point.now (ends_of request.now) limit room.now }
     requires known { number < length graph.now.edges }
     ensures onward { MatchOption result
         ((total : ℕ) → IsOnward graph.now point.now request.now.gone room.now number total → ⊥)
@@ -63,7 +63,7 @@ fn offer(
     number: u32,
 ) -> Option<u128>
     requires fits { FitsPoint graph.now point.now }
-    requires found { IsFound graph.now point.now (ends_of request.now) room.now }
+    requires found { (limit : ℕ) × IsFound graph.now point.now (ends_of request.now) limit room.now }
     requires place { place < length request.now.path.edges }
     requires before { before ≡ cost graph.now point.now (take place request.now.path.edges) }
     requires near { before < 2 ^ 26 * point.now.scale }
@@ -109,7 +109,7 @@ fn better_at(
     best: Option<Deviation>,
 ) -> Option<Deviation>
     requires fits { FitsPoint graph.now point.now }
-    requires found { IsFound graph.now point.now (ends_of request.now) room.now }
+    requires found { (limit : ℕ) × IsFound graph.now point.now (ends_of request.now) limit room.now }
     requires path { IsPathOf graph.now (ends_of request.now) request.now.path.edges }
     requires place { place < length request.now.path.edges }
     requires before { before ≡ cost graph.now point.now (take place request.now.path.edges) }
@@ -145,7 +145,7 @@ pub(crate) fn least_deviation(
     room: &Room,
 ) -> Option<Deviation>
     requires fits { FitsPoint graph.now point.now }
-    requires found { IsFound graph.now point.now (ends_of request.now) room.now }
+    requires found { (limit : ℕ) × IsFound graph.now point.now (ends_of request.now) limit room.now }
     requires path { IsPathOf graph.now (ends_of request.now) request.now.path.edges }
     ensures { IsBest graph.now point.now request.now.gone room.now request.now.path.edges (λ place e. place < length request.now.path.edges) result }
 {

@@ -1,8 +1,10 @@
 //! The cheapest rival of a requested path at a point: the test that separates a relaxed point from what it lacks.
 #![tactic(auto)]
 
+mod asker;
 mod deviation;
 mod rival;
 
+pub use asker::Asker;
 pub use deviation::{Deviation, better, onward};
 pub use rival::{Rival, cheapest_rival, find_rival, follow, put_front};

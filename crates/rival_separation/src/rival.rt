@@ -9,7 +9,7 @@ ghost use Rattle.path_rows.specs.Problems.{ends_of};
 ghost use Rattle.spf_ties.specs.Distances.{IsRoomFor, is_tight};
 ghost use Rattle.rival_separation.specs.Answers.{IsAnswer};
 ghost use Rattle.rival_separation.specs.Offers.{IsBest};
-ghost use Rattle.rival_separation.specs.Rivals.{HasWay, IsCheapest, IsFollowed, IsFound, IsNext};
+ghost use Rattle.rival_separation.specs.Rivals.{HasWay, IsCheapest, IsFollowed, IsFound, IsFoundTo, IsNext};
 ghost use Rattle.rival_separation.specs.declared.deviation.Deviation.{Deviation};
 
 use crate::deviation::{Deviation, least_deviation};
@@ -68,7 +68,7 @@ pub fn put_front(room: &mut Room, edges: &[u32])
 /// each behind the path that the room keeps: a path of least cost. The room has the distances to that end.
 pub fn follow(graph: &Graph, request: &Request, point: &Point, start: u32, room: &mut Room)
     requires fits { FitsPoint graph.now point.now }
-    requires found { IsFound graph.now point.now (ends_of request.now) room.old }
+    requires found { (limit : ℕ) × IsFound graph.now point.now (ends_of request.now) limit room.old }
     requires way { HasWay graph.now point.now (ends_of request.now) room.old start }
     ensures room { IsRoomFor graph.now room.new }
     ensures followed { IsFollowed graph.now point.now (ends_of request.now) room.old start room.new.path }
@@ -86,12 +86,48 @@ pub fn follow(graph: &Graph, request: &Request, point: &Point, start: u32, room:
     }
 }
 
+/// What a rival costs at least where the path of a request leads by the scale: what the path costs, and the scale.
+pub(crate) fn least_lead(graph: &Graph, request: &Request, point: &Point) -> u128
+    requires fits { FitsPoint graph.now point.now }
+    requires path { IsPathOf graph.now (ends_of request.now) request.now.path.edges }
+    ensures { result ≡ cost graph.now point.now request.now.path.edges + point.now.scale }
+{
+    path_cost(graph, &request.path, point) + point.scale
+}
+
+/// The deviation of least cost from a request's path, where it costs less than the path and the scale. The room has the
+/// distances to the request's end that are below that.
+pub(crate) fn cheap_deviation(
+    graph: &Graph,
+    request: &Request,
+    point: &Point,
+    room: &Room,
+) -> Option<Deviation>
+    requires fits { FitsPoint graph.now point.now }
+    requires found { IsFoundTo graph.now point.now (ends_of request.now) (cost graph.now point.now request.now.path.edges + point.now.scale) room.now }
+    requires path { IsPathOf graph.now (ends_of request.now) request.now.path.edges }
+    ensures { MatchOption result
+        (LeadsBy point.now.scale graph.now point.now (ends_of request.now) request.now.path.edges)
+        (λ best. IsBest graph.now point.now request.now.gone room.now request.now.path.edges (λ place e. place < length request.now.path.edges) (Some best)
+        × (best.cost < cost graph.now point.now request.now.path.edges + point.now.scale)) }
+{
+    graph.keeps_conditions();
+    let best = match least_deviation(graph, request, point, room) {
+        Some(best) => best,
+        None => return None,
+    };
+    if least_lead(graph, request, point) <= best.cost {
+        return None;
+    }
+    Some(best)
+}
+
 /// Looks for the cheapest rival of a request's path at a point, and tells whether one costs less than the path and the
 /// scale. Then the path that the room keeps is such a rival, and no rival costs less. Places at which it leaves the
 /// request's path are tried from the path's start, edges out of a vertex in rising order without those that the request
 /// takes away, and the first of least cost is kept; from there on it follows the least-numbered tight edges that aren't
 /// taken away. Takes no memory, and time in proportion to the path's length times the edges out of its vertices, besides
-/// that of the distances.
+/// that of the distances, which are found only below what the path and the scale cost.
 pub fn find_rival(graph: &Graph, request: &Request, point: &Point, room: &mut Room) -> bool
     requires room { IsRoomFor graph.now room.old }
     requires fits { FitsPoint graph.now point.now }
@@ -101,24 +137,21 @@ pub fn find_rival(graph: &Graph, request: &Request, point: &Point, room: &mut Ro
         (IsCheapest graph.now point.now (ends_of request.now) request.now.path.edges room.new.path)
         (LeadsBy point.now.scale graph.now point.now (ends_of request.now) request.now.path.edges) }
 {
-    graph.keeps_conditions();
-    room.distances_without(graph, point, request.end, request.gone.as_slice());
-    let cost = path_cost(graph, &request.path, point);
-    let best = match least_deviation(graph, request, point, room) {
-        Some(best) => best,
-        None => return false,
-    };
-    if cost + point.scale <= best.cost {
-        return false;
+    let limit = least_lead(graph, request, point);
+    room.distances_within(graph, point, request.end, request.gone.as_slice(), limit);
+    match cheap_deviation(graph, request, point, room) {
+        Some(best) => {
+            lay_out(graph, request, point, best, room);
+            true
+        }
+        None => false,
     }
-    lay_out(graph, request, point, best, room);
-    true
 }
 
 /// Makes the path that the room keeps the cheapest rival: up to the place of the best deviation it is the request's path.
 fn lay_out(graph: &Graph, request: &Request, point: &Point, best: Deviation, room: &mut Room)
     requires fits { FitsPoint graph.now point.now }
-    requires found { IsFound graph.now point.now (ends_of request.now) room.old }
+    requires found { IsFoundTo graph.now point.now (ends_of request.now) (cost graph.now point.now request.now.path.edges + point.now.scale) room.old }
     requires path { IsPathOf graph.now (ends_of request.now) request.now.path.edges }
     requires best { IsBest graph.now point.now request.now.gone room.old request.now.path.edges (λ place e. place < length request.now.path.edges) (Some best) }
     requires cheap { best.cost < cost graph.now point.now request.now.path.edges + point.now.scale }

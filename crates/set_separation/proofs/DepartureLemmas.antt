@@ -2,7 +2,7 @@
 use Rattle.std.proofs.Common.{◌≡◌, ◌≢◌, ℕ, zero, suc, ◌+◌, ◌*◌, ◌^◌, ◌<◌, ◌≤◌, refl, sym, ◌∙◌, ap, subst, inl, inr, ◌⊎◌, List, [], ◌∷◌, ◌++◌, length, get_or, arith, append_assoc, length-append, add-one, Bool, true, false}
 use Rattle.std.specs.Prelude.{All, Contains, slice_index}
 use Rattle.std.specs.List.{list_any}
-use Rattle.std.proofs.lemmas.Bool.{eq-eqb, false≢true}
+use Rattle.std.proofs.lemmas.Bool.{cases_lt, eq-eqb, false≢true}
 use Rattle.std.proofs.lemmas.Option.{same_Some}
 use Rattle.std.proofs.lemmas.List.{append-nil, get_or_default}
 use Rattle.std.proofs.lemmas.List.Elements.{All-contains}
@@ -176,7 +176,7 @@ record Departed (g : Area) (p : Point) (ends : Ends) (room : Findings) (steps : 
   departs : Departs g p ends room steps costs place edge total
   within : total ≤ most
 
-module _ (g : Area) (p : Point) (ends : Ends) (room : Findings) (wanted : List (List ℕ)) (steps : List Step) (costs : List ℕ) (graph : FitsGraph g) (found : IsFound g p ends room) (tree : IsTreeOf g ends wanted steps) (are : ArePlaceCosts g p steps (length steps) costs) where
+module _ (g : Area) (p : Point) (ends : Ends) (limit : ℕ) (room : Findings) (wanted : List (List ℕ)) (steps : List Step) (costs : List ℕ) (graph : FitsGraph g) (found : IsFound g p ends limit room) (tree : IsTreeOf g ends wanted steps) (are : ArePlaceCosts g p steps (length steps) costs) where
   abbrev place_prefix : ℕ → List ℕ
   place_prefix k = prefix_at tree.grown.prefixes k
 
@@ -200,14 +200,14 @@ module _ (g : Area) (p : Point) (ends : Ends) (room : Findings) (wanted : List (
           let once = once_behind g ends.start (place_prefix k) (e ∷ more) ends.end (subst (λ (v : ℕ). Joins g ends.start (place_prefix k) v) at_end parts.before) whole.simple.none_twice in
           absurd (ends_visited g (edge_at g e).to more ends.end behind.2 once.0)
 
-  leaves : (q : List ℕ) → IsOutsider g ends wanted q → (k : ℕ) → k ≤ length steps → (rest : List ℕ) → q ≡ place_prefix k ++ rest → Departed g p ends room steps costs (cost g p q)
-  leaves q outsider k known [] same =
+  leaves : (q : List ℕ) → IsOutsider g ends wanted q → cost g p q < limit → (k : ℕ) → k ≤ length steps → (rest : List ℕ) → q ≡ place_prefix k ++ rest → Departed g p ends room steps costs (cost g p q)
+  leaves q outsider near k known [] same =
       absurd (All-contains (λ w. q ≢ w) wanted q outsider.other (ended q outsider.path k known (same ∙ append-nil (place_prefix k))) refl)
-  leaves q outsider k known (e ∷ rest) same = elim (has_or_lacks steps k e) [
+  leaves q outsider near k known (e ∷ rest) same = elim (has_or_lacks steps k e) [
     | inl has ↦ (
         let within = has.1.within in
         let grown = tree.grown.grown has.0 has.1.within ∙ ap (λ (n : ℕ). place_prefix n ++ (step_at steps has.0).edge ∷ []) has.1.from ∙ ap (λ (n : ℕ). place_prefix k ++ n ∷ []) has.1.by in
-        leaves q outsider (has.0 + 1) (omega arith) rest (same ∙ sym (append_assoc (place_prefix k) (e ∷ []) rest) ∙ ap (λ (es : List ℕ). es ++ rest) (sym grown)))
+        leaves q outsider near (has.0 + 1) (omega arith) rest (same ∙ sym (append_assoc (place_prefix k) (e ∷ []) rest) ∙ ap (λ (es : List ℕ). es ++ rest) (sym grown)))
     | inr none ↦ (
         let path = subst (IsPathOf g ends) same outsider.path in
         let parts = cut g ends.start (place_prefix k) (e ∷ rest) ends.end path.simple.joins in
@@ -215,10 +215,10 @@ module _ (g : Area) (p : Point) (ends : Ends) (room : Findings) (wanted : List (
         let once = once_behind g ends.start (place_prefix k) (e ∷ rest) parts.at_vertex parts.before path.simple.none_twice in
         let kept = avoids_back ends.gone (place_prefix k) (e ∷ rest) path.kept in
         let edge : FitsEdge g (edge_at g e) = graph.edges e no_edge parts.behind.0 in
-        let some = some_least g p (ends_from ends (edge_at g e).to) (distance_at room (edge_at g e).to) (found.least (edge_at g e).to edge.to) rest
-        (record { simple = record { start = edge.to; end = path.simple.end; joins = parts.behind.2; none_twice = once.1 }; kept = kept.1 }) in
         let split = ap (cost g p) same ∙ sum_by-append (λ i. price_at p (edge_at g i).price) (place_prefix k) (e ∷ rest) in
         let longer = sum_by-cons (λ i. price_at p (edge_at g i).price) e rest in
+        let some = some_least g p (ends_from ends (edge_at g e).to) limit (distance_at room (edge_at g e).to) (found.least (edge_at g e).to edge.to) rest
+        (record { simple = record { start = edge.to; end = path.simple.end; joins = parts.behind.2; none_twice = once.1 }; kept = kept.1 }) (omega arith) in
         let here = prefix_cost g ends wanted steps tree p costs (length steps) (omega arith) are k k (omega arith) known in
         let most = some.within in
         record {
@@ -238,18 +238,22 @@ module _ (g : Area) (p : Point) (ends : Ends) (room : Findings) (wanted : List (
         })
   ]
 
-  -- no outsider costs less than every departure
-  pub outsiders_above : (most : ℕ) → ((k e total : ℕ) → Departs g p ends room steps costs k e total → most ≤ total) → CostAtLeast g p ends wanted most
-  outsiders_above most above = λ q outsider.
-      let departed = leaves q outsider 0 (omega arith) q (ap (λ (es : List ℕ). es ++ q) (sym tree.grown.root)) in
-      let least = above departed.place departed.edge departed.total departed.departs in
-      let within = departed.within in
-      omega arith
+  -- no outsider costs less than every departure, where that is within the limit
+  pub outsiders_above : (most : ℕ) → most ≤ limit → ((k e total : ℕ) → Departs g p ends room steps costs k e total → most ≤ total) → CostAtLeast g p ends wanted most
+  outsiders_above most far above = λ q outsider. elim (cases_lt (cost g p q) limit) [
+    | inl near ↦ (
+        let departed = leaves q outsider near 0 (omega arith) q (ap (λ (es : List ℕ). es ++ q) (sym tree.grown.root)) in
+        let least = above departed.place departed.edge departed.total departed.departs in
+        let within = departed.within in
+        omega arith)
+    | inr beyond ↦ omega arith
+  ]
 
-  module _ (most place e total : ℕ) (fits : FitsPoint g p) (tied : All (λ w. cost g p w ≡ most) wanted) (departs : Departs g p ends room steps costs place e total) (best : (k i other : ℕ) → Departs g p ends room steps costs k i other → total ≤ other) (cheap : total < most + p.scale) where
+  module _ (most place e total : ℕ) (fits : FitsPoint g p) (tied : All (λ w. cost g p w ≡ most) wanted) (departs : Departs g p ends room steps costs place e total) (best : (k i other : ℕ) → Departs g p ends room steps costs k i other → total ≤ other) (cheap : total < most + p.scale) (far : most + p.scale ≤ limit) where
     -- the best departure, where it is cheap, makes with any path of least cost a cheapest outsider
     pub cheapest_by : (rest : List ℕ) → IsPathOf g (ends_from ends (edge_at g e).to) rest → cost g p rest ≡ departs.onward.rest → IsCheapestOutsider g p ends wanted (most + p.scale) (place_prefix place ++ e ∷ rest)
     cheapest_by rest path costs_so =
+        let within : total ≤ limit = omega arith in
         let front = place_prefix place in
         let start = place_joins g ends wanted steps tree place departs.within in
         let joins = join g ends.start front (e ∷ rest) (vertex_of g ends steps place) ends.end start (departs.known, departs.from, path.simple.joins) in
@@ -267,7 +271,7 @@ module _ (g : Area) (p : Point) (ends : Ends) (room : Findings) (wanted : List (
           path = record { simple = record { start = start_known; end = path.simple.end; joins = simple.joins; none_twice = simple.none_twice }; kept = simple.kept };
           other = λ k d k_in same. (let costs_same = ap (cost g p) same in let all = tied k d k_in in omega (arith, whole, cheap, less, fits.scale));
         } in
-        let above = outsiders_above total best simple.edges outsider in
+        let above = outsiders_above total within best simple.edges outsider in
         omega (arith, whole, less, above, fits.scale)) in
         let once : NoneTwice (visited g ends.start (front ++ e ∷ rest)) = elim simple.same_or_less [
           | inl same ↦ subst (λ (es : List ℕ). NoneTwice (visited g ends.start es)) same simple.none_twice
@@ -279,7 +283,7 @@ module _ (g : Area) (p : Point) (ends : Ends) (room : Findings) (wanted : List (
             other = λ k d k_in same. departs.other (tree.grown.passed (get_or wanted k d) (k, k_in, get_or_default wanted k _ d k_in) place e rest departs.within (sym same));
           };
           cheap = omega (arith, whole, cheap);
-          none_less = λ others outsider. (let above = outsiders_above total best others outsider in omega (arith, whole, above));
+          none_less = λ others outsider. (let above = outsiders_above total within best others outsider in omega (arith, whole, above));
         }
 
     -- so there is a way on from the departure's edge, behind the place's prefix and that edge

@@ -61,7 +61,7 @@ fn departure(
     number: u32,
 ) -> Option<u128>
     requires fits { FitsPoint graph.now point.now }
-    requires found { IsFound graph.now point.now (ends_of request.now) room.now }
+    requires found { (limit : ℕ) × IsFound graph.now point.now (ends_of request.now) limit room.now }
     requires tree { (wanted : List (List ℕ)) × IsTreeOf graph.now (ends_of request.now) wanted tree.now }
     requires costs { ArePlaceCosts graph.now point.now tree.now (length tree.now) costs.now }
     requires place { place ≤ length tree.now }
@@ -93,7 +93,7 @@ fn best_at(
     best: Option<Deviation>,
 ) -> Option<Deviation>
     requires fits { FitsPoint graph.now point.now }
-    requires found { IsFound graph.now point.now (ends_of request.now) room.now }
+    requires found { (limit : ℕ) × IsFound graph.now point.now (ends_of request.now) limit room.now }
     requires tree { (wanted : List (List ℕ)) × IsTreeOf graph.now (ends_of request.now) wanted tree.now }
     requires costs { ArePlaceCosts graph.now point.now tree.now (length tree.now) costs.now }
     requires place { place ≤ length tree.now }
@@ -129,7 +129,7 @@ pub(crate) fn least_departure(
     costs: &[u128],
 ) -> Option<Deviation>
     requires fits { FitsPoint graph.now point.now }
-    requires found { IsFound graph.now point.now (ends_of request.now) room.now }
+    requires found { (limit : ℕ) × IsFound graph.now point.now (ends_of request.now) limit room.now }
     requires tree { (wanted : List (List ℕ)) × IsTreeOf graph.now (ends_of request.now) wanted tree.now }
     requires costs { ArePlaceCosts graph.now point.now tree.now (length tree.now) costs.now }
     ensures { IsBestOf (Departs graph.now point.now (ends_of request.now) room.now tree.now costs.now) (λ place e. place ≤ length tree.now) result }

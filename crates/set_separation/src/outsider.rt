@@ -5,7 +5,7 @@ ghost use Rattle.area_graph.specs.Costs.{FitsPoint, cost};
 ghost use Rattle.area_graph.specs.Paths.{IsPathOf};
 ghost use Rattle.path_rows.specs.Problems.{ends_of};
 ghost use Rattle.rival_separation.specs.Offers.{IsBestOf};
-ghost use Rattle.rival_separation.specs.Rivals.{IsFound};
+ghost use Rattle.rival_separation.specs.Rivals.{IsFoundTo};
 ghost use Rattle.rival_separation.specs.declared.deviation.Deviation.{Deviation};
 ghost use Rattle.spf_ties.specs.Distances.{IsRoomFor};
 ghost use Rattle.set_separation.specs.Departures.{ArePlaceCosts, Departs, IsTiedTree};
@@ -47,7 +47,7 @@ fn lay_out(
     room: &mut Room,
 )
     requires fits { FitsPoint graph.now point.now }
-    requires found { IsFound graph.now point.now (ends_of request.now) room.old }
+    requires found { IsFoundTo graph.now point.now (ends_of request.now) (cost graph.now point.now request.now.path.edges + point.now.scale) room.old }
     requires tree { (wanted : List (List ℕ)) × IsTiedTree graph.now point.now (ends_of request.now) (cost graph.now point.now request.now.path.edges) wanted tree.now }
     requires costs { ArePlaceCosts graph.now point.now tree.now (length tree.now) costs.now }
     requires best { IsBestOf (Departs graph.now point.now (ends_of request.now) room.old tree.now costs.now) (λ place e. place ≤ length tree.now) (Some best) }
@@ -87,14 +87,14 @@ pub fn find_outsider(
         (CostAtLeast graph.now point.now (ends_of request.now) wanted (cost graph.now point.now request.now.path.edges + point.now.scale)) }
 {
     graph.keeps_conditions();
-    room.distances_without(graph, point, request.end, request.gone.as_slice());
+    let limit = path_cost(graph, &request.path, point) + point.scale;
+    room.distances_within(graph, point, request.end, request.gone.as_slice(), limit);
     put_place_costs(graph, request, point, tree, costs);
-    let cost = path_cost(graph, &request.path, point);
     let best = match least_departure(graph, request, point, room, tree, costs) {
         Some(best) => best,
         None => return false,
     };
-    if cost + point.scale <= best.cost {
+    if limit <= best.cost {
         return false;
     }
     lay_out(graph, request, point, tree, costs, best, room);

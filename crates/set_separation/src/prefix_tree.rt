@@ -87,7 +87,8 @@ impl PrefixTree {
     ///
     /// `OutOfMemory`. Then the tree may have some of the path's prefixes.
     pub fn insert(&mut self, edges: &[u32]) -> Result<(), OutOfMemory>
-        ensures { OnOk result ((wanted done : List (List ℕ)) → Contains wanted edges.now → IsGrown wanted done self.old → IsGrown wanted (done ++ edges.now ∷ []) self.new) }
+        ensures { OnOk result ((wanted done : List (List ℕ)) → Contains wanted edges.now → IsGrown wanted done self.old →
+            IsGrown wanted (done ++ edges.now ∷ []) self.new) }
     {
         let mut place = 0;
         for edge in edges {

@@ -7,7 +7,8 @@ use Rattle.cost_base.specs.Lists.{numbers_from}
 use Rattle.cost_base.proofs.ListLemmas.{numbers_from-push}
 use Rattle.path_rows.specs.Problems.{DesignProblem}
 use Rattle.set_separation.specs.declared.prefix_tree.Step.{Step}
-use Rattle.set_separation.specs.PrefixTrees.{Begins, IsGrown, prefix_at}
+use Rattle.set_separation.specs.PrefixTrees.{IsGrown}
+use Rattle.set_separation.proofs.GrownTrees.{grown_first}
 use Rattle.spread_sets.specs.Spreads.{edges_of, is_first, paths_of, set_of}
 use Rattle.spread_sets.specs.declared.member_sets.MemberSet.{MemberSet}
 use Rattle.spread_sets.specs.MemberSets.{HasTree, IsMemberSet, sets_in}
@@ -36,21 +37,6 @@ sets_more lines path now new same is =
     ∙ sym (map-append (set_of lines) (filter (is_first lines) (numbers_from 0 path)) (filter (is_first lines) (path ∷ [])))
     ∙ ap (map (set_of lines)) (sym (filter-append (is_first lines) (numbers_from 0 path) (path ∷ [])))
     ∙ ap (λ (xs : List ℕ). map (set_of lines) (filter (is_first lines) xs)) (sym (numbers_more path))
-
--- The tree of the empty prefix alone.
-pub grown_first : (wanted : List (List ℕ)) (path : List ℕ) → Contains wanted path → IsGrown wanted [] []
-grown_first wanted path has = record {
-  prefixes = [] ∷ [];
-  count = refl;
-  root = refl;
-  before = λ i i_in. absurd (omega arith);
-  grown = λ i i_in. absurd (omega arith);
-  different = λ k l k_in l_in same. omega arith;
-  begun = λ k k_in.
-      let none : k ≡ 0 = omega arith in
-      subst (λ (n : ℕ). Begins wanted (prefix_at ([] ∷ []) n)) (sym none) (record { path = path; listed = has; more = path; same = refl });
-  passed = λ done listed. absurd (omega (arith, listed.1));
-}
 
 -- the first members' paths and one more
 pub paths_more : (p : DesignProblem) (members : List ℕ) (k : ℕ) → k < length members → paths_of p (take k members) ++ edges_of p (get_or members k 0) ∷ [] ≡ paths_of p (take (k + 1) members)

@@ -15,7 +15,7 @@ use Rattle.path_rows.specs.declared.tree.Entry.{Entry}
 use Rattle.path_rows.specs.declared.tree.Entry.TheVariants.{Undone}
 use Rattle.path_rows.specs.Problems.{DesignProblem, IsProblem, ends_of, request_at}
 use Rattle.path_rows.specs.Forms.{Form, Meets, form_at, no_form, value}
-use Rattle.path_rows.specs.Boxes.{IsBox, IsInBox}
+use Rattle.path_rows.specs.Boxes.{IsInBox}
 use Rattle.path_rows.specs.Rows.{IsRivalOf, IsRouteOf, IsRow, box_of}
 use Rattle.path_rows.specs.Trees.{IsClosed, IsSoundTree, entry_count}
 use Rattle.path_rows.specs.Answers.{greatest_bound}
@@ -31,7 +31,7 @@ use Rattle.cost_branching.proofs.Caps.{uncapped}
 use Rattle.printed_rows.specs.NamedRows.{NamesBelow, is_named}
 use Rattle.printed_rows.specs.NewNumbers.{IsPrinted}
 use Rattle.printed_rows.proofs.AnswerLines.{trees_short, two_words}
-use Rattle.printed_rows.proofs.CapBoxes.{cost_bounds, floor_below_ceiling}
+use Rattle.printed_rows.proofs.CapBoxes.{bounds_box, cost_bounds, floor_below_ceiling}
 use Rattle.printed_rows.proofs.RowLines.{rows_short}
 use Rattle.printed_rows.proofs.TreeCopies.{IsCopy, all_printed, copy_closed, copy_printable, copy_printed, copy_spent, printed_copy, search_names}
 use Rattle.printed_rows.proofs.TreeLines.{IsPrintable, row_digits, spaced-le, thing_digits}
@@ -187,21 +187,9 @@ found_fit p sets w inside each = record { within = uncapped (box_of p) (greatest
 
 -- A large budget settles it.
 
-whole_box_kept : (p : DesignProblem) → IsProblem p → IsBox (length p.low) (whole_box p)
-whole_box_kept p kept = record {
-  low_count = refl;
-  high_count = length-map p.high (λ h. min h (greatest_bound p)) ∙ sym kept.low_count;
-  ordered = λ k within.
-      let inside : k < length p.high = omega (arith, kept.low_count) in
-      let cut = get_or-map (λ h. min h (greatest_bound p)) p.high k 0 0 inside in
-      let most : slice_index p.high k ≤ greatest_bound p = le_greatest p.high k inside in
-      let bounds = kept.ordered k within in
-      omega (arith, bounds.1);
-}
-
 pub large_settle : LargeBudgetsSettle
 large_settle p lines top nodes (Fit w) kept enough found = tt
 large_settle p lines top nodes (Impossible rows tree) kept enough found = tt
 large_settle p lines top nodes (Unknown rows tree) kept enough found =
-    let few = (few_entries (length p.low) (forms_of_set_rows p rows.items) (whole_box p) tree (whole_box_kept p kept) found.spent.printed.earnest.sound).unfinished found.spent.undone in
+    let few = (few_entries (length p.low) (forms_of_set_rows p rows.items) (whole_box p) tree (bounds_box p kept) found.spent.printed.earnest.sound).unfinished found.spent.undone in
     absurd (omega (arith, few, enough, found.spent.spent))

@@ -18,10 +18,11 @@ use Rattle.set_separation.specs.Departures.{IsTiedTree}
 use Rattle.set_separation.specs.Outsiders.{CostAtLeast, IsCheapestOutsider}
 use Rattle.set_separation.specs.PrefixTrees.{IsTreeOf}
 use Rattle.spread_sets.specs.declared.member_sets.MemberSet.{MemberSet}
+use Rattle.spread_sets.specs.declared.spread.SetRow.{SetRow}
 use Rattle.spread_sets.specs.declared.spread.SetRow.TheVariants.{Rival}
 use Rattle.spread_sets.specs.Spreads.{AreTied, Shares, cost_in, edges_of, ends_in, first_of, form_of_set_row, paths_of}
 use Rattle.spread_sets.specs.MemberSets.{AreMemberSets, HasTree, IsMemberSet, IsReady, sets_in}
-use Rattle.spread_sets.specs.Sources.{IsDearer, IsTooCheap, set_at}
+use Rattle.spread_sets.specs.Sources.{IsDearer, IsTooCheap, KnownSets, set_at}
 use Rattle.spread_sets.specs.SourceLaws.{first_listed, member_known, member_path}
 use Rattle.spread_sets.proofs.SetLaws.{listed_at}
 use Rattle.spread_sets.proofs.AskedSets.{too_cheap_not}
@@ -122,3 +123,24 @@ pub room_new : (g h : Area) (room : Findings) → h ≡ g → room ≡ record { 
 room_new g h room same is =
     subst (λ (a : Area). IsRoomFor a room) same
     (subst (IsRoomFor h) (sym is) (record { vertices = length-replicate (length h.vertices) None; edges = length-replicate (length h.edges) false }))
+
+-- what is known of the row that is made of a rival of a set
+pub record IsRivalRow (p : DesignProblem) (point : Point) (set : List ℕ) (row : Row) : Type 0 where
+  pub name : row.request ≡ first_of set
+  pub cheap : IsTooCheap p point set row.rival.edges
+  pub route : IsRouteOf p.graph (slice_get p.paths row.request) row.rival.edges
+
+-- the row of the path that was found for the set that code has read at a place
+pub rival_row : (p : DesignProblem) (sets : List MemberSet) (rows : List SetRow) (s : KnownSets) (place : ℕ) (point : Point) (m : MemberSet) (path : List ℕ) (row : Row) → record { problem = p; sets = sets_in sets; rows = rows } ≡ s → place < length s.sets → AreMemberSets s.problem s.sets →
+    m ≡ get_or sets place m → IsTooCheap p point m.members path → row.request ≡ first_of m.members → row.rival.edges ≡ path → IsRivalRow p point (set_at (sets_in sets) place) row
+rival_row p sets rows s place point m path row view inside are is cheap request edges =
+    let here : place < length (sets_in sets) = subst (λ (k : KnownSets). place < length k.sets) (sym view) inside in
+    let members : AreMemberSets p (sets_in sets) = subst (λ (k : KnownSets). AreMemberSets k.problem k.sets) (sym view) are in
+    let set : m.members ≡ set_at (sets_in sets) place = indexed sets place m here is in
+    let name : row.request ≡ first_of (set_at (sets_in sets) place) = request ∙ ap first_of set in
+    let rival = cheap_as p p (set_at (sets_in sets) place) m.members path row.rival.edges point refl set edges cheap in
+    record {
+      name = name;
+      cheap = rival;
+      route = cheap_route p point (set_at (sets_in sets) place) row.rival.edges row.request (members place [] here) rival name;
+    }

@@ -62,7 +62,8 @@ fn answered(
     sought: Sought,
 ) -> Result<Spread, OutOfMemory>
     requires ceiling { greatest_bound problem.now ≤ 65535 }
-    requires sought { (sets : List (List ℕ)) × AreMemberSets problem.now sets × IsSought problem.now sets limits.now.top limits.now.nodes (whole_box problem.now) sought }
+    requires sought { (sets : List (List ℕ)) × AreMemberSets problem.now sets ×
+        IsSought problem.now sets limits.now.top limits.now.nodes (whole_box problem.now) sought }
     ensures { (sets : List (List ℕ)) → AreMemberSets problem.now sets → IsSought problem.now sets limits.now.top limits.now.nodes (whole_box problem.now) sought
         → IfOk result (IsFoundOf problem.now sets limits.now.top limits.now.nodes) }
 {

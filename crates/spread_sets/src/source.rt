@@ -263,7 +263,8 @@ impl<'a, B: Begun> Spreads<'a, B> {
         requires first { Contains (set_at self.old.sets place) first }
         requires second { Contains (set_at self.old.sets place) second }
         ensures rows { OnOk result (self.new ≡ record self.old { rows = self.old.rows ++ both_ways (first_of (set_at self.old.sets place)) first second }) }
-        ensures forms { OnOk result (pool.new ≡ pool.old ++ forms_of_set_rows self.old.problem (both_ways (first_of (set_at self.old.sets place)) first second)) }
+        ensures forms { OnOk result (pool.new ≡ pool.old ++ forms_of_set_rows self.old.problem
+            (both_ways (first_of (set_at self.old.sets place)) first second)) }
     {
         self.push_tie(alloc, place, first, second, pool)?;
         self.push_tie(alloc, place, second, first, pool)?;
@@ -335,7 +336,8 @@ impl<'a, B: Begun> Spreads<'a, B> {
         requires point { IsCostPoint (length self.old.problem.low) point.now }
         requires place { place < length self.old.sets }
         ensures same { self.new ≡ self.old }
-        ensures answer { MatchBool result (Shares self.old.problem point.now (set_at self.old.sets place)) (Shares self.old.problem point.now (set_at self.old.sets place) → ⊥) }
+        ensures answer { MatchBool result (Shares self.old.problem point.now (set_at self.old.sets place))
+            (Shares self.old.problem point.now (set_at self.old.sets place) → ⊥) }
     {
         let set = &self.sets[place];
         if !cost_the_same(self.problem, set.members.as_slice(), point) {

@@ -7,8 +7,8 @@ use Rattle.cost_branching.specs.Rivals.{IsTrueOf, KnownRows}
 use Rattle.cost_branching.proofs.Caps.{pool_as, pool_true}
 use Rattle.cost_branching.proofs.one_cap.search_rivals.Goals as goal
 
-pub returns-in_err-room-clause-advisors : goal.returns-in_err-room-clause-advisors
-returns-in_err-room-clause-advisors g c = left_alike _ _ _ refl
+pub returns-in_err-asker-clause-advisors : goal.returns-in_err-asker-clause-advisors
+returns-in_err-asker-clause-advisors g c = left_alike _ _ _ refl
 
 pub search-found-requires-clause-true_forms : goal.search-found-requires-clause-true_forms
 search-found-requires-clause-true_forms g c =

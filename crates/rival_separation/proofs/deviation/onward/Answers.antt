@@ -15,8 +15,8 @@ overflow_add-result c =
     let most = price-le g p (edge_at g c.args.number).price c.requires.fits (c.keeps_conditions.ensures.metrics c.args.number no_edge c.requires.known) (c.requires.fits.priced c.args.number no_edge c.requires.known) in
     let edge = c.keeps_conditions.ensures.fits.edges c.args.number no_edge c.requires.known in
     let distance : distance_at c.args.room.now (edge_at g c.args.number).to ≡ Some c.in-Some.rest = ap (λ (edge : Edge). distance_at c.args.room.now edge.to) (sym c.edge_of-edge.ensures) ∙ sym c.in-Some.ensures in
-    let below = least_below g p (record { start = (edge_at g c.args.number).to; end = c.args.request.now.end; gone = c.args.request.now.gone }) (distance_at c.args.room.now (edge_at g c.args.number).to) c.in-Some.rest
-    c.keeps_conditions.ensures.fits c.keeps_conditions.ensures.metrics c.requires.fits (c.requires.found.least (edge_at g c.args.number).to edge.to) distance in
+    let below = least_below g p (record { start = (edge_at g c.args.number).to; end = c.args.request.now.end; gone = c.args.request.now.gone }) c.requires.found.0 (distance_at c.args.room.now (edge_at g c.args.number).to) c.in-Some.rest
+    c.keeps_conditions.ensures.fits c.keeps_conditions.ensures.metrics c.requires.fits (c.requires.found.1.least (edge_at g c.args.number).to edge.to) distance in
     let scale = c.requires.fits.scale_below in
     omega arith
 
@@ -28,7 +28,7 @@ returns-in-Some-clause-below c =
     let most = price-le g p (edge_at g c.args.number).price c.requires.fits (c.keeps_conditions.ensures.metrics c.args.number no_edge c.requires.known) (c.requires.fits.priced c.args.number no_edge c.requires.known) in
     let edge = c.keeps_conditions.ensures.fits.edges c.args.number no_edge c.requires.known in
     let distance : distance_at c.args.room.now (edge_at g c.args.number).to ≡ Some c.in-Some.rest = ap (λ (edge : Edge). distance_at c.args.room.now edge.to) (sym c.edge_of-edge.ensures) ∙ sym c.in-Some.ensures in
-    let below = least_below g p (record { start = (edge_at g c.args.number).to; end = c.args.request.now.end; gone = c.args.request.now.gone }) (distance_at c.args.room.now (edge_at g c.args.number).to) c.in-Some.rest
-    c.keeps_conditions.ensures.fits c.keeps_conditions.ensures.metrics c.requires.fits (c.requires.found.least (edge_at g c.args.number).to edge.to) distance in
+    let below = least_below g p (record { start = (edge_at g c.args.number).to; end = c.args.request.now.end; gone = c.args.request.now.gone }) c.requires.found.0 (distance_at c.args.room.now (edge_at g c.args.number).to) c.in-Some.rest
+    c.keeps_conditions.ensures.fits c.keeps_conditions.ensures.metrics c.requires.fits (c.requires.found.1.least (edge_at g c.args.number).to edge.to) distance in
     let scale = c.requires.fits.scale_below in
     omega arith

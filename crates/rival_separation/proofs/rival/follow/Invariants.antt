@@ -1,4 +1,4 @@
-use Rattle.std.proofs.Common.{◌-◌, length}
+use Rattle.std.proofs.Common.{◌-◌, ℕ, length}
 use Rattle.path_rows.specs.Problems.{ends_of}
 use Rattle.rival_separation.specs.Rivals.{Completes, IsFound}
 use Rattle.rival_separation.proofs.RivalLemmas.{IsWay}
@@ -6,7 +6,7 @@ use Rattle.rival_separation.proofs.rival.follow.Given as goal
 
 abbrev pub invariant-loop-at : goal.invariant-loop-at
 invariant-loop-at l = record {
-  found : IsFound l.graph l.point (ends_of l.request) l.room;
+  found : (limit : ℕ) × IsFound l.graph l.point (ends_of l.request) limit l.room;
   so_far : Completes l.graph l.point (ends_of l.request) l.room (IsWay l.graph l.point (ends_of l.request) l.fn.room l.start) l.room.path l.at;
 }
 

@@ -1,14 +1,13 @@
 use Rattle.std.proofs.Common.{rules, ◌≡◌, ◌<◌, ◌∙◌, ℕ, List, [], ◌∷◌, ◌++◌, refl, sym, subst, ap, length}
 use Rattle.path_rows.specs.Forms.{Form}
 use Rattle.path_rows.specs.Problems.{DesignProblem}
-use Rattle.path_rows.specs.Rows.{HasRoute}
 use Rattle.spread_sets.specs.declared.spread.SetRow.TheVariants.{Rival}
 use Rattle.spread_sets.specs.Spreads.{AreTied, first_of, form_of_set_row}
 use Rattle.spread_sets.specs.MemberSets.{AreMemberSets, sets_in}
 use Rattle.spread_sets.specs.Sources.{KnownSets, set_at}
 use Rattle.spread_sets.specs.Asking.{OneRow}
 use Rattle.cost_branching.specs.Rivals.{IsKept}
-use Rattle.spread_sets.proofs.Separations.{cheap_as, cheap_route, indexed, row_form}
+use Rattle.spread_sets.proofs.Separations.{indexed, rival_row, row_form}
 use Rattle.spread_sets.proofs.source.Spreads.ask_one.Goals as goal
 
 pub is_beaten-requires-clause-tied : goal.is_beaten-requires-clause-tied
@@ -22,53 +21,29 @@ is_beaten-requires-clause-tied g c =
 
 pub form_of-requires : goal.form_of-requires
 form_of-requires g c =
-    let q = c.self.inside.problem.now in
-    let place = c.args.place in
-    let members = c.index-set.result.now.members in
-    let sets = sets_in c.self.inside.sets.items in
-    let set : members ≡ set_at sets place = indexed c.self.inside.sets.items place c.index-set.result.now (subst (λ (s : KnownSets). place < length s.sets) (sym c.self.view_is) c.requires.place) c.index-set.ensures in
-    let row = c.in_ok-row.row in
-    let name : row.request ≡ first_of (set_at sets place) = c.in_ok-row.ensures.request ∙ c.first_of-name.ensures ∙ ap first_of (c.as_slice.ensures ∙ set) in
-    let inside = subst (λ (s : KnownSets). place < length s.sets) (sym c.self.view_is) c.requires.place in
-    let are = subst (λ (s : KnownSets). AreMemberSets s.problem s.sets) (sym c.self.view_is) c.keeps.ensures.sets in
-    let is = are place [] inside in
-    let cheap = cheap_as q q (set_at sets place) members c.is_beaten.new.room.path row.rival.edges c.args.point.now refl set (c.in_ok-row.ensures.edges ∙ c.path.ensures) c.if-not-is_beaten.ensures.rival in
-    cheap_route q c.args.point.now (set_at sets place) row.rival.edges row.request is cheap name
+    (rival_row c.self.inside.problem.now c.self.inside.sets.items c.self.inside.rows.items _ c.args.place c.args.point.now c.index-set.result.now c.is_beaten.new.room.path c.in_ok-row.row c.self.view_is c.requires.place c.keeps.ensures.sets
+    c.index-set.ensures c.if-not-is_beaten.ensures.rival (c.in_ok-row.ensures.request ∙ c.first_of-name.ensures ∙ ap first_of c.as_slice.ensures) (c.in_ok-row.ensures.edges ∙ c.path.ensures)).route
 
 pub push_row-requires : goal.push_row-requires
 push_row-requires g c =
-    let q = c.self.inside.problem.now in
-    let place = c.args.place in
-    let members = c.index-set.result.now.members in
-    let sets = sets_in c.self.inside.sets.items in
-    let set : members ≡ set_at sets place = indexed c.self.inside.sets.items place c.index-set.result.now (subst (λ (s : KnownSets). place < length s.sets) (sym c.self.view_is) c.requires.place) c.index-set.ensures in
-    let row = c.in_ok-row.row in
-    let name : row.request ≡ first_of (set_at sets place) = c.in_ok-row.ensures.request ∙ c.first_of-name.ensures ∙ ap first_of (c.as_slice.ensures ∙ set) in
-    let inside = subst (λ (s : KnownSets). place < length s.sets) (sym c.self.view_is) c.requires.place in
-    let are = subst (λ (s : KnownSets). AreMemberSets s.problem s.sets) (sym c.self.view_is) c.keeps.ensures.sets in
-    let is = are place [] inside in
-    let cheap = cheap_as q q (set_at sets place) members c.is_beaten.new.room.path row.rival.edges c.args.point.now refl set (c.in_ok-row.ensures.edges ∙ c.path.ensures) c.if-not-is_beaten.ensures.rival in
-    c.in_ok-form.ensures.form ∙ row_form q row (cheap_route q c.args.point.now (set_at sets place) row.rival.edges row.request is cheap name)
+    let found = rival_row c.self.inside.problem.now c.self.inside.sets.items c.self.inside.rows.items _ c.args.place c.args.point.now c.index-set.result.now c.is_beaten.new.room.path c.in_ok-row.row c.self.view_is c.requires.place c.keeps.ensures.sets
+    c.index-set.ensures c.if-not-is_beaten.ensures.rival (c.in_ok-row.ensures.request ∙ c.first_of-name.ensures ∙ ap first_of c.as_slice.ensures) (c.in_ok-row.ensures.edges ∙ c.path.ensures) in
+    c.in_ok-form.ensures.form ∙ row_form c.self.inside.problem.now c.in_ok-row.row found.route
 
 pub returns-clause-one : goal.returns-clause-one
 returns-clause-one g c =
     let q = c.self.inside.problem.now in
-    let place = c.args.place in
-    let members = c.index-set.result.now.members in
-    let sets = sets_in c.self.inside.sets.items in
-    let set : members ≡ set_at sets place = indexed c.self.inside.sets.items place c.index-set.result.now (subst (λ (s : KnownSets). place < length s.sets) (sym c.self.view_is) c.requires.place) c.index-set.ensures in
     let row = c.in_ok-row.row in
-    let name : row.request ≡ first_of (set_at sets place) = c.in_ok-row.ensures.request ∙ c.first_of-name.ensures ∙ ap first_of (c.as_slice.ensures ∙ set) in
-    let cheap = cheap_as q q (set_at sets place) members c.is_beaten.new.room.path row.rival.edges c.args.point.now refl set (c.in_ok-row.ensures.edges ∙ c.path.ensures) c.if-not-is_beaten.ensures.rival in
-    let here : KnownSets = record { problem = q; sets = sets; rows = c.self.inside.rows.items } in
-    subst (λ (s : KnownSets). OneRow c.args.point.now place s c.args.pool.now c.push_row.new.self c.push_row.new.pool) c.self.view_is
+    let found = rival_row c.self.inside.problem.now c.self.inside.sets.items c.self.inside.rows.items _ c.args.place c.args.point.now c.index-set.result.now c.is_beaten.new.room.path c.in_ok-row.row c.self.view_is c.requires.place c.keeps.ensures.sets
+    c.index-set.ensures c.if-not-is_beaten.ensures.rival (c.in_ok-row.ensures.request ∙ c.first_of-name.ensures ∙ ap first_of c.as_slice.ensures) (c.in_ok-row.ensures.edges ∙ c.path.ensures) in
+    let here : KnownSets = record { problem = q; sets = sets_in c.self.inside.sets.items; rows = c.self.inside.rows.items } in
+    subst (λ (s : KnownSets). OneRow c.args.point.now c.args.place s c.args.pool.now c.push_row.new.self c.push_row.new.pool) c.self.view_is
     (record {
       kept = subst (λ (s : KnownSets). IsKept s.problem) (sym c.self.view_is) c.keeps.ensures.kept;
       are = subst (λ (s : KnownSets). AreMemberSets s.problem s.sets) (sym c.self.view_is) c.keeps.ensures.sets;
       rival = row.rival;
-      cheap = cheap;
-      rows = c.in_ok-push_row.ensures.row ∙ ap (λ (k : ℕ). let s : KnownSets = record here { rows = here.rows ++ Rival k row.rival ∷ [] } in s) name;
+      cheap = found.cheap;
+      rows = c.in_ok-push_row.ensures.row ∙ ap (λ (k : ℕ). let s : KnownSets = record here { rows = here.rows ++ Rival k row.rival ∷ [] } in s) found.name;
       forms = c.in_ok-push_row.ensures.form ∙ ap (λ (f : Form). c.args.pool.now ++ f ∷ [])
-          (c.in_ok-form.ensures.form ∙ row_form q row (cheap_route q c.args.point.now (set_at sets place) row.rival.edges row.request (subst (λ (s : KnownSets). AreMemberSets s.problem s.sets) (sym c.self.view_is) c.keeps.ensures.sets place [] (subst (λ (s : KnownSets). place < length s.sets) (sym c.self.view_is) c.requires.place)) cheap name)
-          ∙ ap (λ (k : ℕ). form_of_set_row q (Rival k row.rival)) name);
+          (c.in_ok-form.ensures.form ∙ row_form q row found.route ∙ ap (λ (k : ℕ). form_of_set_row q (Rival k row.rival)) found.name);
     })

@@ -1,0 +1,51 @@
+use Rattle.std.proofs.Common.{◌+◌, ◌≤◌, Bool, List, [], length, sym, subst, append-nil, arith}
+use Rattle.form_search.specs.declared.source.Asked.{Asked}
+use Rattle.path_rows.specs.declared.form.Row.{Row}
+use Rattle.cost_branching.specs.Asking.{AreAskedAmong, IsAskedOf}
+use Rattle.cost_branching.specs.Rivals.{KnownRows}
+use Rattle.cost_branching.proofs.Asked.{all_asked_among, begun_more, more_lead_among, none_asked_among, one_added_among}
+use Rattle.cost_branching.proofs.rivals.ask_marked.Goals as goal
+use Rattle.cost_branching.proofs.rivals.ask_marked.Goals.{then-branch, else-branch}
+
+pub loop-request-init : goal.loop-request-init
+loop-request-init c = record {
+  asker = c.requires.asker;
+  marks = c.requires.marks;
+  asked = none_asked_among c.args.point.now (record { problem = c.args.problem.now; rows = c.args.rows.now.items }) c.args.pool.now c.requires.rows c.requires.met;
+  more = record { more = []; same = sym (append-nil c.args.rows.now.items) };
+}
+
+pub loop-request-preserved : goal.loop-request-preserved
+loop-request-preserved c =
+    let point = c.args.point.now in
+    let request = c.loop-request.request in
+    let known : List Row → KnownRows = λ rows. record { problem = c.args.problem.now; rows = rows } in
+    let old = known c.args.rows.now.items in
+    let forms = c.args.pool.now in
+    let now = known c.loop-request.rows.items in
+    let now_forms = c.loop-request.pool in
+    let new = known c.ask_one.new.rows.items in
+    let new_forms = c.ask_one.new.pool in
+    let IsOne : Bool → Type 0 = λ b. IsAskedOf point request now now_forms new new_forms b in
+    let Then : Asked → Type 0 = λ a. AreAskedAmong point (request + 1) old forms new new_forms a in
+    record {
+      asker = c.ask_one.ensures.asker;
+      marks = c.ask_one.ensures.marks;
+      asked = elim c.if-branch.branch [
+        | then-branch w ↦
+            subst Then (sym w.asked-is)
+            (one_added_among point request old forms now now_forms new new_forms c.loop-request.asked c.loop-request.invariant.asked c.requires.met c.requires.point.count
+            (subst IsOne w.if-branch.true c.in_ok-ask_one.ensures.one))
+        | else-branch w ↦
+            subst Then (sym w.asked-is)
+            (more_lead_among point request old forms now now_forms new new_forms c.loop-request.asked c.loop-request.invariant.asked
+            (subst IsOne w.if-branch.false c.in_ok-ask_one.ensures.one))
+      ];
+      more = begun_more c.args.rows.now.items point request now now_forms new new_forms _ c.loop-request.invariant.more c.in_ok-ask_one.ensures.one;
+    }
+
+pub returns-clause-asked : goal.returns-clause-asked
+returns-clause-asked c =
+    let known : List Row → KnownRows = λ rows. record { problem = c.args.problem.now; rows = rows } in
+    let all : length c.args.problem.now.paths ≤ c.loop-request.request = omega (arith, c.requests-count.ensures, c.loop-request-test.false) in
+    all_asked_among c.args.point.now c.loop-request.request (known c.args.rows.now.items) c.args.pool.now (known c.loop-request.rows.items) c.loop-request.pool c.loop-request.asked all c.loop-request.invariant.asked

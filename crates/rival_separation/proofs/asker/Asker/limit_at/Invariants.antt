@@ -1,0 +1,7 @@
+use Rattle.std.proofs.Common.{◌≤◌, slice_index}
+use Rattle.path_rows.specs.Problems.{request_at}
+use Rattle.rival_separation.specs.Askers.{lead_at}
+use Rattle.rival_separation.proofs.asker.Asker.limit_at.Given as goal
+
+abbrev pub invariant-loop-later : goal.invariant-loop-later
+invariant-loop-later l = lead_at l.graph l.point (request_at l.requests (slice_index l.self.order l.place)) ≤ l.limit

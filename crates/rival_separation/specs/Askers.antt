@@ -1,0 +1,56 @@
+-- What asks for the rivals of several requests.
+use Rattle.std.specs.Prelude.{◌≡◌, ℕ, ◌+◌, ◌<◌, ◌≤◌, List, length, slice_index_or, All, Bool, Contains, MatchBool, Option, None, Some, true}
+use Rattle.area_graph.specs.declared.Point.{Point}
+use Rattle.area_graph.specs.Area.{Area}
+use Rattle.area_graph.specs.Costs.{LeadsBy, cost}
+use Rattle.area_graph.specs.Paths.{IsPathOf}
+use Rattle.path_rows.specs.declared.problem.Request.{Request}
+use Rattle.path_rows.specs.Problems.{ends_of, request_at}
+use Rattle.spf_ties.specs.Distances.{Findings, IsRoomFor}
+use Rattle.rival_separation.specs.declared.asker.Shared.{Shared}
+use Rattle.rival_separation.specs.Rivals.{IsFound}
+
+-- what an asker shows: its room, the requests' numbers in the order in which they are looked at, and a mark for each request
+pub record Asking : Type 0 where
+  pub room : Findings
+  pub order : List ℕ
+  pub marks : List Bool
+
+-- an asker made for a graph and so many requests: each request's number stands in the order, and no other number
+pub record IsAskerFor (g : Area) (requests : List Request) (asker : Asking) : Type 0 where
+  pub room : IsRoomFor g asker.room
+  pub known : All (λ k. k < length requests) asker.order
+  pub each : (k : ℕ) → k < length requests → Contains asker.order k
+  pub marks : length asker.marks ≡ length requests
+
+-- the path of each request is a simple path of it
+abbrev pub ArePathsOf : Area → List Request → Type 0
+ArePathsOf g requests = All (λ r. IsPathOf g (ends_of r) r.path.edges) requests
+
+-- the path of a request leads at a point by the scale
+abbrev pub RequestLeads : Area → Point → Request → Type 0
+RequestLeads g p r = LeadsBy p.scale g p (ends_of r) r.path.edges
+
+-- what a rival costs at least where the path of a request leads
+abbrev pub lead_at : Area → Point → Request → ℕ
+lead_at g p r = cost g p r.path.edges + p.scale
+
+-- the request of that number has a rival that costs less than its path and the scale where it is marked, and else leads
+abbrev pub IsMarkTrue : Area → Point → List Request → List Bool → ℕ → Type 0
+IsMarkTrue g p requests marks k = MatchBool (slice_index_or marks k true) (RequestLeads g p (request_at requests k) → ⊥) (RequestLeads g p (request_at requests k))
+
+-- the room has the distances to the end of a request without the edges that it takes away, those below a limit
+pub record IsShared (g : Area) (p : Point) (requests : List Request) (room : Findings) (shared : Shared) : Type 0 where
+  pub known : shared.request < length requests
+  pub found : IsFound g p (ends_of (request_at requests shared.request)) shared.limit room
+
+-- nothing is known of what the room has, or such distances
+abbrev pub MayShare : Area → Point → List Request → Findings → Option Shared → Type 0
+MayShare g p requests room None = Unit {0}
+MayShare g p requests room (Some shared) = IsShared g p requests room shared
+
+-- the room has what the path of a request is compared with
+pub record IsReady (g : Area) (p : Point) (requests : List Request) (room : Findings) (k : ℕ) (shared : Shared) : Type 0 where
+  pub of_request : shared.request ≡ k
+  pub shares : IsShared g p requests room shared
+  pub above : lead_at g p (request_at requests k) ≤ shared.limit
