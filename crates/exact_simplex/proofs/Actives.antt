@@ -1,7 +1,7 @@
 -- What a tableau's table keeps, in each of its two representations.
 use Rattle.std.proofs.Common.{◌≡◌, ℕ, refl, sym, ◌∙◌, ap, subst, List, [], length, true, false, Bool, arith}
 use Rattle.std.specs.declared.result.Result.TheVariants.{Ok, Err}
-use Rattle.std.specs.Prelude.{Result, IfOk, OnOk, ◌<◌, ℤ, pos, ◌≤ℤ◌, nat_abs, All}
+use Rattle.std.specs.Prelude.{Result, IfOk, OnErr, OnOk, ◌^◌, ◌<◌, ◌≤◌, ℤ, pos, ◌≤ℤ◌, nat_abs, All}
 use Rattle.std.proofs.lemmas.List.{get_or_default, length-map}
 use Rattle.whole_numbers.specs.Fractions.{Fraction}
 use Rattle.path_rows.specs.Basis.{IsBasis}
@@ -27,15 +27,17 @@ use Rattle.fraction_table.proofs.Bases.{whole_basis}
 use Rattle.table_kernel.specs.declared.kernel.Kernel.{Kernel}
 use Rattle.table_kernel.specs.Kernels.{IsKernel, lines_of, lows_of, stated}
 use Rattle.table_kernel.specs.Numbers.{fraction_line}
+use Rattle.table_kernel.specs.declared.bounds.OutOfRange.{OutOfRange}
+use Rattle.table_kernel.specs.Turnings.{IsHeldUp}
 use Rattle.table_kernel.specs.Turns.{HoldsNumbers}
 use Rattle.table_kernel.proofs.AtBasis.{stated_lines}
 use Rattle.table_kernel.proofs.SameKernels.{kernel_same, lines_same}
 use Rattle.fraction_table.specs.RowLines.{HoldsSame}
 use Rattle.fraction_table.proofs.RowAdds.{room_same}
 use Rattle.exact_simplex.specs.declared.active.ActiveTable.{ActiveTable}
-use Rattle.exact_simplex.specs.Actives.{IsActive, IsSoundActive, table_in, table_of}
+use Rattle.exact_simplex.specs.Actives.{IsActive, IsSoundActive, WasHeldUp, table_in, table_of}
 
-clash : false ≡ true → ⊥
+pub clash : false ≡ true → ⊥
 clash h = cc
 
 -- a table at its start
@@ -44,6 +46,24 @@ started true k s kernel =
     record { active = λ going. record { whole = (kernel refl).whole; kernel = λ is. kernel refl; room = s.room }; shown = tt; basis = s.basis; room = s.room }
 started false k s kernel =
     record { active = λ going. record { whole = s.whole going; kernel = λ is. absurd (clash is); room = s.room }; shown = tt; basis = s.basis; room = s.room }
+
+pub wide_enough : (top : ℕ) → 2 ^ 126 ≤ top → 2 ^ 39 ≤ top
+wide_enough top wide = omega (arith, wide)
+
+-- the table in fractions shows its answer where it is worked on
+pub shown_beside : (b : Bool) (k : Kernel) (found : Result Solved Wide) → b ≡ false → IfOk found (λ solved. IsShown k.table.basis.items k.table.lines.items (Ended solved)) → IfOk found (λ solved. IsShown k.table.basis.items (table_in b k).lines.items (Ended solved))
+shown_beside true k found is shown = absurd (clash (sym is))
+shown_beside false k found is shown = shown
+
+-- a kernel that stopped was held up
+pub was_held_up : (old new : Kernel) (found : Result Solved OutOfRange) (out : OutOfRange) → found ≡ Err out → IsKernel new → KeepsForms (stated old) (stated new) → OnErr found (IsHeldUp new) → WasHeldUp old.table
+was_held_up old new found out is kernel keeps held =
+    record {
+      kernel = new;
+      whole = kernel;
+      keeps = record { top = keeps.top; costs = keeps.costs; rows = keeps.rows };
+      held_up = subst (λ (answer : Result Solved OutOfRange). OnErr answer (IsHeldUp new)) is held;
+    }
 
 -- a kernel's answer is shown by the table that it stands for
 pub kernel_shown : (b : Bool) (k : Kernel) (solved : Solved) → b ≡ true → IsKernel k → IsShown k.table.basis.items (lines_of k) (Ended solved) → IsShown k.table.basis.items (table_in b k).lines.items (Ended solved)

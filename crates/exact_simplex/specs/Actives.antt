@@ -3,10 +3,12 @@ use Rattle.std.specs.Prelude.{◌≡◌, Bool, true, false}
 use Rattle.path_rows.specs.Basis.{IsBasis}
 use Rattle.fraction_table.specs.declared.stage.Stage.{Stage}
 use Rattle.fraction_table.specs.declared.table.Table.{Table}
+use Rattle.fraction_table.specs.Pivots.{KeepsForms}
 use Rattle.fraction_table.specs.Tableaus.{IsGoing}
 use Rattle.fraction_table.specs.Wholes.{HasRoom, IsShown, IsWholeTable}
 use Rattle.table_kernel.specs.declared.kernel.Kernel.{Kernel}
 use Rattle.table_kernel.specs.Kernels.{IsKernel, stated}
+use Rattle.table_kernel.specs.Turnings.{IsHeldUp}
 use Rattle.exact_simplex.specs.declared.active.ActiveTable.{ActiveTable}
 
 -- the table in fractions that a kernel stands for, or the one beside it
@@ -23,6 +25,13 @@ pub record IsActive (a : ActiveTable) : Type 0 where
   pub whole : IsWholeTable (table_of a)
   pub kernel : a.in_kernel ≡ true → IsKernel a.kernel
   pub room : HasRoom a.kernel.table
+
+-- a kernel over a table's forms, of which the bounds don't cover the pivot that is due
+pub record WasHeldUp (table : Table) : Type 0 where
+  pub kernel : Kernel
+  pub whole : IsKernel kernel
+  pub keeps : KeepsForms table kernel.table
+  pub held_up : IsHeldUp kernel
 
 -- What a tableau keeps: until it stops its table is whole; and at all times its basis is one, and there is room.
 pub record IsSoundActive (a : ActiveTable) (stage : Stage) : Type 0 where

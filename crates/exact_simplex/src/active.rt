@@ -1,6 +1,6 @@
 //! The table that a tableau works on: the kernel, and from the first step that its bounds don't cover the table in
 //! fractions.
-ghost use Rattle.std.specs.Prelude.{◌≡◌, ℕ, suc, ◌^◌, ◌<◌, ◌≤◌, ◌++◌, [], ◌∷◌, length, map, true, false, All, IfErr, IfOk, IsTrue, OnErr, OnOk};
+ghost use Rattle.std.specs.Prelude.{◌≡◌, ℕ, suc, ◌^◌, ◌<◌, ◌≤◌, ◌↔◌, ◌++◌, [], ◌∷◌, length, map, true, false, All, IfErr, IfOk, IsTrue, OnErr, OnOk};
 ghost use Rattle.cost_base.specs.Lists.{numbers_from};
 ghost use Rattle.path_rows.specs.Boxes.{IsBox, Refutes};
 ghost use Rattle.path_rows.specs.Earnest.{IsLeast};
@@ -13,8 +13,8 @@ ghost use Rattle.fraction_table.specs.Pivots.{AreHigh, KeepsForms, line_at};
 ghost use Rattle.fraction_table.specs.RowLines.{HasPlace};
 ghost use Rattle.fraction_table.specs.Tableaus.{FitsBox, IsRebased, MeetsRows, starting, wide_at};
 ghost use Rattle.fraction_table.specs.Wholes.{HasRoom, IsShown, held_of};
-ghost use Rattle.table_kernel.specs.Turns.{HasRowPlace};
-ghost use Rattle.exact_simplex.specs.Actives.{IsActive, IsSoundActive, table_of};
+ghost use Rattle.table_kernel.specs.Turns.{HasRowPlace, IsCovered, MayMove, box_distance};
+ghost use Rattle.exact_simplex.specs.Actives.{IsActive, IsSoundActive, WasHeldUp, table_of};
 
 use area_graph::Point;
 use cost_base::OutOfMemory;
@@ -34,7 +34,7 @@ pub struct ActiveTable {
 
 /// Whether the kernel may work: at widths below 127 bits a step that it doesn't take could be too wide.
 fn is_wide(top: Top) -> bool
-    ensures { IsTrue result → 2 ^ 39 ≤ top }
+    ensures { IsTrue result ↔ (2 ^ 126 ≤ top) }
 {
     top.size() >= 1 << 126
 }
@@ -51,6 +51,7 @@ impl ActiveTable {
         requires few { length costs.now.low < 2 ^ 32 }
         ensures held { IfOk result (λ table. held_of table.kernel.table Open ≡ record { top = top; costs = costs.now; rows = []; basis = starting costs.now; stage = Open }) }
         ensures sound { IfOk result (λ table. IsSoundActive table Open) }
+        ensures wide { IfOk result (λ table. 2 ^ 126 ≤ top → table.in_kernel ≡ true) }
     {
         Ok(ActiveTable {
             kernel: starting_kernel(alloc, costs, top)?,
@@ -67,6 +68,7 @@ impl ActiveTable {
         requires room { HasRoom self.old.kernel.table }
         ensures sound { (stage : Stage) → IsSoundActive self.old stage → IsSoundActive self.new stage }
         ensures held { held_of self.new.kernel.table Open ≡ held_of self.old.kernel.table Open }
+        ensures same { self.new.in_kernel ≡ self.old.in_kernel }
         ensures place { OnOk result (HasRowPlace self.new.kernel) }
         ensures form { IfOk result (λ row. row.form ≡ form.now) }
         ensures blank { IfOk result (λ row. row.line ≡ nothing ∷ map (λ column. nothing) (numbers_from 0 (length self.old.kernel.table.costs.low))) }
@@ -88,7 +90,7 @@ impl ActiveTable {
         self.in_kernel = false;
     }
 
-    /// Adds a row for which there is room.
+    /// Adds a row for which there is room. The kernel works on where its bounds cover the row.
     ///
     /// # Errors
     ///
@@ -100,6 +102,7 @@ impl ActiveTable {
         requires blank { row.line ≡ nothing ∷ map (λ column. nothing) (numbers_from 0 (length self.old.kernel.table.costs.low)) }
         ensures held { held_of self.new.kernel.table Open ≡ record { top = self.old.kernel.table.top; costs = self.old.kernel.table.costs; rows = self.old.kernel.table.rows.items ++ row.form ∷ []; basis = self.old.kernel.table.basis.items; stage = Open } }
         ensures active { OnOk result (IsActive self.new) }
+        ensures stays { self.old.in_kernel ≡ true → IsCovered self.old.kernel row.form → self.new.in_kernel ≡ true }
         ensures room { HasRoom self.new.kernel.table }
         ensures wide { IfErr result (λ wide. IsTooWide self.new.kernel.table.top self.new.kernel.table.costs self.new.kernel.table.rows.items (wide_at wide self.new.kernel.table.basis.items)) }
     {
@@ -113,7 +116,7 @@ impl ActiveTable {
         self.kernel.table.put_row(row)
     }
 
-    /// Works until the table shows the answer.
+    /// Works until the table shows the answer: in the kernel, unless its bounds don't cover a pivot that is due.
     ///
     /// # Errors
     ///
@@ -123,6 +126,7 @@ impl ActiveTable {
         ensures active { OnOk result (IsActive self.new) }
         ensures shown { IfOk result (λ solved. IsShown self.new.kernel.table.basis.items (table_of self.new).lines.items (Ended solved)) }
         ensures keeps { KeepsForms self.old.kernel.table self.new.kernel.table }
+        ensures left { self.old.in_kernel ≡ true → self.new.in_kernel ≡ false → WasHeldUp self.old.kernel.table }
         ensures room { HasRoom self.new.kernel.table }
         ensures wide { IfErr result (λ wide. IsTooWide self.new.kernel.table.top self.new.kernel.table.costs self.new.kernel.table.rows.items (wide_at wide self.new.kernel.table.basis.items)) }
     {
@@ -175,13 +179,14 @@ impl ActiveTable {
         self.kernel.table.multipliers(alloc, line)
     }
 
-    /// Moves the table to another box, bound by bound; where a step of that is too wide, it is started anew. It takes
-    /// no memory.
+    /// Moves the table to another box, bound by bound; where a step of that is too wide, it is started anew. The kernel
+    /// works on where its bounds cover so far a move. It takes no memory.
     pub fn rebase(&mut self, costs: &CostBox)
         requires active { IsActive self.old }
         requires ranges { IsBox (length self.old.kernel.table.costs.low) costs.now }
         requires fits { All (FitsBox costs.now) self.old.kernel.table.rows.items }
         ensures active { IsActive self.new }
+        ensures stays { self.old.in_kernel ≡ true → MayMove self.old.kernel (box_distance self.old.kernel.table.costs costs.now) → self.new.in_kernel ≡ true }
         ensures rebased { IsRebased (held_of self.old.kernel.table Open) costs.now (held_of self.new.kernel.table Open) }
     {
         if self.in_kernel {

@@ -73,16 +73,16 @@ high_move_of k m v bound column v_in found =
 
 -- a kernel with other lower bounds, and with other upper ones
 abbrev pub put_lows : Kernel → List ℕ → Kernel
-put_lows s now = record { table = record { top = s.table.top; costs = record { low = now; high = s.table.costs.high }; rows = s.table.rows; basis = s.table.basis; lines = s.table.lines; quotients = s.table.quotients; scratch = s.table.scratch }; common = s.common; reach = s.reach; weight = s.weight; lows = s.lows; constants = s.constants; left = s.left; line = s.line; along = s.along }
+put_lows s now = record { table = record { top = s.table.top; costs = record { low = now; high = s.table.costs.high }; rows = s.table.rows; basis = s.table.basis; lines = s.table.lines; quotients = s.table.quotients; scratch = s.table.scratch }; common = s.common; reach = s.reach; weight = s.weight; lows = s.lows; leads = s.leads; constants = s.constants; uses = s.uses; left = s.left; line = s.line; along = s.along }
 
 abbrev pub put_highs : Kernel → List ℕ → Kernel
-put_highs s now = record { table = record { top = s.table.top; costs = record { low = s.table.costs.low; high = now }; rows = s.table.rows; basis = s.table.basis; lines = s.table.lines; quotients = s.table.quotients; scratch = s.table.scratch }; common = s.common; reach = s.reach; weight = s.weight; lows = s.lows; constants = s.constants; left = s.left; line = s.line; along = s.along }
+put_highs s now = record { table = record { top = s.table.top; costs = record { low = s.table.costs.low; high = now }; rows = s.table.rows; basis = s.table.basis; lines = s.table.lines; quotients = s.table.quotients; scratch = s.table.scratch }; common = s.common; reach = s.reach; weight = s.weight; lows = s.lows; leads = s.leads; constants = s.constants; uses = s.uses; left = s.left; line = s.line; along = s.along }
 
 others_lows : (k s : Kernel) (now : List ℕ) → KeepsOthers k s → KeepsOthers k (put_lows s now)
-others_lows k s now o = record { top = o.top; rows = o.rows; lines = o.lines; quotients = o.quotients; scratch = o.scratch; common = o.common; reach = o.reach; weight = o.weight; lows = o.lows; line = o.line; along = o.along; left = o.left }
+others_lows k s now o = record { top = o.top; rows = o.rows; lines = o.lines; quotients = o.quotients; scratch = o.scratch; common = o.common; reach = o.reach; weight = o.weight; lows = o.lows; leads = o.leads; uses = o.uses; line = o.line; along = o.along; left = o.left }
 
 others_highs : (k s : Kernel) (now : List ℕ) → KeepsOthers k s → KeepsOthers k (put_highs s now)
-others_highs k s now o = record { top = o.top; rows = o.rows; lines = o.lines; quotients = o.quotients; scratch = o.scratch; common = o.common; reach = o.reach; weight = o.weight; lows = o.lows; line = o.line; along = o.along; left = o.left }
+others_highs k s now o = record { top = o.top; rows = o.rows; lines = o.lines; quotients = o.quotients; scratch = o.scratch; common = o.common; reach = o.reach; weight = o.weight; lows = o.lows; leads = o.leads; uses = o.uses; line = o.line; along = o.along; left = o.left }
 
 pub low_moves : (k s : Kernel) (m : IsMoving k) (v bound low : ℕ) (fall : ℤ) (now : List ℕ) → v < width_of k → KeepsOthers k s → s.table.costs ≡ k.table.costs → low ≡ slice_index k.table.costs.low v → fall ≡ (pos bound -ℤ pos low) → IsShifted k s v (Low v low) (Low v bound) fall → now ≡ slice_set s.table.costs.low v bound → MayMove k (nat_abs (pos bound -ℤ pos (slice_index k.table.costs.low v))) → IsMoving (put_lows s now) × IsMoved (stated k) (with_low k.table.costs v bound) (stated (put_lows s now))
 low_moves k s m v bound low fall now v_in keeps costs_same low_is fall_is shifted now_is may =

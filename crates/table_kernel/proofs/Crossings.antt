@@ -3,10 +3,10 @@ use Rattle.std.proofs.Common.{◌≡◌, ℕ, zero, suc, ◌+◌, ◌*◌, ◌^�
 use Rattle.std.specs.Prelude.{ℤ, pos, negsuc, ◌+ℤ◌, ◌-ℤ◌, ◌*ℤ◌, ◌<ℤ◌, ◌≤ℤ◌, nat_abs, slice_index_or, FitsSigned, IsTrue}
 use Rattle.std.proofs.lemmas.List.{get_or_default}
 use Rattle.fraction_table.specs.Wholes.{number_at}
-use Rattle.std.proofs.Math.Nat.{mul-le-mul}
+use Rattle.std.proofs.Math.Nat.{mul-le-mul, mul-le-mul_left}
 use Rattle.std.proofs.Math.Dec.{T}
 use Rattle.std.proofs.Math.Facts.{eqb_yes}
-use Rattle.std.specs.Int.Signed.{mag, le_z, le_z_yes, quot_z, rem_z}
+use Rattle.std.specs.Int.Signed.{mag, quot_z, rem_z}
 use Rattle.std.proofs.lemmas.Int.{fits_signed_from_abs, ints, quot_fits, quot_is, quot-rem, rem_below, to_z-of_z, unsigned_abs-mul}
 use Rattle.whole_numbers.proofs.Ring.{var, num, ◌⊕◌, ◌⊖◌, ◌⊗◌, ring}
 use Rattle.table_kernel.specs.declared.turn.Turn.{Turn}
@@ -45,6 +45,13 @@ crossed_small t number along small number_small along_small =
     difference_small (2 ^ 22 * 2 ^ 39) (2 ^ 22 * 2 ^ 39) (t.pivot *ℤ number) (along *ℤ t.across)
     (product_small (2 ^ 22) (2 ^ 39) t.pivot number (positive_size t.pivot (2 ^ 22) small.pivot) number_small)
     (product_small (2 ^ 22) (2 ^ 39) along t.across along_small small.across)
+
+-- and the number after it
+pub turned_small : (t : Turn) (number along new : ℤ) → IsSmallTurn t → nat_abs number ≤ 2 ^ 39 → nat_abs along ≤ 2 ^ 22 → IsTurned t number along new → nat_abs new ≤ 2 ^ 62
+turned_small t number along new small number_small along_small is =
+    let product : nat_abs new * nat_abs t.common ≤ 2 ^ 62 = omega (arith, unsigned_abs-mul new t.common, ap nat_abs is, crossed_small t number along small number_small along_small) in
+    let more : nat_abs new * 1 ≤ nat_abs new * nat_abs t.common = mul-le-mul_left (nat_abs new) (let e : 1 ≤ nat_abs t.common = omega (arith, ints, small.common.0) in e) in
+    omega (arith, product, more)
 
 pub crossed_fits : (t : Turn) (number along : ℤ) → IsSmallTurn t → nat_abs number ≤ 2 ^ 39 → nat_abs along ≤ 2 ^ 22 → FitsSigned w64 (read (read t.pivot *ℤ read number) -ℤ read (read along *ℤ read t.across))
 crossed_fits t number along small number_small along_small =
@@ -102,6 +109,27 @@ none_less (negsuc n) d r is below =
     refl_le : nat_abs d ≤ nat_abs d
     refl_le = omega arith
 
+-- where the number turns into a whole one the remainder is 0
+whole_rest : (t : Turn) (number along z : ℤ) → IsSmallTurn t → z ≡ crossed t number along → IsWholeTurn t number along → rem_z z t.common ≡ pos 0
+whole_rest t number along z small z_is whole =
+    let d = t.common in
+    let positive : 0 < nat_abs d = omega (arith, ints, small.common.0) in
+    let multiple : rem_z z d ≡ ((whole.0 -ℤ quot_z z d) *ℤ d) =
+    ring (quot_z z d ∷ d ∷ rem_z z d ∷ []) (var 2) (((var 0 ⊗ var 1) ⊕ var 2) ⊖ (var 0 ⊗ var 1)) refl
+    ∙ ap (λ x. x -ℤ (quot_z z d *ℤ d)) (quot-rem z d ∙ z_is ∙ sym whole.1)
+    ∙ ring (whole.0 ∷ d ∷ quot_z z d ∷ []) ((var 0 ⊗ var 1) ⊖ (var 2 ⊗ var 1)) ((var 0 ⊖ var 2) ⊗ var 1) refl in
+    none_less (whole.0 -ℤ quot_z z d) d (rem_z z d) multiple (rem_below z d positive)
+
+-- and no bit of it is set
+pub rest_holds : (t : Turn) (number along z : ℤ) → IsSmallTurn t → nat_abs number ≤ 2 ^ 39 → nat_abs along ≤ 2 ^ 22 → z ≡ crossed t number along → IsWholeTurn t number along → IsTrue (nat_eq (of_z w64 (rem_z (read z) (read t.common))) 0)
+rest_holds t number along z small number_small along_small z_is whole =
+    let z_small : nat_abs z ≤ 2 ^ 62 = subst (λ (x : ℤ). nat_abs x ≤ 2 ^ 62) (sym z_is) (crossed_small t number along small number_small along_small) in
+    let z_read : read z ≡ z = read_number z (omega (arith, z_small)) in
+    let common_read : read t.common ≡ t.common = read_number t.common (omega (arith, positive_size t.common (2 ^ 22) small.common)) in
+    let none : rem_z (read z) (read t.common) ≡ pos 0 =
+    ap (λ (x : ℤ). rem_z x (read t.common)) z_read ∙ ap (λ (d : ℤ). rem_z z d) common_read ∙ whole_rest t number along z small z_is whole in
+    ap (λ (r : ℤ). nat_eq (of_z w64 r) 0) none
+
 -- the quotient is the new number
 pub quotient_turned : (t : Turn) (number along z : ℤ) → IsSmallTurn t → nat_abs number ≤ 2 ^ 39 → nat_abs along ≤ 2 ^ 22 → z ≡ crossed t number along → IsWholeTurn t number along → IsTurned t number along (read (quot_z (read z) (read t.common)))
 quotient_turned t number along z small number_small along_small z_is whole =
@@ -109,14 +137,7 @@ quotient_turned t number along z small number_small along_small z_is whole =
     let z_small : nat_abs z ≤ 2 ^ 62 = subst (λ (x : ℤ). nat_abs x ≤ 2 ^ 62) (sym z_is) (crossed_small t number along small number_small along_small) in
     let z_fits = fits_signed_from_abs w64 z (omega (arith, z_small)) in
     let d_fits = fits_signed_from_abs w64 d (omega (arith, positive_size d (2 ^ 22) small.common)) in
-    let positive : 0 < nat_abs d = omega (arith, ints, small.common.0) in
-    let sum = quot-rem z d in
-    let multiple : rem_z z d ≡ ((whole.0 -ℤ quot_z z d) *ℤ d) =
-    ring (quot_z z d ∷ d ∷ rem_z z d ∷ []) (var 2) (((var 0 ⊗ var 1) ⊕ var 2) ⊖ (var 0 ⊗ var 1)) refl
-    ∙ ap (λ x. x -ℤ (quot_z z d *ℤ d)) (sum ∙ z_is ∙ sym whole.1)
-    ∙ ring (whole.0 ∷ d ∷ quot_z z d ∷ []) ((var 0 ⊗ var 1) ⊖ (var 2 ⊗ var 1)) ((var 0 ⊖ var 2) ⊗ var 1) refl in
-    let rest = none_less (whole.0 -ℤ quot_z z d) d (rem_z z d) multiple (rem_below z d positive) in
-    ap (λ x. x *ℤ d) (quot_is w64 z d z_fits d_fits (quot_fits w64 z d z_fits small.common.0)) ∙ divided_whole z d rest ∙ z_is
+    ap (λ x. x *ℤ d) (quot_is w64 z d z_fits d_fits (quot_fits w64 z d z_fits small.common.0)) ∙ divided_whole z d (whole_rest t number along z small z_is whole) ∙ z_is
 
 -- over 1 it is the number before it is divided
 pub undivided_turned : (t : Turn) (number along z : ℤ) → IsSmallTurn t → nat_abs number ≤ 2 ^ 39 → nat_abs along ≤ 2 ^ 22 → z ≡ crossed t number along → read t.common ≡ pos 1 → IsTurned t number along (read z)
@@ -140,55 +161,14 @@ test_read p m y r p_small m_small y_small r_small =
     ∙ ap (λ x. read ((p *ℤ m) +ℤ x)) (product_read y r y_small r_small)
     ∙ read_number ((p *ℤ m) +ℤ (y *ℤ r)) (omega (arith, sum_small (2 ^ 22 * 2 ^ 39) (2 ^ 22 * 2 ^ 39) (p *ℤ m) (y *ℤ r) (product_small (2 ^ 22) (2 ^ 39) p m p_small m_small) (product_small (2 ^ 22) (2 ^ 39) y r y_small r_small)))
 
--- as natural numbers
-pub in_sizes : (p m y l c : ℤ) (r : ℕ) → pos 0 ≤ℤ p → pos 0 ≤ℤ m → pos 0 ≤ℤ y → pos 0 ≤ℤ l → pos 0 ≤ℤ c → ((p *ℤ m) +ℤ (y *ℤ pos r)) ≤ℤ (l *ℤ c) → nat_abs p * nat_abs m + nat_abs y * r ≤ nat_abs l * nat_abs c
-in_sizes (pos p) (pos m) (pos y) (pos l) (pos c) r p_is m_is y_is l_is c_is less = omega (arith, ints, less)
-in_sizes (negsuc p) m y l c r p_is m_is y_is l_is c_is less = absurd (omega (arith, ints, p_is))
-in_sizes (pos p) (negsuc m) y l c r p_is m_is y_is l_is c_is less = absurd (omega (arith, ints, m_is))
-in_sizes (pos p) (pos m) (negsuc y) l c r p_is m_is y_is l_is c_is less = absurd (omega (arith, ints, y_is))
-in_sizes (pos p) (pos m) (pos y) (negsuc l) c r p_is m_is y_is l_is c_is less = absurd (omega (arith, ints, l_is))
-in_sizes (pos p) (pos m) (pos y) (pos l) (negsuc c) r p_is m_is y_is l_is c_is less = absurd (omega (arith, ints, c_is))
-
 -- what is handed on is read as it is
 pub crossed_args : (t : Turn) (number along : ℤ) → nat_abs number ≤ 2 ^ 39 → nat_abs along ≤ 2 ^ 22 → crossed t (read number) (read along) ≡ crossed t number along
 crossed_args t number along number_small along_small =
     ap (λ x. crossed t x (read along)) (read_number number (omega (arith, number_small)))
     ∙ ap (λ y. crossed t number y) (read_number along (omega (arith, along_small)))
 
--- a test that holds
-pub test_holds : (a b x y : ℤ) → IsTrue (le_z a b) → a ≡ x → b ≡ y → x ≤ℤ y
-test_holds a b x y holds a_is b_is = omega (arith, ints, le_z_yes {a = a} {b = b} (subst T (sym holds) tt), a_is, b_is)
-
-pub limit_read : (l c : ℤ) → nat_abs l ≤ 2 ^ 39 → nat_abs c ≤ 2 ^ 22 → read (read l *ℤ read c) ≡ (l *ℤ c)
-limit_read l c l_small c_small =
-    ap (λ x. read (x *ℤ read c)) (read_number l (omega (arith, l_small)))
-    ∙ ap (λ y. read (l *ℤ y)) (read_number c (omega (arith, c_small)))
-    ∙ read_number (l *ℤ c) (omega (arith, product_small (2 ^ 39) (2 ^ 22) l c l_small c_small))
-
 pub equal_holds : (a b : ℕ) → IsTrue (nat_eq a b) → a ≡ b
 equal_holds a b holds = eqb_yes {a = a} {b = b} (subst T (sym holds) tt)
-
--- a turn of numbers that are read
-pub turn_read : (p d y r z w x : ℤ) → nat_abs p ≤ 2 ^ 22 → nat_abs d ≤ 2 ^ 22 → nat_abs y ≤ 2 ^ 22 → nat_abs r ≤ 2 ^ 39 → nat_abs z ≤ 2 ^ 39 → w ≡ z → IsTurned (turn_of p d r) z y x → IsTurned (turn_of (read p) (read d) (read r)) (read w) (read y) x
-turn_read p d y r z w x p_small d_small y_small r_small z_small w_is is =
-    rw (w_is, read_number p (omega (arith, p_small)), read_number d (omega (arith, d_small)), read_number y (omega (arith, y_small)), read_number r (omega (arith, r_small)), read_number z (omega (arith, z_small))) is
-
-pub whole_read : (p d y r z w : ℤ) → nat_abs p ≤ 2 ^ 22 → nat_abs d ≤ 2 ^ 22 → nat_abs y ≤ 2 ^ 22 → nat_abs r ≤ 2 ^ 39 → nat_abs z ≤ 2 ^ 39 → w ≡ z → IsWholeTurn (turn_of p d r) z y → IsWholeTurn (turn_of (read p) (read d) (read r)) (read w) (read y)
-whole_read p d y r z w p_small d_small y_small r_small z_small w_is is =
-    (is.0, turn_read p d y r z w is.0 p_small d_small y_small r_small z_small w_is is.1)
-
--- what is read across and of the number is read as it is; and so is what is given with all numbers
-pub inner_unread : (p d y r z w x : ℤ) → nat_abs r ≤ 2 ^ 39 → nat_abs z ≤ 2 ^ 39 → w ≡ z → IsTurned (turn_of p d (read r)) (read w) y x → IsTurned (turn_of p d r) z y x
-inner_unread p d y r z w x r_small z_small w_is is =
-    is
-    ∙ ap (λ q. (p *ℤ q) -ℤ (y *ℤ read r)) (ap read w_is ∙ read_number z (omega (arith, z_small)))
-    ∙ ap (λ q. (p *ℤ z) -ℤ (y *ℤ q)) (read_number r (omega (arith, r_small)))
-
-pub outer_unread : (p d y r z x : ℤ) → nat_abs p ≤ 2 ^ 22 → nat_abs d ≤ 2 ^ 22 → nat_abs y ≤ 2 ^ 22 → IsTurned (turn_of (read p) (read d) r) z (read y) x → IsTurned (turn_of p d r) z y x
-outer_unread p d y r z x p_small d_small y_small is =
-    ap (λ q. x *ℤ q) (sym (read_number d (omega (arith, d_small)))) ∙ is
-    ∙ ap (λ q. (q *ℤ z) -ℤ (read y *ℤ r)) (read_number p (omega (arith, p_small)))
-    ∙ ap (λ q. (p *ℤ z) -ℤ (q *ℤ r)) (read_number y (omega (arith, y_small)))
 
 pub read_known : (z : ℤ) → mag z < 2 ^ 63 → read z ≡ z
 read_known z small = to_z-of_z w64 z (record { sfits = small })
@@ -207,28 +187,6 @@ stays_turned p d y r z none same =
     ring (z ∷ d ∷ r ∷ []) (var 0 ⊗ var 1) ((var 1 ⊗ var 0) ⊖ (num (pos 0) ⊗ var 2)) refl
     ∙ ap (λ q. (d *ℤ z) -ℤ (q *ℤ r)) (sym none)
     ∙ ap (λ q. (q *ℤ z) -ℤ (y *ℤ r)) (sym same)
-
--- a bound on sizes that are read is one on the sizes
-pub sizes_read : (p m y r l c P M Y R L C : ℤ) → P ≡ p → M ≡ m → Y ≡ y → R ≡ r → L ≡ l → C ≡ c → nat_abs P * nat_abs M + nat_abs Y * nat_abs R ≤ nat_abs L * nat_abs C → nat_abs p * nat_abs m + nat_abs y * nat_abs r ≤ nat_abs l * nat_abs c
-sizes_read p m y r l c P M Y R L C P_is M_is Y_is R_is L_is C_is less =
-    subst (λ z. nat_abs z * nat_abs m + nat_abs y * nat_abs r ≤ nat_abs l * nat_abs c) P_is
-    (subst (λ z. nat_abs P * nat_abs z + nat_abs y * nat_abs r ≤ nat_abs l * nat_abs c) M_is
-    (subst (λ z. nat_abs P * nat_abs M + nat_abs z * nat_abs r ≤ nat_abs l * nat_abs c) Y_is
-    (subst (λ z. nat_abs P * nat_abs M + nat_abs Y * nat_abs z ≤ nat_abs l * nat_abs c) R_is
-    (subst (λ z. nat_abs P * nat_abs M + nat_abs Y * nat_abs R ≤ nat_abs z * nat_abs c) L_is
-    (subst (λ z. nat_abs P * nat_abs M + nat_abs Y * nat_abs R ≤ nat_abs L * nat_abs z) C_is less)))))
-
-pub entries_read : (size number : ℕ) (d p y r c P Y R : ℤ) → d ≡ c → P ≡ p → Y ≡ y → R ≡ r → size * nat_abs d ≤ nat_abs p * number + nat_abs y * nat_abs r → size * nat_abs c ≤ nat_abs P * number + nat_abs Y * nat_abs R
-entries_read size number d p y r c P Y R d_is P_is Y_is R_is less =
-    subst (λ z. size * nat_abs c ≤ nat_abs z * number + nat_abs Y * nat_abs R) (sym P_is)
-    (subst (λ z. size * nat_abs c ≤ nat_abs p * number + nat_abs z * nat_abs R) (sym Y_is)
-    (subst (λ z. size * nat_abs c ≤ nat_abs p * number + nat_abs y * nat_abs z) (sym R_is)
-    (subst (λ z. size * nat_abs z ≤ nat_abs p * number + nat_abs y * nat_abs r) d_is less)))
-
-pub limits_read : (p r c : ℕ) (m y M Y : ℤ) → M ≡ m → Y ≡ y → p * nat_abs M + nat_abs Y * r ≤ 2 ^ 39 * c → p * nat_abs m + nat_abs y * r ≤ 2 ^ 39 * c
-limits_read p r c m y M Y M_is Y_is less =
-    subst (λ z. p * nat_abs z + nat_abs y * r ≤ 2 ^ 39 * c) M_is
-    (subst (λ z. p * nat_abs M + nat_abs z * r ≤ 2 ^ 39 * c) Y_is less)
 
 -- over 1 every number turns into a whole one
 pub over_one : (t : Turn) (number along : ℤ) → t.common ≡ pos 1 → IsWholeTurn t number along

@@ -1,19 +1,25 @@
 -- The columns that are left, as variable by variable is looked at; and the one that is chosen.
-use Rattle.std.proofs.Common.{◌≡◌, ℕ, zero, suc, ◌+◌, ◌^◌, ◌<◌, ◌≤◌, refl, sym, ◌∙◌, ap, subst, List, [], ◌∷◌, length, arith, inl, inr}
-use Rattle.std.specs.Prelude.{ℤ, None, Some, pos, negsuc, ◌*ℤ◌, ◌<ℤ◌, ◌≤ℤ◌, nat_abs, slice_index_or}
+use Rattle.std.proofs.Common.{◌≡◌, ℕ, zero, suc, ◌+◌, ◌*◌, ◌^◌, ◌<◌, ◌≤◌, refl, sym, ◌∙◌, ap, subst, List, [], ◌∷◌, length, arith, inl, inr}
+use Rattle.std.specs.Prelude.{ℤ, None, Some, pos, negsuc, ◌*ℤ◌, ◌<ℤ◌, ◌≤ℤ◌, nat_abs, slice_index, slice_index_or}
 use Rattle.std.proofs.lemmas.Int.{ints}
 use Rattle.std.proofs.lemmas.List.{get_or_default}
 use Rattle.std.proofs.lemmas.Bool.{cases_eq}
+use lib.IntN.{zero-*ℤ}
+use Rattle.whole_numbers.proofs.FractionLaws.{product_positive}
+use Rattle.path_rows.specs.Basis.{LeadsPositive}
 use Rattle.fraction_table.specs.Pivots.{LeadsNoNegative, numbers_in, turned_column}
 use Rattle.fraction_table.specs.Wholes.{number_at}
 use Rattle.fraction_table.proofs.ColumnOrders.{prefix_leads, zeros_lead, column_at, column_long, level_zero, greater_rise}
-use Rattle.table_kernel.specs.Choices.{AreLeast, AreLeft, ArePositive, ComesFirst, Has, IsPositiveAt, crosswise}
+use Rattle.table_kernel.specs.Choices.{AreLatest, AreLeast, AreLeft, ComesFirst, Has, IsPositiveAt, crosswise}
 use Rattle.table_kernel.specs.declared.kernel.Kernel.{Kernel}
-use Rattle.table_kernel.specs.Kernels.{IsBounded, IsShaped}
+use Rattle.table_kernel.specs.Kernels.{IsBounded, IsKernel, IsShaped, width_of}
+use Rattle.table_kernel.specs.Leads.{AreLeads, IsLead}
 use Rattle.table_kernel.specs.Numbers.{AllWithin}
 use Rattle.table_kernel.specs.Turns.{IsBestOf}
-use Rattle.table_kernel.proofs.Columns.{reach_within}
+use Rattle.table_kernel.proofs.ColumnLeads.{lead_positive}
+use Rattle.table_kernel.proofs.Columns.{lows_few, reach_within}
 use Rattle.table_kernel.proofs.Narrowing.{has_at}
+use Rattle.table_kernel.proofs.Pivoting.{columns_by}
 use Rattle.table_kernel.proofs.Sizes.{wider}
 
 positive_abs : (z : ℤ) → pos 0 <ℤ z → pos (nat_abs z) ≡ z
@@ -62,13 +68,39 @@ module _ (rows : List (List ℤ)) (line : List ℤ) (c d : ℕ) (c_is : IsPositi
       (subst (λ z. z <ℤ (there count d *ℤ pos own)) (sym (others_read count))
       (subst (λ z. crosswise (slice_index_or rows count []) line c d <ℤ z) (sym (own_read count)) less)))))
 
--- no variable was looked at
-pub none_looked_at : (rows : List (List ℤ)) (line : List ℤ) (left : List ℕ) → ArePositive line (length line) left → AreLeft rows line 0 left
-none_looked_at rows line left are = record {
-  each = are.each;
-  level = λ c d u has other before. absurd (omega arith);
-  others = λ c is. inl (are.all c is.0 is);
+times_positive : (a b : ℤ) → pos 0 <ℤ a → pos 0 <ℤ b → pos 0 <ℤ (a *ℤ b)
+times_positive (pos a) (pos b) a_is b_is =
+    let more : 0 < a * b = product_positive a b (omega (arith, ints)) (omega (arith, ints)) in
+    omega (arith, ints, more)
+times_positive (pos a) (negsuc b) a_is b_is = absurd (omega (arith, ints, b_is))
+times_positive (negsuc a) b a_is b_is = absurd (omega (arith, ints, a_is))
+
+-- those that lead latest have 0 before there, where the others have their first number, which is positive
+pub latest_left : (rows : List (List ℤ)) (line : List ℤ) (leads : List ℕ) (latest : ℕ) (left : List ℕ) → length leads ≡ length line → AreLeads rows leads → ((c : ℕ) → c < length line → LeadsPositive (numbers_in c rows)) → AreLatest line leads (length line) latest left → AreLeft rows line latest left
+latest_left rows line leads latest left counted lead positive are = record {
+  each = λ c has. (are.each c has).0;
+  level = λ c d u has other before. none c d u has before ∙ sym (none d c u other before);
+  others = λ c is. elim (are.all c is.0 is) [
+    | inl has ↦ inl has
+    | inr earlier ↦ inr (λ d has.
+        let first = is_lead c is.0 in
+        let found = lead_positive rows c (slice_index leads c) (positive c is.0) first in
+        less_first rows line d c (are.each d has).0 is (slice_index leads c) found.0
+        (λ u before. none d c u has (omega (arith, before, earlier)) ∙ sym (zero_times (number_at line d) (first.before u before)))
+        (subst (λ (z : ℤ). z <ℤ crosswise (slice_index_or rows (slice_index leads c) []) line c d) (sym (none d c (slice_index leads c) has earlier)) (times_positive _ _ found.1 (are.each d has).0.1)))
+  ];
 }
+  where
+    is_lead : (c : ℕ) → c < length line → IsLead rows c (slice_index leads c)
+    is_lead c c_in = lead c (omega (arith, c_in, counted))
+
+    zero_times : {z : ℤ} (factor : ℤ) → z ≡ pos 0 → (z *ℤ factor) ≡ pos 0
+    zero_times factor zero_there = ap (λ y. y *ℤ factor) zero_there ∙ zero-*ℤ factor
+
+    none : (c d u : ℕ) → Has left c → u < latest → crosswise (slice_index_or rows u []) line c d ≡ pos 0
+    none c d u has before =
+        let is = are.each c has in
+        zero_times (number_at line d) ((is_lead c is.0.0).before u (omega (arith, before, is.1)))
 
 -- one more was
 pub one_more : (rows : List (List ℤ)) (line : List ℤ) (count : ℕ) (left least : List ℕ) → count < length rows → AreLeft rows line count left → AreLeast (slice_index_or rows count []) line left least → AreLeft rows line (count + 1) least
@@ -123,6 +155,18 @@ row_long k var s var_in = omega (arith, s.line, s.each var [] var_in)
 pub row_small : (k : Kernel) (var : ℕ) → IsBounded k → var < length k.lows.items → AllWithin (2 ^ 22) (slice_index_or k.lows.items var [])
 row_small k var b var_in = wider (nat_abs k.reach) (2 ^ 22) (slice_index_or k.lows.items var []) (reach_within k.reach k.weight b.weight b.product) (b.lows var [] var_in)
 
+-- those that lead latest in a kernel, as they are read
+pub latest_read : (k : Kernel) (line : List ℤ) (leads : List ℕ) (latest : ℕ) (left : List ℕ) → line ≡ k.line.items → leads ≡ k.leads.items → AreLatest line leads (length line) latest left → AreLatest k.line.items k.leads.items (length k.line.items) latest left
+latest_read k line leads latest left line_is leads_are are =
+    subst (λ (zs : List ℤ). AreLatest zs k.leads.items (length zs) latest left) line_is (subst (λ (vs : List ℕ). AreLatest line vs (length line) latest left) leads_are are)
+
+pub left_of : (k : Kernel) (latest : ℕ) (left : List ℕ) → IsKernel k → AreLatest k.line.items k.leads.items (length k.line.items) latest left → AreLeft k.lows.items k.line.items latest left
+left_of k latest left m are =
+    latest_left k.lows.items k.line.items k.leads.items latest left (m.shaped.leads ∙ sym m.shaped.line) m.shaped.lead
+    (λ c c_in. (let inside : c < width_of k = omega (arith, c_in, m.shaped.line) in
+    subst LeadsPositive (columns_by k.constants.items k.lows.items c (lows_few k m.shaped)) (subst (λ (rows : List (List ℤ)). LeadsPositive (numbers_in (suc c) rows)) m.numbers.lows (m.whole.unboxed.lead c inside))))
+    are
+
 -- the choice among those that are left at last
 pub chosen_best : (k : Kernel) (left : List ℕ) (best : ℕ) → IsShaped k → AreLeft k.lows.items k.line.items (length k.lows.items) left → 0 < length left → best ≡ slice_index_or left 0 best → IsBestOf k (Some best)
 chosen_best k left best s are some is =
@@ -134,15 +178,18 @@ chosen_best k left best s are some is =
     )
 
 -- and where there is none
-pub none_best : (k : Kernel) (left : List ℕ) → IsShaped k → ArePositive k.line.items (length k.line.items) left → length left ≡ 0 → IsBestOf k None
-none_best k left s are none c c_in =
-    by_sign (number_at k.line.items c) (λ positive. nothing left none (are.all c (omega (arith, c_in, s.line)) (omega (arith, c_in, s.line), positive)))
+pub none_best : (k : Kernel) (latest : ℕ) (left : List ℕ) → IsShaped k → AreLatest k.line.items k.leads.items (length k.line.items) latest left → length left ≡ 0 → IsBestOf k None
+none_best k latest left s are none c c_in =
+    by_sign (number_at k.line.items c) (λ positive. (let inside : c < length k.line.items = omega (arith, c_in, s.line) in none_left (elim (are.all c inside (inside, positive)) [ inl has ↦ has_some left c has | inr earlier ↦ are.some (omega (arith, earlier)) ])))
   where
     by_sign : (z : ℤ) → (pos 0 <ℤ z → ⊥) → z ≤ℤ pos 0
     by_sign (pos zero) never = omega (arith, ints)
     by_sign (pos (suc n)) never = absurd (never (omega (arith, ints)))
     by_sign (negsuc n) never = omega (arith, ints)
 
-    nothing : (xs : List ℕ) → length xs ≡ 0 → Has xs c → ⊥
-    nothing [] e has = has
-    nothing (x ∷ xs) e has = absurd (omega arith)
+    has_some : (xs : List ℕ) (x : ℕ) → Has xs x → 0 < length xs
+    has_some [] x has = absurd has
+    has_some (y ∷ ys) x has = omega arith
+
+    none_left : 0 < length left → ⊥
+    none_left some = omega (arith, none, some)

@@ -1,6 +1,7 @@
 pub mod Narrowing
 pub mod Rooms
 pub mod Settling
+pub mod ColumnLeads
 pub mod Lefts
 pub mod OverCommon
 pub mod AtBasis
@@ -16,6 +17,9 @@ pub mod Distances
 pub mod Sizes
 pub mod LineSums
 pub mod RowSums
+pub mod UseLaws
+pub mod UsePushes
+pub mod UseSums
 pub mod MoreRows
 pub mod Corners
 pub mod MoveSteps
@@ -29,6 +33,13 @@ pub mod Crossings
 pub mod Written
 pub mod TurnArgs
 pub mod Pivoting
+pub mod Refusals
 pub mod Settings
+pub mod SizesAfter
 pub mod Staying
+pub mod Tests
 pub mod TurnedRows
+pub mod Touched
+pub mod Reciprocals
+pub mod Divided
+pub mod Shares

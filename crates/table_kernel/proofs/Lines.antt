@@ -28,9 +28,9 @@ use Rattle.table_kernel.proofs.LineSums.{read, sums_agree}
 use Rattle.table_kernel.proofs.Sizes.{read_number, wider}
 
 -- what a slice of a whole vector ends as
-pub written : (n : ℕ) (news olds : List ℤ) → length news ≡ length olds → n ≡ length olds → take n (news ++ drop (length news) olds) ≡ news
+pub written : {X : Type 0} (n : ℕ) (news olds : List X) → length news ≡ length olds → n ≡ length olds → take n (news ++ drop (length news) olds) ≡ news
 written n news olds long counted =
-    ap (λ (ys : List ℤ). take n (news ++ ys)) (drop_all (length news) olds (omega (arith, long)))
+    ap (λ ys. take n (news ++ ys)) (drop_all (length news) olds (omega (arith, long)))
     ∙ ap (take n) (append-nil news)
     ∙ take_all n news (omega (arith, long, counted))
 

@@ -1,4 +1,5 @@
 -- One more row: the kernel stays one with the row's constant at the end.
+use Rattle.table_kernel.specs.Uses.{held_in, uses_by}
 use Rattle.std.proofs.Common.{◌≡◌, ◌≢◌, ℕ, suc, ◌+◌, ◌*◌, ◌^◌, ◌<◌, ◌≤◌, inl, inr, refl, sym, ◌∙◌, ap, subst, List, [], ◌∷◌, ◌++◌, length, arith, w64, to_z, of_z}
 use Rattle.std.specs.Prelude.{◌⊎◌, ℤ, pos, ◌+ℤ◌, ◌*ℤ◌, ◌<ℤ◌, ◌≤ℤ◌, nat_abs, slice_index_or, vec_capacity, All}
 use Rattle.std.proofs.Math.Seq.{get_or-append_seam}
@@ -22,6 +23,7 @@ use Rattle.fraction_table.proofs.Pivots.{members_long}
 use Rattle.fraction_table.proofs.Starts.{members_are}
 use Rattle.table_kernel.specs.declared.kernel.Kernel.{Kernel}
 use Rattle.table_kernel.specs.Kernels.{IsBounded, IsKernel, IsShaped, lows_of, width_of}
+use Rattle.table_kernel.specs.Leads.{AreLeads}
 use Rattle.table_kernel.specs.Numbers.{AllWithin, lows_by, product_sum, weight_of}
 use Rattle.table_kernel.specs.Turns.{IsCovered, row_constant_of}
 use Rattle.table_kernel.proofs.AtBasis.{AreAtBasis, basis_kernel, kernel_basis}
@@ -99,7 +101,9 @@ pub record IsGrown (old new : Kernel) (f : Form) (line : List Fraction) : Type 0
   pub weight : weight_of f ≤ nat_abs new.weight
   pub product : nat_abs new.weight * nat_abs old.reach ≤ 2 ^ 22
   pub lows : new.lows.items ≡ old.lows.items
+  pub leads : new.leads.items ≡ old.leads.items
   pub constants : new.constants.items ≡ old.constants.items ++ row_constant_of old f ∷ []
+  pub uses : held_in new.uses.items ≡ uses_by (old.table.rows.items ++ f ∷ []) (width_of old)
   pub along : new.along.items ≡ old.along.items ++ pos 0 ∷ []
   pub left : vec_capacity new.left ≡ vec_capacity old.left
   pub room : new.line.items ≡ old.line.items
@@ -121,7 +125,10 @@ grown_shaped old new f line s g =
       };
       lows = ap length g.lows ∙ s.lows ∙ sym width;
       each = subst (λ (m : ℕ). All (λ (row : List ℤ). length row ≡ m) new.lows.items) (sym width) (subst (All (λ (row : List ℤ). length row ≡ n)) (sym g.lows) s.each);
+      leads = ap length g.leads ∙ s.leads ∙ sym width;
+      lead = subst (λ (rows : List (List ℤ)). AreLeads rows new.leads.items) (sym g.lows) (subst (AreLeads old.lows.items) (sym g.leads) s.lead);
       constants = omega (arith, constants, s.constants, rows, width, members_long old.table.costs (length old.table.rows.items), members_long new.table.costs (length new.table.rows.items));
+      uses = g.uses ∙ ap (λ (rows : List Form). uses_by rows n) (sym t.rows) ∙ ap (uses_by new.table.rows.items) (sym width);
       line = ap length g.room ∙ s.line ∙ sym width;
       left = omega (arith, width, s.left, g.left);
       along = omega (arith, along, s.along, constants);

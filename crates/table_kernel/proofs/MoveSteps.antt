@@ -1,12 +1,12 @@
 -- How far a constant can move at once, and how often.
-use Rattle.std.proofs.Common.{◌≡◌, ℕ, ◌+◌, ◌*◌, ◌/◌, ◌^◌, ◌<◌, ◌≤◌, refl, sym, subst, ◌∙◌, ap, arith, w64, to_z, of_z, SFits, div-mul-le_self, div-le_self}
+use Rattle.std.proofs.Common.{◌≡◌, ℕ, ◌+◌, ◌*◌, ◌/◌, ◌^◌, ◌<◌, ◌≤◌, ◌↔◌, refl, sym, subst, ◌∙◌, ap, arith, w64, to_z, of_z, SFits, div-le_self}
 use Rattle.std.specs.Prelude.{ℤ, pos, negsuc, ◌+ℤ◌, ◌-ℤ◌, ◌*ℤ◌, ◌<ℤ◌, ◌≤ℤ◌, nat_abs, int_div, int_le, IsTrue}
-use Rattle.std.proofs.Math.Nat.{mul-le-mul, mul-le-mul_right}
+use Rattle.std.proofs.Math.Nat.{le-div_iff_mul-le, mul-le-mul, mul-le-mul_right}
 use Rattle.std.proofs.lemmas.Int.{fits_signed_from_abs, ints, to_z-of_z, unsigned_abs-mul}
 use Rattle.table_kernel.specs.declared.kernel.Kernel.{Kernel}
 use Rattle.table_kernel.specs.Kernels.{IsBounded}
 use Rattle.table_kernel.specs.Turns.{step_of}
-use Rattle.table_kernel.proofs.Sizes.{read_number}
+use Rattle.table_kernel.proofs.Sizes.{read_number, test_natural}
 
 -- the numbers of a kernel that a step is made of
 pub record AreParts (reach weight common : ℤ) : Type 0 where
@@ -67,27 +67,25 @@ kernel_parts k b = record { reaches = b.reach; weighs = b.weight; product = b.pr
 pub kernel_step : (k : Kernel) → IsBounded k → step_of k ≤ 2 ^ 23
 kernel_step k b = step_small k.reach k.weight k.common (kernel_parts k b)
 
--- a number that is at most a quotient, times what that is over, is at most the whole
-pub within_quotient : (steps step room : ℤ) → pos 0 ≤ℤ steps → pos 0 <ℤ step → pos 0 ≤ℤ room → SFits w64 steps → SFits w64 step → SFits w64 room → IsTrue (int_le (to_z w64 (of_z w64 steps)) (to_z w64 (of_z w64 (int_div (to_z w64 (of_z w64 room)) (to_z w64 (of_z w64 step)))))) → nat_abs steps * nat_abs step ≤ nat_abs room
-within_quotient (negsuc a) step room from some space a_fits b_fits c_fits test = absurd (omega (arith, ints, from))
-within_quotient (pos a) (negsuc b) room from some space a_fits b_fits c_fits test = absurd (omega (arith, ints, some))
-within_quotient (pos a) (pos b) (negsuc c) from some space a_fits b_fits c_fits test = absurd (omega (arith, ints, space))
-within_quotient (pos a) (pos b) (pos c) from some space a_fits b_fits c_fits test =
-    let steps = to_z w64 (of_z w64 (pos a)) in
+-- a number is at most a quotient where, times what that is over, it is at most the whole
+pub within_quotient : (steps step room : ℤ) → pos 0 ≤ℤ steps → pos 0 <ℤ step → pos 0 ≤ℤ room → SFits w64 steps → SFits w64 step → SFits w64 room → IsTrue (int_le (to_z w64 (of_z w64 steps)) (to_z w64 (of_z w64 (int_div (to_z w64 (of_z w64 room)) (to_z w64 (of_z w64 step)))))) ↔ (nat_abs steps * nat_abs step ≤ nat_abs room)
+within_quotient (negsuc a) step room from some space a_fits b_fits c_fits = absurd (omega (arith, ints, from))
+within_quotient (pos a) (negsuc b) room from some space a_fits b_fits c_fits = absurd (omega (arith, ints, some))
+within_quotient (pos a) (pos b) (negsuc c) from some space a_fits b_fits c_fits = absurd (omega (arith, ints, space))
+within_quotient (pos a) (pos b) (pos c) from some space a_fits b_fits c_fits =
     let step = to_z w64 (of_z w64 (pos b)) in
     let c_small : c < 2 ^ 63 = c_fits.sfits in
     let quotient : to_z w64 (of_z w64 (int_div (to_z w64 (of_z w64 (pos c))) step)) ≡ pos (c / b) =
     ap (λ z. to_z w64 (of_z w64 (int_div z step))) (to_z-of_z w64 (pos c) c_fits)
     ∙ ap (λ z. to_z w64 (of_z w64 (int_div (pos c) z))) (to_z-of_z w64 (pos b) b_fits)
     ∙ read_number (pos (c / b)) (omega (arith, c_small, div-le_self c b)) in
-    let read : IsTrue (int_le (pos a) (pos (c / b))) =
-    sym (ap (λ z. int_le z (to_z w64 (of_z w64 (int_div (to_z w64 (of_z w64 (pos c))) step)))) (to_z-of_z w64 (pos a) a_fits) ∙ ap (λ z. int_le (pos a) z) quotient) ∙ test in
-    let at_most : a ≤ c / b = grind (arith, ints, read) in
-    omega (arith, mul-le-mul_right b at_most, div-mul-le_self c b)
+    let test = test_natural _ _ a (c / b) (to_z-of_z w64 (pos a) a_fits) quotient in
+    let law = le-div_iff_mul-le {k = b} {x = a} {y = c} (omega (arith, ints, some)) in
+    (λ holds. law.0 (test.0 holds), λ fits. test.1 (law.1 fits))
 
--- the steps of a whole move fit behind the greatest constant
-pub all_fit : (lows highs step most : ℤ) (a b s : ℕ) → lows ≡ pos a → highs ≡ pos b → step ≡ pos s → lows ≤ℤ pos (2 ^ 60) → highs ≤ℤ pos (2 ^ 60) → s < 2 ^ 63 → pos 0 ≤ℤ most → nat_abs most ≤ 2 ^ 39 → nat_abs (to_z w64 (of_z w64 (to_z w64 (of_z w64 lows) +ℤ to_z w64 (of_z w64 highs)))) * nat_abs (to_z w64 (of_z w64 step)) ≤ nat_abs (to_z w64 (of_z w64 (pos (2 ^ 39) -ℤ to_z w64 (of_z w64 most)))) → nat_abs most + (a + b) * s ≤ 2 ^ 39
-all_fit lows highs step most a b s lows_is highs_is step_is lows_small highs_small s_small most_from most_small fit =
+-- whether the steps of a whole move fit behind the greatest constant
+pub all_fit : (lows highs step most : ℤ) (a b s : ℕ) → lows ≡ pos a → highs ≡ pos b → step ≡ pos s → lows ≤ℤ pos (2 ^ 60) → highs ≤ℤ pos (2 ^ 60) → s < 2 ^ 63 → pos 0 ≤ℤ most → nat_abs most ≤ 2 ^ 39 → (nat_abs (to_z w64 (of_z w64 (to_z w64 (of_z w64 lows) +ℤ to_z w64 (of_z w64 highs)))) * nat_abs (to_z w64 (of_z w64 step)) ≤ nat_abs (to_z w64 (of_z w64 (pos (2 ^ 39) -ℤ to_z w64 (of_z w64 most))))) ↔ (nat_abs most + (a + b) * s ≤ 2 ^ 39)
+all_fit lows highs step most a b s lows_is highs_is step_is lows_small highs_small s_small most_from most_small =
     let lows_at : nat_abs lows ≤ 2 ^ 60 = omega (arith, ints, lows_small, lows_is) in
     let highs_at : nat_abs highs ≤ 2 ^ 60 = omega (arith, ints, highs_small, highs_is) in
     let steps_are : to_z w64 (of_z w64 (to_z w64 (of_z w64 lows) +ℤ to_z w64 (of_z w64 highs))) ≡ pos (a + b) =
@@ -103,9 +101,15 @@ all_fit lows highs step most a b s lows_is highs_is step_is lows_small highs_sma
     let room_size : nat_abs (pos (2 ^ 39) -ℤ most) + nat_abs most ≡ 2 ^ 39 = omega (arith, ints, most_from, most_small) in
     let product_is : nat_abs (to_z w64 (of_z w64 (to_z w64 (of_z w64 lows) +ℤ to_z w64 (of_z w64 highs)))) * nat_abs (to_z w64 (of_z w64 step)) ≡ (a + b) * s =
     ap (λ z. nat_abs z * nat_abs (to_z w64 (of_z w64 step))) steps_are ∙ ap (λ z. (a + b) * nat_abs z) step_at in
-    let fits : (a + b) * s ≤ nat_abs (pos (2 ^ 39) -ℤ most) =
-    subst (λ n. (a + b) * s ≤ n) (ap nat_abs room_is) (subst (λ n. n ≤ nat_abs (to_z w64 (of_z w64 (pos (2 ^ 39) -ℤ to_z w64 (of_z w64 most))))) product_is fit) in
-    omega (arith, fits, room_size)
+    let room_at = ap nat_abs room_is in (
+      λ fit.
+          let fits : (a + b) * s ≤ nat_abs (pos (2 ^ 39) -ℤ most) =
+          subst (λ n. (a + b) * s ≤ n) room_at (subst (λ n. n ≤ nat_abs (to_z w64 (of_z w64 (pos (2 ^ 39) -ℤ to_z w64 (of_z w64 most))))) product_is fit) in
+          omega (arith, fits, room_size),
+      λ small.
+          let fits : (a + b) * s ≤ nat_abs (pos (2 ^ 39) -ℤ most) = omega (arith, small, room_size) in
+          subst (λ n. n ≤ nat_abs (to_z w64 (of_z w64 (pos (2 ^ 39) -ℤ to_z w64 (of_z w64 most))))) (sym product_is) (subst (λ n. (a + b) * s ≤ n) (sym room_at) fits),
+    )
 
 -- a constant that falls, as 64 bits hold it
 fall_product : (common fall : ℤ) → nat_abs common ≤ 2 ^ 22 → nat_abs fall ≤ 2 ^ 22 → nat_abs (common *ℤ fall) ≤ 2 ^ 44

@@ -1,4 +1,6 @@
 -- A kernel after one bound moved.
+use Rattle.table_kernel.specs.Uses.{held_in}
+use Rattle.table_kernel.proofs.UseLaws.{uses_kept}
 use Rattle.std.proofs.Common.{◌≡◌, ◌≢◌, ℕ, zero, suc, ◌+◌, ◌*◌, ◌^◌, ◌<◌, ◌≤◌, refl, sym, ◌∙◌, ap, subst, List, [], ◌∷◌, map, length, arith, inl, inr}
 use Rattle.std.specs.Prelude.{ℤ, pos, ◌+ℤ◌, ◌-ℤ◌, ◌*ℤ◌, ◌<ℤ◌, ◌≤ℤ◌, Option, None, Some, nat_abs, slice_index_or, All}
 use Rattle.std.proofs.lemmas.Bool.{cases_eq}
@@ -233,7 +235,10 @@ moved_shape k s m next news before after fall column own mv is =
       each =
           subst (λ (w : ℕ). All (λ (row : List ℤ). length row ≡ w) s.lows.items) (sym width)
           (subst (λ (rows : List (List ℤ)). All (λ (row : List ℤ). length row ≡ width_of k) rows) (sym (ap (λ lows. lows.items) is.keeps.lows)) o.each);
+      leads = ap (λ leads. length leads.items) is.keeps.leads ∙ o.leads ∙ sym width;
+      lead = rw (is.keeps.lows, is.keeps.leads) o.lead;
       constants = omega (arith, as_many, o.constants, rows_many, width, members_long s.table.costs (length s.table.rows.items), members_long k.table.costs (length k.table.rows.items));
+      uses = uses_kept k.uses.items s.uses.items k.table.rows.items s.table.rows.items (width_of k) (width_of s) (ap (λ uses. held_in uses.items) is.keeps.uses) (ap (λ rows. rows.items) is.keeps.rows) width o.uses;
       line = is.keeps.line ∙ o.line ∙ sym width;
       left = omega (arith, is.keeps.left, o.left, width);
       along = is.keeps.along ∙ o.along ∙ sym as_many;

@@ -1,9 +1,9 @@
 -- Columns over the line's numbers there, put in order; and how those that are least are kept.
 use Rattle.std.proofs.Common.{◌≡◌, ℕ, zero, suc, ◌+◌, ◌^◌, ◌<◌, ◌≤◌, refl, sym, ◌∙◌, ap, subst, List, [], ◌∷◌, ◌++◌, length, take, drop, set, get_or, add-zero, arith, to_z, of_z, inl, inr, ◌⊎◌, w64}
-use Rattle.std.specs.Prelude.{ℤ, pos, negsuc, ◌+ℤ◌, ◌-ℤ◌, ◌*ℤ◌, ◌<ℤ◌, ◌≤ℤ◌, FitsSigned}
+use Rattle.std.specs.Prelude.{ℤ, pos, negsuc, ◌+ℤ◌, ◌-ℤ◌, ◌*ℤ◌, ◌<ℤ◌, ◌≤ℤ◌, FitsSigned, slice_index}
 use Rattle.std.proofs.lemmas.Int.{ints, fits_signed_mul, fits_signed_from_abs, to_z-of_z}
 use Rattle.std.proofs.lemmas.Bool.{cases_eq}
-use Rattle.std.proofs.lemmas.List.{drop-drop, drop-set-lt, get_or-drop, get_or-take, length-take, take_more, take_more_set}
+use Rattle.std.proofs.lemmas.List.{drop-drop, drop-set-lt, get_or-drop, get_or-take, length-append, length-take, take_more, take_more_set}
 use mathlib.Core.Path.{ap₂}
 use Rattle.whole_numbers.proofs.Ring.{var, ◌⊕◌, ◌⊖◌, ◌⊗◌, ring, ring_by, using, nothing}
 use Rattle.whole_numbers.proofs.FractionLaws.{cancel}
@@ -13,7 +13,7 @@ use Rattle.std.specs.Ordering.{int_cmp}
 use Rattle.fraction_table.specs.Wholes.{number_at}
 use Rattle.fraction_table.proofs.theory.Corner.{opposite_product, negative_product, negative_factor}
 use Rattle.table_kernel.specs.Numbers.{AllWithin}
-use Rattle.table_kernel.specs.Choices.{AreLeast, ArePositive, Has, IsPositiveAt, crosswise}
+use Rattle.table_kernel.specs.Choices.{AreLatest, AreLeast, Has, IsPositiveAt, crosswise}
 
 -- products of small numbers fit
 small_product : (xs ys : List ℤ) (i j : ℕ) → AllWithin (2 ^ 22) xs → AllWithin (2 ^ 22) ys → i < length xs → j < length ys → FitsSigned w64 (number_at xs i *ℤ number_at ys j)
@@ -213,30 +213,44 @@ module _ (numbers line : List ℤ) (seen least : List ℕ) (f c : ℕ) (each : (
     ];
   }
 
--- the columns of which the line is positive, one more being looked at
-pub positive_joins : (line : List ℤ) (column : ℕ) (left : List ℕ) → column < length line → pos 0 <ℤ number_at line column → ArePositive line column left → ArePositive line (column + 1) (left ++ column ∷ [])
-positive_joins line column left column_in positive are = record {
-  each = λ c has. elim (has_cases left c column has) [
-    | inl before ↦ are.each c before
-    | inr same ↦ subst (IsPositiveAt line) (sym same) (column_in, positive)
-  ];
-  all = λ c c_in is. elim (cases_eq c column) [
-    | inl same ↦ subst (Has (left ++ column ∷ [])) (sym same) (has_last left column)
-    | inr other ↦ has_more left c column (are.all c (omega (arith, c_in, other)) is)
-  ];
-}
-
-pub other_passes : (line : List ℤ) (column : ℕ) (left : List ℕ) → number_at line column ≤ℤ pos 0 → ArePositive line column left → ArePositive line (column + 1) left
-other_passes line column left low are = record {
+-- one more column is looked at: the line isn't positive in it, or it leads earlier
+pub latest_stays : (line : List ℤ) (leads : List ℕ) (column latest : ℕ) (left : List ℕ) → AreLatest line leads column latest left → (pos 0 <ℤ number_at line column → slice_index leads column < latest) → AreLatest line leads (column + 1) latest left
+latest_stays line leads column latest left are passed = record {
   each = are.each;
   all = λ c c_in is. elim (cases_eq c column) [
-    | inl same ↦ absurd (both (number_at line column) low (subst (λ (k : ℕ). pos 0 <ℤ number_at line k) same is.1))
+    | inl same ↦ inr (subst (λ (k : ℕ). slice_index leads k < latest) (sym same) (passed (subst (λ (k : ℕ). pos 0 <ℤ number_at line k) same is.1)))
     | inr other ↦ are.all c (omega (arith, c_in, other)) is
   ];
+  some = are.some;
 }
-  where
-    both : (z : ℤ) → z ≤ℤ pos 0 → pos 0 <ℤ z → ⊥
-    both z low high = omega (arith, ints)
+
+-- it leads where the others do
+pub latest_joins : (line : List ℤ) (leads : List ℕ) (column latest : ℕ) (left : List ℕ) → AreLatest line leads column latest left → IsPositiveAt line column → slice_index leads column ≡ latest → AreLatest line leads (column + 1) latest (left ++ column ∷ [])
+latest_joins line leads column latest left are positive level = record {
+  each = λ c has. elim (has_cases left c column has) [
+    | inl before ↦ are.each c before
+    | inr same ↦ subst (λ (k : ℕ). IsPositiveAt line k × (slice_index leads k ≡ latest)) (sym same) (positive, level)
+  ];
+  all = λ c c_in is. elim (cases_eq c column) [
+    | inl same ↦ inl (subst (Has (left ++ column ∷ [])) (sym same) (has_last left column))
+    | inr other ↦ elim (are.all c (omega (arith, c_in, other)) is) [ inl has ↦ inl (has_more left c column has) | inr earlier ↦ inr earlier ]
+  ];
+  some = λ later. omega (arith, length-append left (column ∷ []));
+}
+
+-- it leads later than all before it
+pub latest_alone : (line : List ℤ) (leads : List ℕ) (column latest lead : ℕ) (left : List ℕ) → AreLatest line leads column latest left → IsPositiveAt line column → slice_index leads column ≡ lead → latest < lead → AreLatest line leads (column + 1) lead (column ∷ [])
+latest_alone line leads column latest lead left are positive level later = record {
+  each = λ c has. subst (λ (k : ℕ). IsPositiveAt line k × (slice_index leads k ≡ lead)) (sym (has_one c column has)) (positive, level);
+  all = λ c c_in is. elim (cases_eq c column) [
+    | inl same ↦ inl (inl same)
+    | inr other ↦ elim (are.all c (omega (arith, c_in, other)) is) [
+      | inl has ↦ inr (omega (arith, (are.each c has).1, later))
+      | inr earlier ↦ inr (omega (arith, earlier, later))
+    ]
+  ];
+  some = λ later. omega arith;
+}
 
 -- columns by their places
 pub has_at : (xs : List ℕ) (i : ℕ) → i < length xs → Has xs (get_or xs i 0)

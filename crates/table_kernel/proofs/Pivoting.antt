@@ -1,4 +1,7 @@
 -- After a pivot a kernel is one, and its rank rose.
+use Rattle.table_kernel.specs.declared.uses.Use.{Use}
+use Rattle.table_kernel.specs.Uses.{held_in}
+use Rattle.table_kernel.proofs.UseLaws.{uses_kept}
 use Rattle.std.specs.declared.alloc.Global.{Global}
 use Rattle.std.proofs.Common.{Vec, ◌≡◌, ℕ, suc, ◌+◌, ◌*◌, ◌^◌, ◌<◌, ◌≤◌, refl, sym, ◌∙◌, ap, subst, List, [], ◌∷◌, map, length, arith, zero-add}
 use Rattle.std.specs.Prelude.{ℤ, pos, ◌*ℤ◌, ◌<ℤ◌, ◌≤ℤ◌, nat_abs, slice_index, slice_index_or, slice_set, vec_capacity, All, Some}
@@ -25,6 +28,7 @@ use Rattle.fraction_table.proofs.theory.TurnedNumbers.{numbers_at, numbers_long}
 use Rattle.fraction_table.proofs.theory.Turns.{turned_rows}
 use Rattle.table_kernel.specs.declared.kernel.Kernel.{Kernel}
 use Rattle.table_kernel.specs.Kernels.{IsBounded, IsKernel, IsShaped, lows_of, stated, width_of}
+use Rattle.table_kernel.specs.Leads.{AreLeads}
 use Rattle.table_kernel.specs.Numbers.{AllWithin, lows_by, number_in, weight_of}
 use Rattle.table_kernel.specs.Turns.{IsBestOf, IsTurned, column_of, form_in, line_numbers}
 use Rattle.table_kernel.specs.Turnings.{AreWithinReach, IsTurnedRow, turn_of}
@@ -48,10 +52,13 @@ pub record IsPivoted (k n : Kernel) (place column : ℕ) : Type 0 where
   pub product : nat_abs n.weight * nat_abs n.reach ≤ 2 ^ 22
   pub numbers : AreWithinReach n
   pub limit : AllWithin (2 ^ 39) n.constants.items
+  pub uses : n.uses ≡ k.uses
   pub left : vec_capacity k.left ≤ vec_capacity n.left
   pub line : length n.line.items ≡ length k.line.items
   pub along : length n.along.items ≡ length k.along.items
   pub lows_count : length n.lows.items ≡ length k.lows.items
+  pub leads_count : length n.leads.items ≡ length k.leads.items
+  pub leads : AreLeads k.lows.items k.leads.items → AreLeads n.lows.items n.leads.items
   pub constants_count : length n.constants.items ≡ length k.constants.items
   pub lows : (v : ℕ) → v < length k.lows.items → IsTurnedRow (number_at k.line.items column) k.common (number_at (slice_index_or k.lows.items v []) column) column k.line.items (slice_index_or k.lows.items v []) (slice_index_or n.lows.items v [])
   pub constants : (p : ℕ) → p < length k.constants.items → IsTurned (turn_of (number_at k.line.items column) k.common (number_at k.constants.items place)) (number_at k.constants.items p) (number_in (form_in k p) (column_of k column)) (number_at n.constants.items p)
@@ -65,6 +72,10 @@ pub record IsPivotIn (k : Kernel) (place column : ℕ) : Type 0 where
   pub column_in : column < width_of k
   pub best : IsBestOf k (Some column)
 
+pub pivot_in : (k : Kernel) (place column : ℕ) → IsKernel k → place < length k.constants.items → number_at k.constants.items place <ℤ pos 0 → k.line.items ≡ line_numbers k place → column < width_of k → IsBestOf k (Some column) → IsPivotIn k place column
+pivot_in k place column kernel place_in below line column_in best =
+    record { kernel = kernel; place_in = place_in; below = below; line = line; column_in = column_in; best = best }
+
 positive_is : (z : ℤ) → pos 0 <ℤ z → z ≡ pos (nat_abs z)
 positive_is z positive = omega (arith, ints, positive)
 
@@ -72,7 +83,7 @@ positive_abs : (z : ℤ) → pos 0 <ℤ z → 0 < nat_abs z
 positive_abs z positive = omega (arith, ints, positive)
 
 -- the numbers of x - low at a column
-columns_by : (cs : List ℤ) (rows : List (List ℤ)) (c : ℕ) → length rows ≤ length cs → numbers_in (suc c) (lows_by cs rows) ≡ map (λ row. number_at row c) rows
+pub columns_by : (cs : List ℤ) (rows : List (List ℤ)) (c : ℕ) → length rows ≤ length cs → numbers_in (suc c) (lows_by cs rows) ≡ map (λ row. number_at row c) rows
 columns_by cs [] c few = refl
 columns_by [] (row ∷ rows) c few = absurd (omega (arith, few))
 columns_by (z ∷ cs) (row ∷ rows) c few = ap (λ zs. number_at row c ∷ zs) (columns_by cs rows c (omega (arith, few)))
@@ -201,7 +212,10 @@ module _ (k : Kernel) (place column : ℕ) (p : IsPivotIn k place column) where
           };
           lows = q.lows_count ∙ s.lows ∙ sym wide_is;
           each = each;
+          leads = q.leads_count ∙ s.leads ∙ sym wide_is;
+          lead = q.leads s.lead;
           constants = q.constants_count ∙ s.constants ∙ ap (λ (rows : Vec Form Global). length (members_of k.table.costs (length rows.items))) (sym q.rows) ∙ ap (λ (c : CostBox). length (members_of c (length n.table.rows.items))) (sym q.costs);
+          uses = uses_kept k.uses.items n.uses.items k.table.rows.items n.table.rows.items (width_of k) (width_of n) (ap (λ (us : Vec (Vec Use Global) Global). held_in us.items) q.uses) (ap (λ (rows : Vec Form Global). rows.items) q.rows) wide_is s.uses;
           line = q.line ∙ s.line ∙ sym wide_is;
           left = omega (arith, wide_is, s.left, q.left);
           along = q.along ∙ s.along ∙ sym q.constants_count;

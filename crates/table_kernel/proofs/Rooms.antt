@@ -14,6 +14,8 @@ rebuilt old new keeps =
     ∙ ap {B = Kernel} (λ z. record new { table = old.table; common = old.common; reach = old.reach; weight = z }) keeps.weight
     ∙ ap {B = Kernel} (λ rows. record new { table = old.table; common = old.common; reach = old.reach; weight = old.weight; lows = rows }) keeps.lows
     ∙ ap {B = Kernel} (λ zs. record new { table = old.table; common = old.common; reach = old.reach; weight = old.weight; lows = old.lows; constants = zs }) keeps.constants
+    ∙ ap {B = Kernel} (λ us. record new { table = old.table; common = old.common; reach = old.reach; weight = old.weight; lows = old.lows; constants = old.constants; uses = us }) keeps.uses
+    ∙ ap {B = Kernel} (λ ls. record new { table = old.table; common = old.common; reach = old.reach; weight = old.weight; lows = old.lows; constants = old.constants; uses = old.uses; leads = ls }) keeps.leads
 
 -- so it stands for the same table
 pub same_stated : (old new : Kernel) → KeepsNumbers old new → stated new ≡ stated old
@@ -28,7 +30,10 @@ keeps_kernel old new keeps m =
         room = m.shaped.room;
         lows = m.shaped.lows;
         each = m.shaped.each;
+        leads = m.shaped.leads;
+        lead = m.shaped.lead;
         constants = m.shaped.constants;
+        uses = m.shaped.uses;
         line = keeps.line ∙ m.shaped.line;
         left = omega (arith, keeps.left, m.shaped.left);
         along = keeps.along ∙ m.shaped.along;
@@ -58,7 +63,9 @@ left_keeps old new is room = record {
   reach = ap (λ (k : Kernel). k.reach) is;
   weight = ap (λ (k : Kernel). k.weight) is;
   lows = ap (λ (k : Kernel). k.lows) is;
+  leads = ap (λ (k : Kernel). k.leads) is;
   constants = ap (λ (k : Kernel). k.constants) is;
+  uses = ap (λ (k : Kernel). k.uses) is;
   line = ap (λ (k : Kernel). length k.line.items) is;
   along = ap (λ (k : Kernel). length k.along.items) is;
   left = room;
@@ -72,7 +79,9 @@ keeps_twice first second third k l = record {
   reach = l.reach ∙ k.reach;
   weight = l.weight ∙ k.weight;
   lows = l.lows ∙ k.lows;
+  leads = l.leads ∙ k.leads;
   constants = l.constants ∙ k.constants;
+  uses = l.uses ∙ k.uses;
   line = l.line ∙ k.line;
   along = l.along ∙ k.along;
   left = omega (arith, k.left, l.left);

@@ -1,5 +1,7 @@
 -- A kernel that holds the same numbers in other room is one, too.
-use Rattle.std.proofs.Common.{◌≡◌, ℕ, suc, ◌*◌, ◌^◌, ◌≤◌, refl, sym, ◌∙◌, ap, subst, List, length, arith}
+use Rattle.std.specs.declared.alloc.Global.{Global}
+use Rattle.std.proofs.Common.{Vec, ◌≡◌, ℕ, suc, ◌*◌, ◌^◌, ◌≤◌, refl, sym, ◌∙◌, ap, subst, List, length, arith}
+use Rattle.table_kernel.proofs.UseLaws.{uses_kept}
 use Rattle.std.specs.Prelude.{ℤ, pos, ◌<ℤ◌, ◌≤ℤ◌, nat_abs, All}
 use Rattle.whole_numbers.specs.Fractions.{Fraction}
 use Rattle.path_rows.specs.declared.form.Form.{Form}
@@ -12,6 +14,7 @@ use Rattle.fraction_table.specs.Tableaus.{FitsBox}
 use Rattle.fraction_table.specs.Wholes.{members_of}
 use Rattle.table_kernel.specs.declared.kernel.Kernel.{Kernel}
 use Rattle.table_kernel.specs.Kernels.{IsBounded, IsKernel, IsShaped, lines_of, lows_of, stated, width_of}
+use Rattle.table_kernel.specs.Leads.{AreLeads}
 use Rattle.table_kernel.specs.Numbers.{AllWithin, lows_by, weight_of}
 use Rattle.table_kernel.specs.Turns.{HoldsNumbers}
 use Rattle.table_kernel.proofs.AtBasis.{AreAtBasis, basis_kernel, kernel_basis, stated_lines}
@@ -32,7 +35,10 @@ same_shaped old new t h s =
       };
       lows = ap length h.lows ∙ s.lows ∙ sym width;
       each = subst (λ (m : ℕ). All (λ (row : List ℤ). length row ≡ m) new.lows.items) (sym width) (subst (All (λ (row : List ℤ). length row ≡ width_of old)) (sym h.lows) s.each);
+      leads = ap (λ (vs : Vec ℕ Global). length vs.items) h.leads ∙ s.leads ∙ sym width;
+      lead = subst (λ (rows : List (List ℤ)). AreLeads rows new.leads.items) (sym h.lows) (subst (λ (vs : Vec ℕ Global). AreLeads old.lows.items vs.items) (sym h.leads) s.lead);
       constants = constants ∙ s.constants ∙ sym counted;
+      uses = uses_kept old.uses.items new.uses.items old.table.rows.items new.table.rows.items (width_of old) (width_of new) h.uses t.rows width s.uses;
       line = ap length h.line ∙ s.line ∙ sym width;
       left = omega (arith, width, s.left, h.left);
       along = ap length h.along ∙ s.along ∙ sym constants;

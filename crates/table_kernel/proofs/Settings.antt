@@ -11,7 +11,9 @@ use Rattle.fraction_table.specs.declared.table.Table.{Table}
 use Rattle.fraction_table.specs.Pivots.{member_at}
 use Rattle.fraction_table.specs.Wholes.{members_of, number_at}
 use Rattle.table_kernel.specs.declared.kernel.Kernel.{Kernel}
+use Rattle.table_kernel.specs.declared.uses.Use.{Use}
 use Rattle.table_kernel.specs.Kernels.{IsKernel, width_of}
+use Rattle.table_kernel.specs.Leads.{AreLeads}
 use Rattle.table_kernel.specs.Numbers.{AllWithin, number_in}
 use Rattle.table_kernel.specs.Turns.{IsTurned, KeepsNumbers, along_numbers, column_of, form_in, line_numbers}
 use Rattle.table_kernel.specs.Turnings.{HasTurned, IsReady, IsTurnedRow, turn_of}
@@ -20,18 +22,20 @@ use Rattle.table_kernel.proofs.Pivoting.{IsPivotIn, IsPivoted, own_number}
 
 -- the kernel with other room
 abbrev with_room : Kernel → Kernel → Kernel
-with_room k n = record { table = k.table; common = k.common; reach = k.reach; weight = k.weight; lows = k.lows; constants = k.constants; left = n.left; line = n.line; along = n.along }
+with_room k n = record { table = k.table; common = k.common; reach = k.reach; weight = k.weight; lows = k.lows; leads = k.leads; constants = k.constants; uses = k.uses; left = n.left; line = n.line; along = n.along }
 
 room_is : (k n : Kernel) → KeepsNumbers k n → with_room k n ≡ n
 room_is k n e =
-    let made : Table → ℤ → ℤ → ℤ → Vec (List ℤ) Global → Vec ℤ Global → Kernel =
-    λ t c r w ls cs. record { table = t; common = c; reach = r; weight = w; lows = ls; constants = cs; left = n.left; line = n.line; along = n.along } in
-    ap (λ t. made t k.common k.reach k.weight k.lows k.constants) (sym e.table)
-    ∙ ap (λ c. made n.table c k.reach k.weight k.lows k.constants) (sym e.common)
-    ∙ ap (λ r. made n.table n.common r k.weight k.lows k.constants) (sym e.reach)
-    ∙ ap (λ w. made n.table n.common n.reach w k.lows k.constants) (sym e.weight)
-    ∙ ap (λ ls. made n.table n.common n.reach n.weight ls k.constants) (sym e.lows)
-    ∙ ap (λ cs. made n.table n.common n.reach n.weight n.lows cs) (sym e.constants)
+    let made : Table → ℤ → ℤ → ℤ → Vec (List ℤ) Global → Vec ℕ Global → Vec ℤ Global → Vec (Vec Use Global) Global → Kernel =
+    λ t c r w ls vs cs us. record { table = t; common = c; reach = r; weight = w; lows = ls; leads = vs; constants = cs; uses = us; left = n.left; line = n.line; along = n.along } in
+    ap (λ t. made t k.common k.reach k.weight k.lows k.leads k.constants k.uses) (sym e.table)
+    ∙ ap (λ c. made n.table c k.reach k.weight k.lows k.leads k.constants k.uses) (sym e.common)
+    ∙ ap (λ r. made n.table n.common r k.weight k.lows k.leads k.constants k.uses) (sym e.reach)
+    ∙ ap (λ w. made n.table n.common n.reach w k.lows k.leads k.constants k.uses) (sym e.weight)
+    ∙ ap (λ ls. made n.table n.common n.reach n.weight ls k.leads k.constants k.uses) (sym e.lows)
+    ∙ ap (λ vs. made n.table n.common n.reach n.weight n.lows vs k.constants k.uses) (sym e.leads)
+    ∙ ap (λ cs. made n.table n.common n.reach n.weight n.lows n.leads cs k.uses) (sym e.constants)
+    ∙ ap (λ us. made n.table n.common n.reach n.weight n.lows n.leads n.constants us) (sym e.uses)
 
 pub kept_kernel : (k n : Kernel) → KeepsNumbers k n → IsKernel k → IsKernel n
 kept_kernel k n e m =
@@ -41,7 +45,10 @@ kept_kernel k n e m =
         room = m.shaped.room;
         lows = m.shaped.lows;
         each = m.shaped.each;
+        leads = m.shaped.leads;
+        lead = m.shaped.lead;
         constants = m.shaped.constants;
+        uses = m.shaped.uses;
         line = e.line ∙ m.shaped.line;
         left = omega (arith, m.shaped.left, e.left);
         along = e.along ∙ m.shaped.along;
@@ -79,6 +86,7 @@ ready_room k n place m place_in line_is e line_kept along_within =
     record {
       lows = omega (arith, lows_few k m.shaped, m.shaped.along, e.along);
       each = subst (λ (w : ℕ). All (λ row. length row ≡ w) k.lows.items) (sym (e.line ∙ m.shaped.line)) m.shaped.each;
+      leads = m.shaped.leads ∙ sym (e.line ∙ m.shaped.line);
       constants = sym m.shaped.along ∙ sym e.along;
       common = (m.bounded.positive, m.bounded.common);
       reach = m.bounded.reach;
@@ -99,7 +107,7 @@ along_at k column c m c_in =
 
 -- the kernel with another basis
 abbrev pub with_basis : Kernel → Vec Member Global → Kernel
-with_basis h basis = record { table = record { top = h.table.top; costs = h.table.costs; rows = h.table.rows; basis = basis; lines = h.table.lines; quotients = h.table.quotients; scratch = h.table.scratch }; common = h.common; reach = h.reach; weight = h.weight; lows = h.lows; constants = h.constants; left = h.left; line = h.line; along = h.along }
+with_basis h basis = record { table = record { top = h.table.top; costs = h.table.costs; rows = h.table.rows; basis = basis; lines = h.table.lines; quotients = h.table.quotients; scratch = h.table.scratch }; common = h.common; reach = h.reach; weight = h.weight; lows = h.lows; leads = h.leads; constants = h.constants; uses = h.uses; left = h.left; line = h.line; along = h.along }
 
 -- what the steps of a pivot make is what it is to make
 pub pivoted_from : (k m h : Kernel) (basis : Vec Member Global) (place column : ℕ) → IsPivotIn k place column → KeepsNumbers k m → m.line ≡ k.line → m.along.items ≡ along_numbers k column → HasTurned m h place column → basis.items ≡ slice_set h.table.basis.items column (member_at k.table place) → IsPivoted k (with_basis h basis) place column
@@ -121,12 +129,15 @@ pivoted_from k m h basis place column p e line_kept along_is t basis_is =
       product = t.product;
       numbers = t.numbers;
       limit = t.limit;
+      uses = t.uses ∙ e.uses;
       left = subst (λ (v : Vec ℕ Global). vec_capacity k.left ≤ vec_capacity v) (sym t.left) e.left;
       line = ap (λ (ls : Vec ℤ Global). length ls.items) t.line ∙ e.line;
       along = ap (λ (ls : Vec ℤ Global). length ls.items) t.along ∙ e.along;
       lows_count = t.lows_count ∙ ap (λ (ls : Vec (List ℤ) Global). length ls.items) e.lows;
       constants_count = t.constants_count ∙ ap (λ (ls : Vec ℤ Global). length ls.items) e.constants;
       lows = lows;
+      leads_count = t.leads_count ∙ ap (λ (vs : Vec ℕ Global). length vs.items) e.leads;
+      leads = λ lead. t.leads (subst (λ (ls : Vec (List ℤ) Global). AreLeads ls.items m.leads.items) (sym e.lows) (subst (λ (vs : Vec ℕ Global). AreLeads k.lows.items vs.items) (sym e.leads) lead));
       constants = constants;
     }
   where

@@ -1,10 +1,12 @@
 -- At the starting basis a kernel holds the units over 1, and the ranges of the variables.
+use Rattle.table_kernel.specs.Uses.{held_in, uses_by}
 use Rattle.std.proofs.Common.{◌≡◌, ℕ, zero, suc, ◌+◌, ◌^◌, ◌<◌, ◌*◌, ◌≤◌, Bool, true, false, cond, refl, sym, ◌∙◌, ap, subst, List, [], ◌∷◌, ◌++◌, map, length, arith, append-nil, zero-add}
 use Rattle.std.specs.Prelude.{ℤ, pos, ◌-ℤ◌, ◌<ℤ◌, ◌≤ℤ◌, ◌==◌, nat_abs, slice_index, slice_index_or, vec_capacity, All}
 use Rattle.std.proofs.lemmas.Int.{ints}
 use Rattle.std.proofs.lemmas.List.{get_or-map, get_or_default, length-append, map-append}
 use Rattle.std.proofs.lemmas.Simd.{map-map}
 use Rattle.cost_base.specs.Lists.{numbers_from}
+use Rattle.cost_base.proofs.ListLemmas.{length-numbers_from}
 use Rattle.whole_numbers.specs.Fractions.{Fraction}
 use Rattle.path_rows.specs.declared.form.Form.{Form}
 use Rattle.path_rows.specs.declared.form.CostBox.{CostBox}
@@ -24,8 +26,10 @@ use Rattle.fraction_table.proofs.theory.Resolved.{unit_same}
 use Rattle.fraction_table.proofs.theory.Units.{high_value, low_value}
 use Rattle.table_kernel.specs.declared.kernel.Kernel.{Kernel}
 use Rattle.table_kernel.specs.Kernels.{IsBounded, IsKernel, IsShaped, lows_of, width_of}
+use Rattle.table_kernel.specs.Leads.{AreLeads}
 use Rattle.table_kernel.specs.Numbers.{AllWithin, lows_by, weight_of}
 use Rattle.table_kernel.proofs.AtBasis.{AreAtBasis, basis_kernel}
+use Rattle.table_kernel.proofs.ColumnLeads.{unit_leads}
 
 -- the constants of x - low and of high - x at the low corner
 abbrev pub first_constants : CostBox → List ℤ
@@ -93,8 +97,10 @@ pub record IsStarting (k : Kernel) (costs : CostBox) : Type 0 where
   pub reach : k.reach ≡ pos 1
   pub weight : k.weight ≡ pos 1
   pub lows : k.lows.items ≡ map (λ v. unit (length costs.low) v (pos 1)) (numbers_from 0 (length costs.low))
+  pub leads : k.leads.items ≡ numbers_from 0 (length costs.low)
   pub constants : k.constants.items ≡ first_constants costs
   pub small : AllWithin (2 ^ 27) k.constants.items
+  pub uses : held_in k.uses.items ≡ map (λ v. []) (numbers_from 0 (length costs.low))
   pub left : length costs.low ≤ vec_capacity k.left
   pub line : length k.line.items ≡ length costs.low
   pub along : length k.along.items ≡ length costs.low + length costs.low
@@ -109,7 +115,10 @@ starting_shaped k w room rows_are s =
       room = room;
       lows = ap length s.lows ∙ length-mapped (λ v. unit n v (pos 1)) 0 n;
       each = subst (All (λ (row : List ℤ). length row ≡ n)) (sym s.lows) (all_mapped (λ (row : List ℤ). length row ≡ n) (λ v. unit n v (pos 1)) n (λ v v_in. length-mapped (λ j. cond (j == v) (pos 1) (pos 0)) 0 n));
+      leads = ap length s.leads ∙ length-numbers_from 0 n;
+      lead = subst (λ (rows : List (List ℤ)). AreLeads rows k.leads.items) (sym s.lows) (subst (AreLeads (map (λ v. unit n v (pos 1)) (numbers_from 0 n))) (sym s.leads) (unit_leads n));
       constants = omega (arith, counted, many, none);
+      uses = s.uses ∙ ap (λ (rows : List Form). uses_by rows n) (sym rows_are);
       line = s.line;
       left = s.left;
       along = s.along ∙ sym counted;

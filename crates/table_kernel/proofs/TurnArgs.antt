@@ -1,65 +1,45 @@
 -- What the turn of a row is given, as it is read.
-use Rattle.std.proofs.Common.{◌≡◌, ℕ, ◌*◌, ◌^◌, ◌<◌, ◌≤◌, sym, ◌∙◌, ap, subst, List, [], length, arith}
+use Rattle.std.proofs.Common.{◌≡◌, ℕ, ◌*◌, ◌^◌, ◌<◌, ◌≤◌, sym, ◌∙◌, ap, List, [], length, arith}
 use Rattle.std.specs.Prelude.{ℤ, pos, nat_abs, ◌<ℤ◌, ◌≤ℤ◌, slice_index_or}
 use Rattle.std.proofs.Math.Nat.{mul-le-mul_left, mul-le-mul_right}
 use Rattle.std.proofs.lemmas.Int.{ints}
+use Rattle.std.proofs.lemmas.List.{get_or_default}
 use Rattle.fraction_table.specs.Wholes.{number_at}
 use Rattle.table_kernel.specs.declared.kernel.Kernel.{Kernel}
 use Rattle.table_kernel.specs.Numbers.{AllWithin}
-use Rattle.table_kernel.specs.Turnings.{AreSmallTurns, AreTurned, AreWholeTurns, IsReady}
+use Rattle.table_kernel.specs.Turnings.{AreSmallTurns, IsReady}
 use Rattle.table_kernel.proofs.Sizes.{read_number, wider}
-use Rattle.table_kernel.proofs.Crossings.{positive_size, read}
+use Rattle.table_kernel.proofs.Crossings.{item_is, read}
 
--- The arguments of a row's turn, as they are read and as they stand.
-pub record AreRead (p d y w : ℤ) (line across row numbers : List ℤ) : Type 0 where
-  pub small : AreSmallTurns p d y line row
-  pub along : w ≡ y
-  pub across_is : across ≡ line
-  pub numbers_are : numbers ≡ row
+pub along_number : (k : Kernel) → IsReady k → (var : ℕ) → var < length k.lows.items → nat_abs (number_at k.along.items var) ≤ 2 ^ 22
+along_number k r var var_in = r.along var (pos 0) (omega (arith, var_in, r.lows))
 
-pub small_read : (p d y w : ℤ) (line across row numbers : List ℤ) → AreRead p d y w line across row numbers → AreSmallTurns (read p) (read d) (read w) across numbers
-small_read p d y w line across row numbers a =
-    let P = sym (read_number p (omega (arith, positive_size p (2 ^ 22) a.small.pivot_small))) in
-    let Q = sym (read_number d (omega (arith, positive_size d (2 ^ 22) a.small.common_small))) in
-    let W = sym (ap read a.along ∙ read_number y (omega (arith, a.small.along_small))) in
-    subst (λ z. AreSmallTurns z (read d) (read w) across numbers) P
-    (subst (λ z. AreSmallTurns p z (read w) across numbers) Q
-    (subst (λ z. AreSmallTurns p d z across numbers) W
-    (subst (λ (zs : List ℤ). AreSmallTurns p d y zs numbers) (sym a.across_is)
-    (subst (λ (zs : List ℤ). AreSmallTurns p d y line zs) (sym a.numbers_are) a.small))))
+-- What the turn of a variable's row is given, as it is read.
+pub record IsRowRead (k : Kernel) (var : ℕ) (d w : ℤ) (across row : List ℤ) (columns : List ℕ) : Type 0 where
+  pub common_is : d ≡ k.common
+  pub along_is : w ≡ number_at k.along.items var
+  pub across_is : across ≡ k.line.items
+  pub row_is : row ≡ slice_index_or k.lows.items var []
+  pub columns_is : columns ≡ k.left.items
 
-pub whole_turns_read : (p d y w : ℤ) (line across row numbers : List ℤ) → AreRead p d y w line across row numbers → AreWholeTurns p d y line row → AreWholeTurns (read p) (read d) (read w) across numbers
-whole_turns_read p d y w line across row numbers a whole =
-    let P = sym (read_number p (omega (arith, positive_size p (2 ^ 22) a.small.pivot_small))) in
-    let Q = sym (read_number d (omega (arith, positive_size d (2 ^ 22) a.small.common_small))) in
-    let W = sym (ap read a.along ∙ read_number y (omega (arith, a.small.along_small))) in
-    subst (λ z. AreWholeTurns z (read d) (read w) across numbers) P
-    (subst (λ z. AreWholeTurns p z (read w) across numbers) Q
-    (subst (λ z. AreWholeTurns p d z across numbers) W
-    (subst (λ (zs : List ℤ). AreWholeTurns p d y zs numbers) (sym a.across_is)
-    (subst (λ (zs : List ℤ). AreWholeTurns p d y line zs) (sym a.numbers_are) whole))))
+pub row_read : (k : Kernel) (var : ℕ) (d w : ℤ) (across row other : List ℤ) (columns : List ℕ) → IsReady k → var < length k.lows.items → d ≡ k.common → w ≡ slice_index_or k.along.items var w → across ≡ k.line.items → row ≡ slice_index_or k.lows.items var other → columns ≡ k.left.items → IsRowRead k var d (read w) across row columns
+row_read k var d w across row other columns r var_in common_is w_is across_is row_is columns_is =
+    record {
+      common_is = common_is;
+      along_is = ap read (item_is k.along.items var w w_is (omega (arith, var_in, r.lows))) ∙ read_number (number_at k.along.items var) (omega (arith, along_number k r var var_in));
+      across_is = across_is;
+      row_is = row_is ∙ get_or_default k.lows.items var other [] var_in;
+      columns_is = columns_is;
+    }
 
-pub whole_turns_unread : (p d y w : ℤ) (line across row numbers : List ℤ) → AreRead p d y w line across row numbers → AreWholeTurns (read p) (read d) (read w) across numbers → AreWholeTurns p d y line row
-whole_turns_unread p d y w line across row numbers a whole =
-    let P = read_number p (omega (arith, positive_size p (2 ^ 22) a.small.pivot_small)) in
-    let Q = read_number d (omega (arith, positive_size d (2 ^ 22) a.small.common_small)) in
-    let W = ap read a.along ∙ read_number y (omega (arith, a.small.along_small)) in
-    subst (λ z. AreWholeTurns z d y line row) P
-    (subst (λ z. AreWholeTurns (read p) z y line row) Q
-    (subst (λ z. AreWholeTurns (read p) (read d) z line row) W
-    (subst (λ (zs : List ℤ). AreWholeTurns (read p) (read d) (read w) zs row) a.across_is
-    (subst (λ (zs : List ℤ). AreWholeTurns (read p) (read d) (read w) across zs) a.numbers_are whole))))
+-- what holds of the kernel's numbers holds of them as they are read, and the other way round
+pub row_to_read : (P : ℤ → ℤ → List ℤ → List ℤ → List ℕ → Type 0) (k : Kernel) (var : ℕ) (d w : ℤ) (across row : List ℤ) (columns : List ℕ) → IsRowRead k var d w across row columns → P k.common (number_at k.along.items var) k.line.items (slice_index_or k.lows.items var []) k.left.items → P d w across row columns
+row_to_read P k var d w across row columns a holds =
+    rw (a.common_is, a.along_is, a.across_is, a.row_is, a.columns_is) holds
 
-pub turned_unread : (p d y w : ℤ) (line across row numbers news : List ℤ) → AreRead p d y w line across row numbers → AreTurned (read p) (read d) (read w) across numbers news → AreTurned p d y line row news
-turned_unread p d y w line across row numbers news a turned =
-    let P = read_number p (omega (arith, positive_size p (2 ^ 22) a.small.pivot_small)) in
-    let Q = read_number d (omega (arith, positive_size d (2 ^ 22) a.small.common_small)) in
-    let W = ap read a.along ∙ read_number y (omega (arith, a.small.along_small)) in
-    subst (λ z. AreTurned z d y line row news) P
-    (subst (λ z. AreTurned (read p) z y line row news) Q
-    (subst (λ z. AreTurned (read p) (read d) z line row news) W
-    (subst (λ (zs : List ℤ). AreTurned (read p) (read d) (read w) zs row news) a.across_is
-    (subst (λ (zs : List ℤ). AreTurned (read p) (read d) (read w) across zs news) a.numbers_are turned))))
+pub row_from_read : (P : ℤ → ℤ → List ℤ → List ℤ → List ℕ → Type 0) (k : Kernel) (var : ℕ) (d w : ℤ) (across row : List ℤ) (columns : List ℕ) → IsRowRead k var d w across row columns → P d w across row columns → P k.common (number_at k.along.items var) k.line.items (slice_index_or k.lows.items var []) k.left.items
+row_from_read P k var d w across row columns a holds =
+    rw (sym a.common_is, sym a.along_is, sym a.across_is, sym a.row_is, sym a.columns_is) holds
 
 -- the reach is small
 pub reach_small : (k : Kernel) → IsReady k → nat_abs k.reach ≤ 2 ^ 22
@@ -74,9 +54,6 @@ weight_small k r = small k.reach k.weight r.reach r.product
   where
     small : (reach weight : ℤ) → pos 1 ≤ℤ reach → nat_abs weight * nat_abs reach ≤ 2 ^ 22 → nat_abs weight ≤ 2 ^ 22
     small reach weight some product = omega (arith, product, mul-le-mul_left (nat_abs weight) (let e : 1 ≤ nat_abs reach = omega (arith, ints, some) in e))
-
-pub along_number : (k : Kernel) → IsReady k → (var : ℕ) → var < length k.lows.items → nat_abs (number_at k.along.items var) ≤ 2 ^ 22
-along_number k r var var_in = r.along var (pos 0) (omega (arith, var_in, r.lows))
 
 -- the turns of a row of a kernel are small
 pub row_small : (k : Kernel) (p : ℤ) (var : ℕ) → IsReady k → (pos 0 <ℤ p) × (p ≤ℤ pos (2 ^ 22)) → var < length k.lows.items → AllWithin (nat_abs k.reach) (slice_index_or k.lows.items var []) → AreSmallTurns p k.common (number_at k.along.items var) k.line.items (slice_index_or k.lows.items var [])

@@ -1,16 +1,18 @@
 -- Kernels of which rows and constants have turned.
 use Rattle.std.specs.declared.alloc.Global.{Global}
 use Rattle.std.proofs.Common.{Vec, ◌≡◌, ℕ, ◌*◌, ◌^◌, ◌<◌, ◌≤◌, sym, ◌∙◌, ap, subst, List, [], length, arith}
-use Rattle.std.specs.Prelude.{ℤ, pos, ◌≤ℤ◌, nat_abs, slice_index_or, All}
+use Rattle.std.specs.Prelude.{ℤ, pos, ◌<ℤ◌, ◌≤ℤ◌, nat_abs, slice_index_or, All}
 use Rattle.std.proofs.lemmas.Int.{ints}
 use Rattle.std.proofs.lemmas.List.{get_or_default}
 use Rattle.fraction_table.specs.Wholes.{number_at}
 use Rattle.table_kernel.specs.declared.kernel.Kernel.{Kernel}
 use Rattle.table_kernel.specs.declared.turn.Turn.{Turn}
-use Rattle.table_kernel.specs.Numbers.{AllWithin}
+use Rattle.table_kernel.specs.Leads.{AreLeads}
+use Rattle.table_kernel.specs.Numbers.{AllWithin, greatest_of}
 use Rattle.table_kernel.specs.Turns.{IsTurned}
-use Rattle.table_kernel.specs.Turnings.{AreWholeTurns, AreWithinReach, ConstantsAreWhole, HasTurned, IsReady, IsTurnedAt, IsTurnedRow, KeepsLows, KeepsOthers, StaysWithin, turn_of}
+use Rattle.table_kernel.specs.Turnings.{AreTurnedRows, AreWholeTurns, AreWithinReach, ConstantsAreWhole, HasTurned, IsReady, IsTurnedAt, IsTurnedRow, KeepsLows, KeepsOthers, StandAlong, StaysWithin, turn_of}
 use Rattle.table_kernel.proofs.Columns.{number_within}
+use Rattle.table_kernel.proofs.SizesAfter.{greatest_within}
 use Rattle.table_kernel.proofs.Staying.{limit_stays}
 
 pub whole_moved : (k m : Kernel) (p : ℤ) (v : ℕ) → KeepsOthers k m → slice_index_or m.lows.items v [] ≡ slice_index_or k.lows.items v [] → AreWholeTurns p k.common (number_at k.along.items v) k.line.items (slice_index_or k.lows.items v []) → AreWholeTurns p m.common (number_at m.along.items v) m.line.items (slice_index_or m.lows.items v [])
@@ -34,6 +36,8 @@ others_kept k m h first second =
       common = second.common ∙ first.common;
       weight = second.weight ∙ first.weight;
       constants = second.constants ∙ first.constants;
+      leads = second.leads ∙ first.leads;
+      uses = second.uses ∙ first.uses;
       left = second.left ∙ first.left;
       line = second.line ∙ first.line;
       along = second.along ∙ first.along;
@@ -48,12 +52,12 @@ constants_moved k m t o whole =
     IsWhole : Vec ℤ Global → Vec ℤ Global → ℕ → Type 0
     IsWhole ls cs p = (x : ℤ) × IsTurned t (number_at cs.items p) (number_at ls.items p) x
 
-abbrev pub with_common : Kernel → ℤ → Kernel
-with_common h z = record { table = h.table; common = z; reach = h.reach; weight = h.weight; lows = h.lows; constants = h.constants; left = h.left; line = h.line; along = h.along }
+abbrev pub with_common : Kernel → Vec ℕ Global → ℤ → Kernel
+with_common h leads z = record { table = h.table; common = z; reach = h.reach; weight = h.weight; lows = h.lows; leads = leads; constants = h.constants; uses = h.uses; left = h.left; line = h.line; along = h.along }
 
--- after its rows, its constants
-pub has_turned : (k m h : Kernel) (t : Turn) (place own : ℕ) (z : ℤ) → KeepsOthers k m → KeepsLows m h → IsReady k → IsReady m → AreWithinReach m → StaysWithin k t → t.pivot ≡ number_at k.line.items own → t.across ≡ number_at k.constants.items place → t.common ≡ k.common → z ≡ t.pivot → ((v : ℕ) → v < length k.lows.items → IsTurnedAt k m t.pivot own v) → length h.constants.items ≡ length m.constants.items → ((p : ℕ) → p < length m.constants.items → IsTurned t (number_at m.constants.items p) (number_at m.along.items p) (number_at h.constants.items p)) → HasTurned k (with_common h z) place own
-has_turned k m h t place own z o l ready after within_reach s pivot_is across_is common_is z_is rows counted turned =
+-- after its rows, its constants and its leads
+pub has_turned : (k m h : Kernel) (t : Turn) (place own : ℕ) (leads : Vec ℕ Global) (z : ℤ) → KeepsOthers k m → KeepsLows m h → IsReady k → IsReady m → AreWithinReach m → StaysWithin k t → t.pivot ≡ number_at k.line.items own → t.across ≡ number_at k.constants.items place → t.common ≡ k.common → z ≡ t.pivot → ((v : ℕ) → v < length k.lows.items → IsTurnedAt k m t.pivot own v) → length h.constants.items ≡ length m.constants.items → ((p : ℕ) → p < length m.constants.items → IsTurned t (number_at m.constants.items p) (number_at m.along.items p) (number_at h.constants.items p)) → length leads.items ≡ length h.leads.items → (AreLeads k.lows.items k.leads.items → AreLeads h.lows.items leads.items) → HasTurned k (with_common h leads z) place own
+has_turned k m h t place own leads z o l ready after within_reach s pivot_is across_is common_is z_is rows counted turned leads_counted lead =
     let constants_count : length h.constants.items ≡ length k.constants.items = counted ∙ ap (λ (cs : Vec ℤ Global). length cs.items) o.constants in
     let from_k : (p : ℕ) → p < length k.constants.items → IsTurned t (number_at k.constants.items p) (number_at k.along.items p) (number_at h.constants.items p) =
     λ p p_in. (
@@ -71,14 +75,18 @@ has_turned k m h t place own z o l ready after within_reach s pivot_is across_is
       numbers = subst (λ (x : ℤ). All (AllWithin (nat_abs x)) h.lows.items) (sym l.reach) (subst (λ (ls : Vec (List ℤ) Global). All (AllWithin (nat_abs m.reach)) ls.items) (sym l.lows) within_reach);
       limit = λ i d i_in.
           subst (λ (x : ℤ). nat_abs x ≤ 2 ^ 39) (sym (get_or_default h.constants.items i d (pos 0) i_in))
-          (limit_stays t.pivot t.common t.across (number_at k.constants.items i) (number_at k.along.items i) (number_at h.constants.items i) s.most s.along
+          (limit_stays t.pivot t.common t.across (number_at k.constants.items i) (number_at k.along.items i) (number_at h.constants.items i) (greatest_of k.constants.items) (greatest_of k.along.items)
           (omega (arith, ints, common_is, ready.common.0))
-          (number_within s.most k.constants.items i s.most_within) (number_within s.along k.along.items i s.along_within)
+          (number_within (greatest_of k.constants.items) k.constants.items i (greatest_within k.constants.items))
+          (number_within (greatest_of k.along.items) k.along.items i (greatest_within k.along.items))
           s.constants (from_k i (omega (arith, i_in, constants_count))));
+      uses = l.uses ∙ o.uses;
       left = l.left ∙ o.left;
       line = l.line ∙ o.line;
       along = l.along ∙ o.along;
       lows_count = ap (λ (ls : Vec (List ℤ) Global). length ls.items) l.lows ∙ o.lows;
+      leads_count = leads_counted ∙ ap (λ (vs : Vec ℕ Global). length vs.items) (l.leads ∙ o.leads);
+      leads = lead;
       constants_count = constants_count;
       lows = λ v v_in.
           subst (λ (x : ℤ). IsTurnedRow x k.common (number_at k.along.items v) own k.line.items (slice_index_or k.lows.items v []) (slice_index_or h.lows.items v [])) pivot_is
@@ -88,3 +96,19 @@ has_turned k m h t place own z o l ready after within_reach s pivot_is across_is
           (subst (λ (x : ℤ). IsTurned (turn_of t.pivot x (number_at k.constants.items place)) (number_at k.constants.items p) (number_at k.along.items p) (number_at h.constants.items p)) common_is
           (subst (λ (x : ℤ). IsTurned (turn_of t.pivot t.common x) (number_at k.constants.items p) (number_at k.along.items p) (number_at h.constants.items p)) across_is (from_k p p_in)));
     }
+
+-- the leads turn with the rows
+pub leads_moved : (k m h : Kernel) (pivot : ℤ) (own : ℕ) (befores afters : List ℕ) (lows : List (List ℤ)) (line : List ℤ) → KeepsOthers k m → KeepsLows m h → pos 0 <ℤ pivot → pos 0 <ℤ k.common → StandAlong k own → ((v : ℕ) → v < length k.lows.items → IsTurnedAt k m pivot own v) → befores ≡ h.leads.items → lows ≡ h.lows.items → line ≡ h.line.items → ((olds : List (List ℤ)) (p d : ℤ) → AreTurnedRows p d own line olds lows → AreLeads olds befores → AreLeads lows afters) → AreLeads k.lows.items k.leads.items → AreLeads h.lows.items afters
+leads_moved k m h pivot own befores afters lows line o l pivot_positive positive along turned befores_are lows_are line_is moves lead =
+    let lows_m : lows ≡ m.lows.items = lows_are ∙ ap (λ (ls : Vec (List ℤ) Global). ls.items) l.lows in
+    let rows : AreTurnedRows pivot k.common own k.line.items k.lows.items m.lows.items =
+    record {
+      positive = (pivot_positive, positive);
+      count = o.lows;
+      each = λ v v_in. subst (λ (z : ℤ). IsTurnedRow pivot k.common z own k.line.items (slice_index_or k.lows.items v []) (slice_index_or m.lows.items v [])) (sym (along v v_in)) (turned v v_in);
+    } in
+    subst (λ (ls : List (List ℤ)). AreLeads ls afters) lows_are
+    (moves k.lows.items pivot k.common
+    (subst (λ (ls : List (List ℤ)). AreTurnedRows pivot k.common own line k.lows.items ls) (sym lows_m)
+    (subst (λ (zs : List ℤ). AreTurnedRows pivot k.common own zs k.lows.items m.lows.items) (sym (line_is ∙ ap (λ (zs : Vec ℤ Global). zs.items) (l.line ∙ o.line))) rows))
+    (subst (AreLeads k.lows.items) (sym (befores_are ∙ ap (λ (vs : Vec ℕ Global). vs.items) (l.leads ∙ o.leads))) lead))

@@ -1,5 +1,5 @@
 -- How the columns are narrowed down of which one is chosen.
-use Rattle.std.specs.Prelude.{◌≡◌, ℕ, ◌<◌, ◌⊎◌, List, [], ◌∷◌, ℤ, pos, ◌*ℤ◌, ◌<ℤ◌, nat_abs, length, slice_index_or}
+use Rattle.std.specs.Prelude.{◌≡◌, ℕ, ◌<◌, ◌⊎◌, List, [], ◌∷◌, ℤ, pos, ◌*ℤ◌, ◌<ℤ◌, nat_abs, length, slice_index, slice_index_or}
 use Rattle.fraction_table.specs.Pivots.{LeadsNoNegative, numbers_in, turned_column}
 use Rattle.fraction_table.specs.Wholes.{number_at}
 
@@ -16,10 +16,11 @@ IsPositiveAt line c = (c < length line) × (pos 0 <ℤ number_at line c)
 abbrev pub crosswise : List ℤ → List ℤ → ℕ → ℕ → ℤ
 crosswise numbers line c d = number_at numbers c *ℤ number_at line d
 
--- those of the columns before a bound in which the line is positive
-pub record ArePositive (line : List ℤ) (bound : ℕ) (left : List ℕ) : Type 0 where
-  pub each : (c : ℕ) → Has left c → IsPositiveAt line c
-  pub all : (c : ℕ) → c < bound → IsPositiveAt line c → Has left c
+-- those of the columns before a bound in which the line is positive that lead latest, each at one variable
+pub record AreLatest (line : List ℤ) (leads : List ℕ) (bound latest : ℕ) (left : List ℕ) : Type 0 where
+  pub each : (c : ℕ) → Has left c → IsPositiveAt line c × (slice_index leads c ≡ latest)
+  pub all : (c : ℕ) → c < bound → IsPositiveAt line c → Has left c ⊎ (slice_index leads c < latest)
+  pub some : 0 < latest → 0 < length left
 
 -- those of some columns in which a variable's number, over the line's, is least
 pub record AreLeast (numbers line : List ℤ) (seen least : List ℕ) : Type 0 where

@@ -8,7 +8,9 @@ use Rattle.fraction_table.specs.declared.table.Table.{Table}
 use Rattle.fraction_table.specs.Wholes.{HasRoom, IsUnboxedTable, IsWholeTable, members_of, number_at, number_of}
 use Rattle.fraction_table.specs.Pivots.{member_at}
 use Rattle.table_kernel.specs.declared.kernel.Kernel.{Kernel}
+use Rattle.table_kernel.specs.Leads.{AreLeads}
 use Rattle.table_kernel.specs.Numbers.{AllWithin, fraction_lines, lows_by, weight_of}
+use Rattle.table_kernel.specs.Uses.{held_in, uses_by}
 
 -- how many variables the box has
 abbrev pub width_of : Kernel → ℕ
@@ -26,12 +28,15 @@ lines_of k = fraction_lines (nat_abs k.common) k.table.costs k.table.rows.items 
 abbrev pub stated : Kernel → Table
 stated k = record { top = k.table.top; costs = k.table.costs; rows = k.table.rows; basis = k.table.basis; lines = with_items k.table.lines (lines_of k); quotients = k.table.quotients; scratch = k.table.scratch }
 
--- how long the lists of a kernel are
+-- how long the lists of a kernel are, where its columns lead, and that its uses are those of its rows
 pub record IsShaped (k : Kernel) : Type 0 where
   pub room : HasRoom k.table
   pub lows : length k.lows.items ≡ width_of k
   pub each : All (λ row. length row ≡ width_of k) k.lows.items
+  pub leads : length k.leads.items ≡ width_of k
+  pub lead : AreLeads k.lows.items k.leads.items
   pub constants : length k.constants.items ≡ length (members_of k.table.costs (length k.table.rows.items))
+  pub uses : held_in k.uses.items ≡ uses_by k.table.rows.items (width_of k)
   pub line : length k.line.items ≡ width_of k
   pub left : width_of k ≤ vec_capacity k.left
   pub along : length k.along.items ≡ length k.constants.items

@@ -1,4 +1,7 @@
 pub mod Numbers
+pub mod Leads
+pub mod Uses
+pub mod Reciprocals
 pub mod Kernels
 pub mod Turns
 pub mod Moves

@@ -1,5 +1,5 @@
 -- Numbers of forms at the columns of a basis, by those of x - low for each variable.
-use Rattle.std.specs.Prelude.{◌≡◌, ℕ, ◌+◌, ◌*◌, ◌^◌, ◌≤◌, List, [], ◌∷◌, ℤ, pos, ◌+ℤ◌, ◌*ℤ◌, nat_abs, map, length, sum_by, All}
+use Rattle.std.specs.Prelude.{◌≡◌, ℕ, ◌+◌, ◌*◌, ◌^◌, ◌≤◌, List, [], ◌∷◌, ℤ, pos, ◌+ℤ◌, ◌*ℤ◌, nat_abs, max, map, length, sum_by, All}
 use Rattle.cost_base.specs.Lists.{numbers_from}
 use Rattle.whole_numbers.specs.Fractions.{Fraction, reduced}
 use Rattle.path_rows.specs.declared.form.Form.{Form}
@@ -46,6 +46,11 @@ fraction_lines D costs rows lows = map (fraction_line D costs rows lows) (member
 -- no number is greater in size
 abbrev pub AllWithin : ℕ → List ℤ → Type 0
 AllWithin most zs = All (λ z. nat_abs z ≤ most) zs
+
+-- the greatest size of some numbers; 0 where there are none
+abbrev pub greatest_of : List ℤ → ℕ
+greatest_of [] = 0
+greatest_of (z ∷ zs) = max (nat_abs z) (greatest_of zs)
 
 -- the sum of the sizes of a form's coefficients
 abbrev pub weight_of : Form → ℕ

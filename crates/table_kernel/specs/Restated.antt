@@ -11,7 +11,9 @@ pub record KeepsAllButRoom (old new : Kernel) : Type 0 where
   pub reach : new.reach ≡ old.reach
   pub weight : new.weight ≡ old.weight
   pub lows : new.lows ≡ old.lows
+  pub leads : new.leads ≡ old.leads
   pub constants : new.constants ≡ old.constants
+  pub uses : new.uses ≡ old.uses
   pub line : length new.line.items ≡ length old.line.items
   pub along : length new.along.items ≡ length old.along.items
   pub left : vec_capacity old.left ≤ vec_capacity new.left

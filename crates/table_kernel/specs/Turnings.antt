@@ -1,10 +1,11 @@
 -- How the numbers of a kernel turn at a pivot, and how large they are.
-use Rattle.std.specs.Prelude.{◌≡◌, ◌≢◌, ℕ, ◌+◌, ◌*◌, ◌^◌, ◌<◌, ◌≤◌, List, [], ℤ, pos, ◌<ℤ◌, ◌≤ℤ◌, nat_abs, length, slice_index_or, All}
+use Rattle.std.specs.Prelude.{◌≡◌, ◌≢◌, ℕ, ◌+◌, ◌*◌, ◌/◌, ◌^◌, ◌<◌, ◌≤◌, ◌⊎◌, List, [], ℤ, pos, ◌<ℤ◌, ◌≤ℤ◌, nat_abs, Some, length, slice_index_or, All}
 use Rattle.fraction_table.specs.Wholes.{number_at}
 use Rattle.table_kernel.specs.declared.kernel.Kernel.{Kernel}
 use Rattle.table_kernel.specs.declared.turn.Turn.{Turn}
-use Rattle.table_kernel.specs.Numbers.{AllWithin}
-use Rattle.table_kernel.specs.Turns.{IsTurned}
+use Rattle.table_kernel.specs.Leads.{AreLeads}
+use Rattle.table_kernel.specs.Numbers.{AllWithin, greatest_of}
+use Rattle.table_kernel.specs.Turns.{IsBestOf, IsFoundNegative, IsTurned, along_numbers, line_numbers}
 
 -- what turns a number with this one across
 abbrev pub turn_of : ℤ → ℤ → ℤ → Turn
@@ -24,11 +25,36 @@ abbrev pub AreTurned : ℤ → ℤ → ℤ → List ℤ → List ℤ → List �
 AreTurned pivot common along across olds news =
     (column : ℕ) → column < length across → IsTurned (turn_of pivot common (number_at across column)) (number_at olds column) along (number_at news column)
 
+-- no number that the turn of these makes is greater in size
+abbrev pub AreTurnedWithin : ℤ → ℤ → ℤ → List ℤ → List ℤ → ℕ → Type 0
+AreTurnedWithin pivot common along across numbers most =
+    (column : ℕ) → column < length across → (new : ℤ) → IsTurned (turn_of pivot common (number_at across column)) (number_at numbers column) along new → nat_abs new ≤ most
+
+-- the turn leaves every number as it is, whatever stands along with it
+abbrev pub LeavesAll : Turn → Type 0
+LeavesAll turn = (number along : ℤ) → IsTurned turn number along number
+
+-- the column is one of these
+abbrev pub IsAmong : ℕ → List ℕ → Type 0
+IsAmong column columns = (place : ℕ) × (place < length columns) × (slice_index_or columns place 0 ≡ column)
+
+-- columns before a bound, in rising order: the turn leaves all numbers of each other one before it as they are
+pub record AreTouched (pivot common : ℤ) (line : List ℤ) (bound : ℕ) (columns : List ℕ) : Type 0 where
+  pub before : (place : ℕ) → place < length columns → slice_index_or columns place 0 < bound
+  pub rises : (first second : ℕ) → first < second → second < length columns → slice_index_or columns first 0 < slice_index_or columns second 0
+  pub others : (column : ℕ) → column < bound → IsAmong column columns ⊎ LeavesAll (turn_of pivot common (number_at line column))
+
 -- the numbers of a variable have turned, and at the pivot's column is the one that stood along
 pub record IsTurnedRow (pivot common along : ℤ) (own : ℕ) (across olds news : List ℤ) : Type 0 where
   pub count : length news ≡ length olds
   pub at_own : number_at news own ≡ along
   pub others : (column : ℕ) → column < length across → column ≢ own → IsTurned (turn_of pivot common (number_at across column)) (number_at olds column) along (number_at news column)
+
+-- the rows have turned at a pivot with a column
+pub record AreTurnedRows (pivot common : ℤ) (column : ℕ) (line : List ℤ) (olds news : List (List ℤ)) : Type 0 where
+  pub positive : (pos 0 <ℤ pivot) × (pos 0 <ℤ common)
+  pub count : length news ≡ length olds
+  pub each : (v : ℕ) → v < length olds → IsTurnedRow pivot common (number_at (slice_index_or olds v []) column) column line (slice_index_or olds v []) (slice_index_or news v [])
 
 -- no step of a row's turn is wide
 pub record AreSmallTurns (pivot common along : ℤ) (across numbers : List ℤ) : Type 0 where
@@ -43,6 +69,7 @@ pub record AreSmallTurns (pivot common along : ℤ) (across numbers : List ℤ) 
 pub record IsReady (k : Kernel) : Type 0 where
   pub lows : length k.lows.items ≤ length k.along.items
   pub each : All (λ row. length row ≡ length k.line.items) k.lows.items
+  pub leads : length k.leads.items ≡ length k.line.items
   pub constants : length k.constants.items ≡ length k.along.items
   pub common : (pos 0 <ℤ k.common) × (k.common ≤ℤ pos (2 ^ 22))
   pub reach : pos 1 ≤ℤ k.reach
@@ -52,22 +79,23 @@ pub record IsReady (k : Kernel) : Type 0 where
   pub line : AllWithin (2 ^ 22) k.line.items
   pub along : AllWithin (2 ^ 22) k.along.items
 
--- a number that a turn makes of one within the reach, by these sizes along and across, is within the limit with the weight
-abbrev pub KeepsLimit : Kernel → ℤ → ℕ → ℕ → Type 0
-KeepsLimit k pivot along across =
-    (number size : ℕ) → number ≤ nat_abs k.reach → size * nat_abs k.common ≤ nat_abs pivot * number + along * across → nat_abs k.weight * size ≤ 2 ^ 22
+-- the columns of which the numbers may change in a turn stand in `left`
+abbrev pub AreTouchedBy : Kernel → ℤ → Type 0
+AreTouchedBy k pivot = AreTouched pivot k.common k.line.items (length k.line.items) k.left.items
 
--- the numbers stay within the limits after the turn
+-- how large a whole number can be after a turn where the one before it, the one along and the one across have these sizes
+abbrev pub size_after : ℤ → ℤ → ℕ → ℕ → ℕ → ℕ
+size_after pivot common number along across = (nat_abs pivot * number + along * across) / nat_abs common
+
+-- the numbers of all forms at the columns stay within the limit after a turn, by the greatest sizes along and across
+abbrev pub LowsStay : Kernel → ℤ → ℕ → ℕ → Type 0
+LowsStay k pivot along across = nat_abs k.weight * size_after pivot k.common (nat_abs k.reach) along across ≤ 2 ^ 22
+
+-- the numbers stay within the limits after the turn, by the greatest sizes of those before it
 pub record StaysWithin (k : Kernel) (turn : Turn) : Type 0 where
   pub pivot : turn.pivot ≤ℤ pos (2 ^ 22)
-  pub along : ℕ
-  pub along_within : AllWithin along k.along.items
-  pub across : ℕ
-  pub across_within : AllWithin across k.line.items
-  pub entries : (number size : ℕ) → number ≤ nat_abs k.reach → size * nat_abs turn.common ≤ nat_abs turn.pivot * number + along * across → nat_abs k.weight * size ≤ 2 ^ 22
-  pub most : ℕ
-  pub most_within : AllWithin most k.constants.items
-  pub constants : nat_abs turn.pivot * most + along * nat_abs turn.across ≤ 2 ^ 39 * nat_abs turn.common
+  pub entries : nat_abs k.weight * size_after turn.pivot turn.common (nat_abs k.reach) (greatest_of k.along.items) (greatest_of k.line.items) ≤ 2 ^ 22
+  pub constants : size_after turn.pivot turn.common (greatest_of k.constants.items) (greatest_of k.along.items) (nat_abs turn.across) ≤ 2 ^ 39
 
 -- no number of x - low is greater in size than the reach
 abbrev pub AreWithinReach : Kernel → Type 0
@@ -95,7 +123,9 @@ pub record KeepsOthers (old new : Kernel) : Type 0 where
   pub table : new.table ≡ old.table
   pub common : new.common ≡ old.common
   pub weight : new.weight ≡ old.weight
+  pub leads : new.leads ≡ old.leads
   pub constants : new.constants ≡ old.constants
+  pub uses : new.uses ≡ old.uses
   pub left : new.left ≡ old.left
   pub line : new.line ≡ old.line
   pub along : new.along ≡ old.along
@@ -118,6 +148,8 @@ pub record KeepsLows (old new : Kernel) : Type 0 where
   pub weight : new.weight ≡ old.weight
   pub reach : new.reach ≡ old.reach
   pub lows : new.lows ≡ old.lows
+  pub leads : new.leads ≡ old.leads
+  pub uses : new.uses ≡ old.uses
   pub left : new.left ≡ old.left
   pub line : new.line ≡ old.line
   pub along : new.along ≡ old.along
@@ -137,10 +169,36 @@ pub record HasTurned (old new : Kernel) (place column : ℕ) : Type 0 where
   pub product : nat_abs new.weight * nat_abs new.reach ≤ 2 ^ 22
   pub numbers : AreWithinReach new
   pub limit : AllWithin (2 ^ 39) new.constants.items
+  pub uses : new.uses ≡ old.uses
   pub left : new.left ≡ old.left
   pub line : new.line ≡ old.line
   pub along : new.along ≡ old.along
   pub lows_count : length new.lows.items ≡ length old.lows.items
+  pub leads_count : length new.leads.items ≡ length old.leads.items
   pub constants_count : length new.constants.items ≡ length old.constants.items
   pub lows : (var : ℕ) → var < length old.lows.items → IsTurnedAt old new (number_at old.line.items column) column var
+  pub leads : AreLeads old.lows.items old.leads.items → AreLeads new.lows.items new.leads.items
   pub constants : (p : ℕ) → p < length old.constants.items → IsTurned (turn_of (number_at old.line.items column) old.common (number_at old.constants.items place)) (number_at old.constants.items p) (number_at old.along.items p) (number_at new.constants.items p)
+
+-- what turns the numbers at a pivot: the line's number at the column, and the constant of the place
+abbrev pub turn_at : Kernel → ℕ → ℕ → Turn
+turn_at k place column = turn_of (number_at k.line.items column) k.common (number_at k.constants.items place)
+
+-- the bounds cover the turn by a place's constant and the line's number at a column: the numbers stay within the limits and whole
+pub record MayTurn (k : Kernel) (place column : ℕ) : Type 0 where
+  pub within : StaysWithin k (turn_at k place column)
+  pub whole : AreWhole k (turn_at k place column)
+
+-- the pivot at a place's line and its best column isn't covered
+pub record IsRefusedAt (k : Kernel) (place column : ℕ) : Type 0 where
+  pub line : k.line.items ≡ line_numbers k place
+  pub best : IsBestOf k (Some column)
+  pub along : k.along.items ≡ along_numbers k column
+  pub refused : MayTurn k place column → ⊥
+
+-- the pivot that is due, at the first form with a negative constant, isn't covered
+pub record IsHeldUp (k : Kernel) : Type 0 where
+  pub place : ℕ
+  pub first : IsFoundNegative k (Some place)
+  pub column : ℕ
+  pub refused : IsRefusedAt k place column

@@ -12,6 +12,7 @@ use Rattle.table_kernel.specs.declared.kernel.Kernel.{Kernel}
 use Rattle.table_kernel.specs.declared.turn.Turn.{Turn}
 use Rattle.table_kernel.specs.Numbers.{AllWithin, number_in, product_sum, weight_of}
 use Rattle.table_kernel.specs.Kernels.{width_of}
+use Rattle.table_kernel.specs.Uses.{HaveRoom, held_in}
 
 -- the kernels differ in their room alone
 pub record KeepsNumbers (old new : Kernel) : Type 0 where
@@ -20,7 +21,9 @@ pub record KeepsNumbers (old new : Kernel) : Type 0 where
   pub reach : new.reach ≡ old.reach
   pub weight : new.weight ≡ old.weight
   pub lows : new.lows ≡ old.lows
+  pub leads : new.leads ≡ old.leads
   pub constants : new.constants ≡ old.constants
+  pub uses : new.uses ≡ old.uses
   pub line : length new.line.items ≡ length old.line.items
   pub along : length new.along.items ≡ length old.along.items
   pub left : vec_capacity old.left ≤ vec_capacity new.left
@@ -53,10 +56,11 @@ IsBestOf k None = (c : ℕ) → c < width_of k → number_at k.line.items c ≤�
 IsBestOf k (Some best) =
     (best < width_of k) × (pos 0 <ℤ number_at k.line.items best) × ((c : ℕ) → c < width_of k → c ≢ best → pos 0 <ℤ number_at k.line.items c → IsNotAfter k best c)
 
--- what a search for a negative constant finds
+-- what a search for the first negative constant finds
 abbrev pub IsFoundNegative : Kernel → Option ℕ → Type 0
 IsFoundNegative k None = All (λ z. pos 0 ≤ℤ z) k.constants.items
-IsFoundNegative k (Some place) = (place < length k.constants.items) × (number_at k.constants.items place <ℤ pos 0)
+IsFoundNegative k (Some place) =
+    (place < length k.constants.items) × (number_at k.constants.items place <ℤ pos 0) × ((p : ℕ) → p < place → pos 0 ≤ℤ number_at k.constants.items p)
 
 -- the pivot's number times a number, less what stands along with it times what stands across
 abbrev pub crossed : Turn → ℤ → ℤ → ℤ
@@ -87,16 +91,19 @@ pub record HoldsNumbers (old new : Kernel) : Type 0 where
   pub reach : new.reach ≡ old.reach
   pub weight : new.weight ≡ old.weight
   pub lows : new.lows.items ≡ old.lows.items
+  pub leads : new.leads ≡ old.leads
   pub constants : new.constants.items ≡ old.constants.items
+  pub uses : held_in new.uses.items ≡ held_in old.uses.items
   pub line : new.line.items ≡ old.line.items
   pub left : vec_capacity old.left ≤ vec_capacity new.left
   pub along : new.along.items ≡ old.along.items
 
--- there is a place for one more form, its lines and its numbers
+-- there is a place for one more form, its lines, its numbers and its uses
 pub record HasRowPlace (k : Kernel) : Type 0 where
   pub table : HasPlace k.table
   pub constants : vec_len k.constants < vec_capacity k.constants
   pub along : vec_len k.along < vec_capacity k.along
+  pub uses : HaveRoom k.uses.items
 
 -- how far a constant can move where a bound moves by 1: the greatest number of a form at a column, or the denominator
 abbrev pub step_of : Kernel → ℕ

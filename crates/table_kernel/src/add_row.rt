@@ -1,5 +1,5 @@
 //! One more row: its form, and its constant at the present basis.
-ghost use Rattle.std.specs.Prelude.{◌≡◌, ◌⊎◌, ◌^◌, ◌*◌, ◌<◌, ◌≤◌, pos, ◌*ℤ◌, ◌≤ℤ◌, ◌∷◌, [], ◌++◌, nat_abs, length, map, All, IfOk, IsTrue, OnOk};
+ghost use Rattle.std.specs.Prelude.{◌≡◌, ◌⊎◌, ◌^◌, ◌*◌, ◌<◌, ◌≤◌, ◌↔◌, pos, ◌*ℤ◌, ◌≤ℤ◌, ◌∷◌, [], ◌++◌, nat_abs, length, map, All, IfOk, IsTrue, OnOk};
 ghost use Rattle.cost_base.specs.Lists.{numbers_from};
 ghost use Rattle.fraction_rows.specs.TableRows.{nothing};
 ghost use Rattle.fraction_table.specs.RowLines.{HoldsSame};
@@ -12,6 +12,7 @@ ghost use Rattle.table_kernel.specs.Turns.{HasRowPlace, HoldsNumbers, IsCovered,
 
 use crate::Kernel;
 use crate::bounds::{CONSTANT_LIMIT, ENTRY_LIMIT, within};
+use crate::uses::{push_uses, reserve_uses};
 use cost_base::OutOfMemory;
 use fraction_table::{BlankRow, corner_value};
 use path_rows::Form;
@@ -32,9 +33,10 @@ fn form_weight(form: &Form) -> i64
 
 /// Whether a row of this weight keeps its numbers at the columns within the limit.
 fn is_light(weight: i64, reach: i64) -> bool
-    requires { nat_abs reach ≤ 2 ^ 22 }
+    requires some { pos 1 ≤ℤ reach }
+    requires small { nat_abs reach ≤ 2 ^ 22 }
     ensures weight { IsTrue result → nat_abs weight ≤ 2 ^ 22 }
-    ensures product { IsTrue result → nat_abs weight * nat_abs reach ≤ 2 ^ 22 }
+    ensures product { IsTrue result ↔ (nat_abs weight * nat_abs reach ≤ 2 ^ 22) }
 {
     if !within(weight, ENTRY_LIMIT) {
         return false;
@@ -117,6 +119,7 @@ impl Kernel {
         if self.along.reserve(1).is_err() {
             return Err(OutOfMemory);
         }
+        reserve_uses(self.uses.as_mut_slice())?;
         self.table.make_room(alloc, form)
     }
 
@@ -124,7 +127,7 @@ impl Kernel {
     pub fn covers(&self, form: &Form) -> bool
         requires kernel { IsKernel self.now }
         requires fits { FitsBox self.now.table.costs form.now }
-        ensures { IsTrue result → IsCovered self.now form.now }
+        ensures { IsTrue result ↔ IsCovered self.now form.now }
     {
         let weight = form_weight(form);
         if !is_light(weight, self.reach) {
@@ -148,6 +151,8 @@ impl Kernel {
         self.weight = heavier(self.weight, weight);
         self.constants.push_reserved(constant);
         self.along.push_reserved(0);
+        let count = self.table.rows.len();
+        push_uses(self.uses.as_mut_slice(), &row.form, count);
         self.table.put_blank(row);
     }
 }

@@ -1,5 +1,5 @@
 //! The bounds within which the kernel works, and the tests that a step keeps them.
-ghost use Rattle.std.specs.Prelude.{◌≡◌, ℕ, ◌^◌, ◌<◌, ◌≤◌, ◌↔◌, pos, ◌≤ℤ◌, nat_abs, IsTrue};
+ghost use Rattle.std.specs.Prelude.{◌≡◌, ℕ, ◌^◌, ◌<◌, ◌≤◌, ◌↔◌, ◌⊎◌, pos, ◌≤ℤ◌, nat_abs, IsTrue};
 ghost use Rattle.table_kernel.specs.Numbers.{AllWithin};
 
 /// A step might leave the kernel's bounds.
@@ -12,6 +12,19 @@ pub const ENTRY_LIMIT: i64 = 1 << 22;
 /// The greatest size of a constant: 2^39.
 pub const CONSTANT_LIMIT: i64 = 1 << 39;
 
+/// The greater of a size and a number's size.
+pub fn greater_size(most: i64, number: i64) -> i64
+    requires most { pos 0 ≤ℤ most }
+    requires number { nat_abs number ≤ 2 ^ 62 }
+    ensures from_zero { pos 0 ≤ℤ result }
+    ensures most { nat_abs most ≤ nat_abs result }
+    ensures number { nat_abs number ≤ nat_abs result }
+    ensures either { (result ≡ most) ⊎ (nat_abs result ≡ nat_abs number) }
+{
+    let size = number.abs();
+    if most < size { size } else { most }
+}
+
 /// The greatest size of some numbers; 0 where there are none.
 pub fn greatest(numbers: &[i64]) -> i64
     requires { AllWithin (2 ^ 62) numbers.now }
@@ -21,10 +34,7 @@ pub fn greatest(numbers: &[i64]) -> i64
 {
     let mut most = 0;
     for index in 0..numbers.len() {
-        let size = numbers[index].abs();
-        if most < size {
-            most = size;
-        }
+        most = greater_size(most, numbers[index]);
     }
     most
 }

@@ -2,7 +2,7 @@
 ghost use Rattle.std.specs.Prelude.{◌≡◌, ℕ, ◌+◌, ◌^◌, ◌<◌, ◌≤◌, pos, ◌<ℤ◌, length, take, vec_capacity, vec_len};
 ghost use Rattle.std.specs.Ordering.{int_cmp};
 ghost use Rattle.fraction_table.specs.Wholes.{number_at};
-ghost use Rattle.table_kernel.specs.Choices.{AreLeast, AreLeft, ArePositive, Has, IsPositiveAt, crosswise};
+ghost use Rattle.table_kernel.specs.Choices.{AreLatest, AreLeast, AreLeft, Has, IsPositiveAt, crosswise};
 ghost use Rattle.table_kernel.specs.Kernels.{IsKernel};
 ghost use Rattle.table_kernel.specs.Numbers.{AllWithin};
 ghost use Rattle.table_kernel.specs.Turns.{IsBestOf, KeepsNumbers};
@@ -10,18 +10,48 @@ ghost use Rattle.table_kernel.specs.Turns.{IsBestOf, KeepsNumbers};
 use crate::Kernel;
 use std::cmp::Ordering;
 
-/// Puts the columns in which the line is positive into `left`.
-fn put_positive(left: &mut Vec<usize>, line: &[i64])
+/// Looks at one more column: where the line is positive in it, it joins those that lead latest so far, or takes their
+/// place. Gives the variable at which those lead that are left.
+fn put_later(
+    left: &mut Vec<usize>,
+    line: &[i64],
+    leads: &[usize],
+    column: usize,
+    latest: usize,
+) -> usize
+    requires column { column < length line.now }
+    requires leads { length leads.now ≡ length line.now }
+    requires room { vec_len left.old < vec_capacity left.old }
+    requires before { AreLatest line.now leads.now column latest left.old.items }
+    ensures latest { AreLatest line.now leads.now (column + 1) result left.new.items }
+    ensures count { vec_len left.new ≤ vec_len left.old + 1 }
+    ensures room { vec_capacity left.new ≡ vec_capacity left.old }
+{
+    let lead = leads[column];
+    if line[column] <= 0 || lead < latest {
+        return latest;
+    }
+    if latest < lead {
+        left.clear();
+    }
+    left.push_reserved(column);
+    lead
+}
+
+/// Puts those of the columns in which the line is positive into `left` that lead latest, and gives the variable at
+/// which they lead.
+fn put_latest(left: &mut Vec<usize>, line: &[i64], leads: &[usize]) -> usize
+    requires leads { length leads.now ≡ length line.now }
     requires room { length line.now ≤ vec_capacity left.old }
-    ensures positive { ArePositive line.now (length line.now) left.new.items }
+    ensures latest { AreLatest line.now leads.now (length line.now) result left.new.items }
     ensures room { vec_capacity left.new ≡ vec_capacity left.old }
 {
     left.clear();
+    let mut latest = 0;
     for column in 0..line.len() {
-        if line[column] > 0 {
-            left.push_reserved(column);
-        }
+        latest = put_later(left, line, leads, column, latest);
     }
+    latest
 }
 
 /// How a variable's numbers in two columns stand to each other, each over the line's there, which is positive.
@@ -108,18 +138,18 @@ impl Kernel {
         );
     }
 
-    /// Looks at one variable after the other, as long as several columns are left.
-    fn look_at_all(&mut self)
+    /// Looks at one variable after the other from this one on, as long as several columns are left.
+    fn look_at_all(&mut self, first: usize)
         requires kernel { IsKernel self.old }
         requires line { AllWithin (2 ^ 22) self.old.line.items }
         requires some { 0 < vec_len self.old.left }
-        requires left { AreLeft self.old.lows.items self.old.line.items 0 self.old.left.items }
+        requires left { AreLeft self.old.lows.items self.old.line.items first self.old.left.items }
         ensures left { AreLeft self.new.lows.items self.new.line.items (length self.new.lows.items) self.new.left.items }
         ensures some { 0 < vec_len self.new.left }
         ensures room { vec_capacity self.new.left ≡ vec_capacity self.old.left }
         ensures keeps { self.new ≡ record self.old { left = self.new.left } }
     {
-        for var in 0..self.lows.len() {
+        for var in first..self.lows.len() {
             if self.left.len() == 1 {
                 return;
             }
@@ -128,7 +158,7 @@ impl Kernel {
     }
 
     /// Of the columns in which the line is positive the least one, each over the line's number there: they are compared
-    /// at the forms x - low, in order.
+    /// at the forms x - low, in order. The first number of a column is positive, so those that lead latest come first.
     pub fn choose(&mut self) -> Option<usize>
         requires kernel { IsKernel self.old }
         requires line { AllWithin (2 ^ 22) self.old.line.items }
@@ -136,11 +166,11 @@ impl Kernel {
         ensures line { self.new.line ≡ self.old.line }
         ensures keeps { KeepsNumbers self.old self.new }
     {
-        put_positive(&mut self.left, self.line.as_slice());
+        let latest = put_latest(&mut self.left, self.line.as_slice(), self.leads.as_slice());
         if self.left.is_empty() {
             return None;
         }
-        self.look_at_all();
+        self.look_at_all(latest);
         Some(self.left[0])
     }
 }

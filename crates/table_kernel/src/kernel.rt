@@ -1,6 +1,7 @@
 //! The kernel of a table.
 ghost use Rattle.std.specs.Prelude.{◌≡◌, length};
 
+use crate::uses::Use;
 use cost_base::Listed;
 use fraction_table::Table;
 
@@ -18,9 +19,13 @@ pub struct Kernel {
     pub weight: i64,
     /// For each variable, the numbers of x - low at the columns of the basis.
     pub lows: Vec<Listed<i64>>,
+    /// For each column, the first variable whose number of x - low there isn't 0.
+    pub leads: Vec<usize>,
     /// The constants of all forms: x - low and high - x for each variable, and the rows.
     pub constants: Vec<i64>,
-    /// Room for the columns of which one is chosen.
+    /// For each variable, the rows in which its coefficient isn't 0, in their order.
+    pub uses: Vec<Vec<Use>>,
+    /// Room for columns: for those of which one is chosen, and then for those in which a turn may change a number.
     pub left: Vec<usize>,
     /// Room for the numbers of one form at all columns.
     pub line: Vec<i64>,

@@ -10,13 +10,16 @@ mod bounds;
 mod choice;
 mod corner;
 mod kernel;
+mod leads;
 mod line;
 mod moves;
 mod multipliers;
+mod reciprocal;
 mod restate;
 mod settle;
 mod start;
 mod turn;
+mod uses;
 
 pub use bounds::OutOfRange;
 pub use kernel::Kernel;

@@ -6,8 +6,10 @@ ghost use Rattle.fraction_table.specs.Wholes.{number_at};
 ghost use Rattle.table_kernel.specs.Kernels.{IsKernel, IsMoving, width_of};
 ghost use Rattle.table_kernel.specs.Numbers.{AllWithin, more_sums, number_in, weight_of};
 ghost use Rattle.table_kernel.specs.Turns.{KeepsNumbers, along_numbers, column_of, line_numbers};
+ghost use Rattle.table_kernel.specs.Uses.{held_in, uses_by};
 
 use crate::Kernel;
+use crate::uses::{Use, put_uses};
 use cost_base::Listed;
 use path_rows::{Form, Member};
 
@@ -22,21 +24,6 @@ pub fn put_multiple(sums: &mut [i64], factor: i64, numbers: &[i64])
     for index in 0..sums.len() {
         sums[index] += factor * numbers[index];
     }
-}
-
-/// A form's number at a column, by those of x - low there, which stand first among `numbers`: the sum of its
-/// coefficients times these.
-fn row_number(form: &Form, numbers: &[i64]) -> i64
-    requires count { length form.now.coefficients ≤ length numbers.now }
-    requires light { weight_of form.now ≤ 2 ^ 22 }
-    requires small { (v : ℕ) → v < length form.now.coefficients → nat_abs (number_at numbers.now v) ≤ 2 ^ 22 }
-    ensures { result ≡ number_in form.now numbers.now }
-{
-    let mut sum = 0;
-    for term in form.terms() {
-        sum += term.coefficient * numbers[term.var as usize];
-    }
-    sum
 }
 
 /// A form's number at a column, by the numbers of x - low for each variable: the sum of its coefficients times these.
@@ -106,24 +93,45 @@ fn put_bounds(along: &mut [i64], lows: &[Listed<i64>], column: usize)
     }
 }
 
-/// Puts each row's number at a column at its place in `along`, by those of x - low, which stand first there.
-fn put_rows(along: &mut [i64], rows: &[Form], first: usize)
+/// Puts 0 at the place of each row in `along`.
+fn clear_rows(along: &mut [i64], rows: &[Form], first: usize)
     requires room { first + length rows.now ≤ length along.old }
-    requires count { All (λ f. length f.coefficients ≤ first) rows.now }
+    ensures before { (v : ℕ) → v < first → number_at along.new v ≡ number_at along.old v }
+    ensures rows { (row : ℕ) → row < length rows.now → number_at along.new (first + row) ≡ pos 0 }
+{
+    for row in 0..rows.len() {
+        along[first + row] = 0;
+    }
+}
+
+/// Puts each row's number at a column at its place in `along`, by those of x - low, which stand first there.
+fn put_rows(along: &mut [i64], rows: &[Form], uses: &[Vec<Use>], first: usize)
+    requires room { first + length rows.now ≤ length along.old }
+    requires uses { held_in uses.now ≡ uses_by rows.now (length uses.now) }
+    requires before { length uses.now ≤ first }
+    requires count { All (λ f. length f.coefficients ≤ length uses.now) rows.now }
     requires light { All (λ f. weight_of f ≤ 2 ^ 22) rows.now }
     requires small { (v : ℕ) → v < first → nat_abs (number_at along.old v) ≤ 2 ^ 22 }
     ensures before { (v : ℕ) → v < first → number_at along.new v ≡ number_at along.old v }
     ensures rows { (row : ℕ) → row < length rows.now → number_at along.new (first + row) ≡ number_in (slice_index_or rows.now row no_form) along.old }
 {
-    for row in 0..rows.len() {
-        let number = row_number(&rows[row], along);
-        along[first + row] = number;
+    clear_rows(along, rows, first);
+    for var in 0..uses.len() {
+        let number = along[var];
+        put_uses(along, &uses[var], number, first);
     }
 }
 
 /// Puts the numbers of all forms at a column into `along`: of x - low, of high - x and of the rows.
-fn put_forms(along: &mut [i64], rows: &[Form], lows: &[Listed<i64>], column: usize)
+fn put_forms(
+    along: &mut [i64],
+    rows: &[Form],
+    uses: &[Vec<Use>],
+    lows: &[Listed<i64>],
+    column: usize,
+)
     requires room { length lows.now + length lows.now + length rows.now ≤ length along.old }
+    requires uses { held_in uses.now ≡ uses_by rows.now (length lows.now) }
     requires count { All (λ f. length f.coefficients ≤ length lows.now) rows.now }
     requires light { All (λ f. weight_of f ≤ 2 ^ 22) rows.now }
     requires long { All (λ row. column < length row) lows.now }
@@ -133,7 +141,7 @@ fn put_forms(along: &mut [i64], rows: &[Form], lows: &[Listed<i64>], column: usi
     ensures rows { (row : ℕ) → row < length rows.now → number_at along.new (length lows.now + length lows.now + row) ≡ number_in (slice_index_or rows.now row no_form) (map (λ row. number_at row column) lows.now) }
 {
     put_bounds(along, lows, column);
-    put_rows(along, rows, lows.len() + lows.len());
+    put_rows(along, rows, uses, lows.len() + lows.len());
 }
 
 impl Kernel {
@@ -195,6 +203,7 @@ impl Kernel {
         put_forms(
             self.along.as_mut_slice(),
             self.table.rows.as_slice(),
+            self.uses.as_slice(),
             self.lows.as_slice(),
             column,
         );

@@ -1,5 +1,5 @@
 //! The move of the kernel to another box, bound by bound.
-ghost use Rattle.std.specs.Prelude.{◌≡◌, ℕ, ◌^◌, ◌+◌, ◌<◌, ◌≤◌, pos, ◌-ℤ◌, length, ◌*◌, ◌<ℤ◌, ◌≤ℤ◌, nat_abs, slice_index, All, IsTrue, OnErr, OnOk};
+ghost use Rattle.std.specs.Prelude.{◌≡◌, ℕ, ◌^◌, ◌+◌, ◌<◌, ◌≤◌, ◌↔◌, pos, ◌-ℤ◌, length, ◌*◌, ◌<ℤ◌, ◌≤ℤ◌, nat_abs, slice_index, All, IsTrue, OnErr, OnOk};
 ghost use Rattle.path_rows.specs.Boxes.{IsBox, with_high, with_low};
 ghost use Rattle.fraction_table.specs.Moves.{IsMoved, KeepsRows};
 ghost use Rattle.fraction_table.specs.Tableaus.{FitsBox};
@@ -32,7 +32,7 @@ fn steps_fit(steps: i64, step: i64, room: i64) -> bool
     requires steps { pos 0 ≤ℤ steps }
     requires step { pos 0 <ℤ step }
     requires room { pos 0 ≤ℤ room }
-    ensures { IsTrue result → nat_abs steps * nat_abs step ≤ nat_abs room }
+    ensures { IsTrue result ↔ (nat_abs steps * nat_abs step ≤ nat_abs room) }
 {
     steps <= room / step
 }
@@ -115,7 +115,7 @@ impl Kernel {
     fn moves_within(&self, costs: &CostBox) -> bool
         requires kernel { IsKernel self.now }
         requires ranges { IsBox (width_of self.now) costs.now }
-        ensures { IsTrue result → MayMove self.now (box_distance self.now.table.costs costs.now) }
+        ensures { IsTrue result ↔ MayMove self.now (box_distance self.now.table.costs costs.now) }
     {
         let most = greatest(self.constants.as_slice());
         let lows = distance(self.table.costs.low.as_slice(), costs.low.as_slice());
@@ -137,6 +137,7 @@ impl Kernel {
         ensures keeps { KeepsRows (stated self.old) (stated self.new) }
         ensures moved { OnOk result (IsMoved (stated self.old) costs.now (stated self.new)) }
         ensures same { OnErr result (self.new ≡ self.old) }
+        ensures refused { OnErr result (MayMove self.old (box_distance self.old.table.costs costs.now) → ⊥) }
     {
         if !self.moves_within(costs) {
             return Err(OutOfRange);

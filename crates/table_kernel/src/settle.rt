@@ -1,10 +1,11 @@
 //! The work towards an answer: pivots, until the constants show one.
-ghost use Rattle.std.specs.Prelude.{◌<◌, length, pos, ◌<ℤ◌, IfOk};
+ghost use Rattle.std.specs.Prelude.{ℕ, ◌<◌, length, pos, ◌<ℤ◌, IfOk, OnErr};
 ghost use Rattle.fraction_table.specs.declared.stage.Stage.TheVariants.{Ended};
 ghost use Rattle.fraction_table.specs.Pivots.{IsAhead, KeepsForms};
 ghost use Rattle.fraction_table.specs.Wholes.{IsShown, number_at};
 ghost use Rattle.table_kernel.specs.Kernels.{IsKernel, lines_of, stated};
-ghost use Rattle.table_kernel.specs.Turns.{IsFoundNegative};
+ghost use Rattle.table_kernel.specs.Turnings.{IsHeldUp, IsRefusedAt};
+ghost use Rattle.table_kernel.specs.Turns.{IsFoundNegative, KeepsNumbers};
 
 use crate::Kernel;
 use crate::bounds::OutOfRange;
@@ -25,6 +26,10 @@ impl Kernel {
 
     /// Turns the kernel at a form whose constant is negative; or tells that the form refutes the box, where it is
     /// positive at no column.
+    ///
+    /// # Errors
+    ///
+    /// `OutOfRange` where the bounds don't cover that. Then the kernel's numbers are as before.
     fn raise(&mut self, place: usize) -> Result<Option<Solved>, OutOfRange>
         requires kernel { IsKernel self.old }
         requires place { place < length self.old.constants.items }
@@ -32,6 +37,8 @@ impl Kernel {
         ensures kernel { IsKernel self.new }
         ensures ahead { IfOk result (λ solved. IsAhead (stated self.old) (stated self.new) solved) }
         ensures keeps { KeepsForms (stated self.old) (stated self.new) }
+        ensures same { OnErr result (KeepsNumbers self.old self.new) }
+        ensures refused { OnErr result ((column : ℕ) × IsRefusedAt self.new place column) }
     {
         self.put_line(place);
         match self.choose() {
@@ -45,11 +52,16 @@ impl Kernel {
 
     /// One step towards the answer: the answer, where the constants show it, and else a pivot at the first form with a
     /// negative constant.
+    ///
+    /// # Errors
+    ///
+    /// `OutOfRange` where the bounds don't cover that pivot.
     fn advance(&mut self) -> Result<Option<Solved>, OutOfRange>
         requires kernel { IsKernel self.old }
         ensures kernel { IsKernel self.new }
         ensures ahead { IfOk result (λ solved. IsAhead (stated self.old) (stated self.new) solved) }
         ensures keeps { KeepsForms (stated self.old) (stated self.new) }
+        ensures held_up { OnErr result (IsHeldUp self.new) }
     {
         match self.first_negative() {
             None => Ok(Some(Solved::Feasible)),
@@ -68,6 +80,7 @@ impl Kernel {
         ensures kernel { IsKernel self.new }
         ensures shown { IfOk result (λ solved. IsShown self.new.table.basis.items (lines_of self.new) (Ended solved)) }
         ensures keeps { KeepsForms (stated self.old) (stated self.new) }
+        ensures held_up { OnErr result (IsHeldUp self.new) }
     {
         'pivots: loop {
             if let Some(solved) = self.advance()? {

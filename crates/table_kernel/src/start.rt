@@ -10,6 +10,7 @@ ghost use Rattle.table_kernel.specs.Kernels.{IsKernel};
 ghost use Rattle.table_kernel.specs.Numbers.{AllWithin};
 
 use crate::Kernel;
+use crate::uses::empty_uses;
 use cost_base::{Listed, OutOfMemory};
 use fraction_table::{range_of, starting_table};
 use path_rows::CostBox;
@@ -71,6 +72,20 @@ fn unit_rows(alloc: Global, width: usize) -> Result<Vec<Listed<i64>>, OutOfMemor
     Ok(columns)
 }
 
+/// The first variable with a number in each column of the forms x - low: its own.
+fn unit_leads(alloc: Global, width: usize) -> Result<Vec<usize>, OutOfMemory>
+    ensures { IfOk result (λ leads. leads.items ≡ numbers_from 0 width) }
+{
+    let mut leads = Vec::new(alloc);
+    for var in 0..width {
+        match leads.push(var) {
+            Ok(()) => {}
+            Err(_) => return Err(OutOfMemory),
+        }
+    }
+    Ok(leads)
+}
+
 /// The constants of the forms x - low and high - x at the low corner.
 fn bound_constants(alloc: Global, costs: &CostBox) -> Result<Vec<i64>, OutOfMemory>
     requires ranges { IsBox (length costs.now.low) costs.now }
@@ -102,7 +117,9 @@ pub fn starting_kernel(alloc: Global, costs: &CostBox, top: Top) -> Result<Kerne
         reach: 1,
         weight: 1,
         lows: unit_rows(alloc, width)?,
+        leads: unit_leads(alloc, width)?,
         constants: bound_constants(alloc, costs)?,
+        uses: empty_uses(alloc, width)?,
         left: room_of(alloc, width)?,
         line: zeros(alloc, width)?,
         along: zeros(alloc, width + width)?,

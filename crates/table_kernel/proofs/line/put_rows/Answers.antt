@@ -1,34 +1,65 @@
--- One more row is done.
-use Rattle.std.proofs.Common.{◌≡◌, ℕ, ◌+◌, ◌<◌, ◌≤◌, arith, get_or, set, length, ap, ◌∙◌, below_more, w64}
-use Rattle.std.specs.Prelude.{◌≢◌, pos}
-use Rattle.std.proofs.lemmas.Int.{to_z-of_z}
-use Rattle.std.proofs.lemmas.List.{get_or_default, get_or-set_other, get_or-set_same}
-use Rattle.path_rows.specs.declared.form.Form.{Form}
+-- The uses of one more variable are put.
+use Rattle.std.proofs.Common.{◌^◌, ◌+◌, ◌<◌, ◌≤◌, ◌∙◌, arith, get_or, length, subst, sym}
+use Rattle.std.specs.Prelude.{ℤ, nat_abs}
 use Rattle.path_rows.specs.Forms.{no_form}
 use Rattle.fraction_table.specs.Wholes.{number_at}
-use Rattle.table_kernel.specs.Numbers.{number_in}
-use Rattle.table_kernel.proofs.LineSums.{read, sums_agree}
+use Rattle.table_kernel.proofs.LineSums.{read}
+use Rattle.table_kernel.proofs.Sizes.{read_number}
+use Rattle.table_kernel.proofs.UseLaws.{list_read}
+use Rattle.table_kernel.proofs.UseSums.{IsPart, no_part, row_part, uses_known, uses_room, whole_part}
 use Rattle.table_kernel.proofs.line.put_rows.Goals as goal
 
-pub loop-row-preserved : goal.loop-row-preserved
-loop-row-preserved c =
-    let along = c.loop-row.along in
-    let old = c.args.along.now in
-    let rows = c.args.rows.now in
-    let first = c.args.first in
-    let row = c.loop-row.row in
-    let f = get_or rows row no_form in
-    let z = read c.row_number-number.result in
-    let few : length f.coefficients ≤ first = c.requires.count row no_form c.loop-row-test.true in
-    let place_in : first + row < length along = omega (arith, c.requires.room, c.loop-row.auto.along, c.loop-row-test.true) in
-    let is : z ≡ number_in f old =
-    to_z-of_z w64 c.row_number-number.result (record { sfits = c.row_number-number.type_inv })
-    ∙ c.row_number-number.ensures
-    ∙ ap (λ (g : Form). number_in g along) (c.index-rows-row.is ∙ get_or_default rows row c.index-rows-row.result no_form c.loop-row-test.true)
-    ∙ sums_agree f.coefficients along old (omega (arith, few, place_in)) (omega (arith, few, place_in, c.loop-row.auto.along)) (λ v v_in. c.loop-row.invariant.before v (omega (arith, v_in, few))) in
+pub loop-var-init : goal.loop-var-init
+loop-var-init c = record {
+  before = c.clear_rows.ensures.before;
+  rows = λ row row_in.
+      let cs = (get_or c.args.rows.now row no_form).coefficients in
+      subst (IsPart cs c.args.along.now 0) (sym (c.clear_rows.ensures.rows row row_in)) (no_part cs c.args.along.now (c.requires.light row no_form row_in));
+}
+
+pub put_uses-requires-clause-known : goal.put_uses-requires-clause-known
+put_uses-requires-clause-known c =
+    let list = c.index-uses-var.result in
+    let are = list_read c.args.uses.now c.args.rows.now c.loop-var.var list c.requires.uses c.loop-var-test.true c.index-uses-var.is in
+    uses_known c.args.rows.now list.items c.loop-var.var c.args.first (length c.loop-var.along) are (omega (arith, c.requires.room, c.loop-var.auto.along, c.clear_rows.auto.along))
+
+pub put_uses-requires-clause-number : goal.put_uses-requires-clause-number
+put_uses-requires-clause-number c =
+    let v = c.loop-var.var in
+    let v_in : v < c.args.first = omega (arith, c.loop-var-test.true, c.requires.before) in
+    let small : nat_abs (number_at c.loop-var.along v) ≤ 2 ^ 22 = subst (λ (z : ℤ). nat_abs z ≤ 2 ^ 22) (sym (c.loop-var.invariant.before v v_in)) (c.requires.small v v_in) in
+    subst (λ (z : ℤ). nat_abs z ≤ 2 ^ 22) (sym (read_number (number_at c.loop-var.along v) (let e : nat_abs (number_at c.loop-var.along v) < 2 ^ 63 = omega (arith, small) in e))) small
+
+pub put_uses-requires-clause-small : goal.put_uses-requires-clause-small
+put_uses-requires-clause-small c =
+    let list = c.index-uses-var.result in
+    let are = list_read c.args.uses.now c.args.rows.now c.loop-var.var list c.requires.uses c.loop-var-test.true c.index-uses-var.is in
+    uses_room c.args.rows.now list.items c.args.along.now c.loop-var.along c.loop-var.var c.args.first are c.loop-var.invariant.rows
+
+pub loop-var-preserved : goal.loop-var-preserved
+loop-var-preserved c =
+    let v = c.loop-var.var in
+    let zs = c.args.along.now in
+    let list = c.index-uses-var.result in
+    let are = list_read c.args.uses.now c.args.rows.now v list c.requires.uses c.loop-var-test.true c.index-uses-var.is in
+    let v_in : v < c.args.first = omega (arith, c.loop-var-test.true, c.requires.before) in
+    let small = c.requires.small v v_in in
+    let there = c.loop-var.invariant.before v v_in in
+    let small_there : nat_abs (number_at c.loop-var.along v) ≤ 2 ^ 22 = subst (λ (z : ℤ). nat_abs z ≤ 2 ^ 22) (sym there) small in
+    let number_is = read_number (number_at c.loop-var.along v) (let e : nat_abs (number_at c.loop-var.along v) < 2 ^ 63 = omega (arith, small_there) in e) ∙ there in
     record {
-      before = λ v v_in. get_or-set_other along (first + row) v z (pos 0) (let e : v ≢ first + row = omega (arith, v_in) in e) ∙ c.loop-row.invariant.before v v_in;
-      rows = below_more (λ (r : ℕ). number_at (set along (first + row) z) (first + r) ≡ number_in (get_or rows r no_form) old) row
-          (λ r r_in. get_or-set_other along (first + row) (first + r) z (pos 0) (let e : first + r ≢ first + row = omega (arith, r_in) in e) ∙ c.loop-row.invariant.rows r r_in)
-          (get_or-set_same along (first + row) z (pos 0) place_in ∙ is);
+      before = λ w w_in. c.put_uses.ensures.before w w_in ∙ c.loop-var.invariant.before w w_in;
+      rows = λ row row_in.
+          let few : length (get_or c.args.rows.now row no_form).coefficients ≤ length c.args.uses.now = c.requires.count row no_form row_in in
+          row_part c.args.rows.now list.items zs v row (read (number_at c.loop-var.along v)) (number_at c.loop-var.along (c.args.first + row)) (number_at c.put_uses.new.sums (c.args.first + row)) are
+          (omega (arith, few, c.requires.before, c.requires.room)) small number_is (c.put_uses.ensures.rows row) (c.loop-var.invariant.rows row row_in);
     }
+
+pub returns-clause-before : goal.returns-clause-before
+returns-clause-before c = c.loop-var.invariant.before
+
+pub returns-clause-rows : goal.returns-clause-rows
+returns-clause-rows c = λ row row_in.
+    let cs = (get_or c.args.rows.now row no_form).coefficients in
+    let few : length cs ≤ length c.args.uses.now = c.requires.count row no_form row_in in
+    whole_part cs c.args.along.now c.loop-var.var _ (omega (arith, few, c.loop-var-test.false)) (c.loop-var.invariant.rows row row_in)

@@ -1,4 +1,4 @@
--- A number that is at most a quotient, times what that is over, is at most the whole.
+-- A number is at most a quotient where, times what that is over, it is at most the whole.
 use Rattle.table_kernel.proofs.MoveSteps.{within_quotient}
 use Rattle.table_kernel.proofs.moves.steps_fit.Goals as goal
 

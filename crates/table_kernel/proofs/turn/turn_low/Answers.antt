@@ -1,45 +1,82 @@
 -- One more number has turned.
-use Rattle.std.proofs.Common.{◌≡◌, ◌^◌, ◌≤◌, ◌∙◌, ap, subst, sym, arith, List}
-use Rattle.std.specs.Prelude.{ℤ, pos, nat_abs, length, slice_index_or}
-use Rattle.std.proofs.lemmas.List.{length-set}
+use Rattle.std.proofs.Common.{◌≡◌, ◌≤◌, ap, subst, sym, arith, inl, inr, length}
+use Rattle.std.specs.Prelude.{ℤ, nat_abs, slice_index_or}
 use Rattle.fraction_table.specs.Wholes.{number_at}
-use Rattle.table_kernel.proofs.Crossings.{inner_unread, positive_size, read, read_known, whole_read}
+use Rattle.table_kernel.specs.declared.turn.Turn.{Turn}
+use Rattle.table_kernel.specs.Reciprocals.{IsDivisorOf}
 use Rattle.table_kernel.specs.Turns.{IsTurned}
-use Rattle.table_kernel.specs.Turnings.{turn_of}
-use Rattle.table_kernel.proofs.Written.{written_more, rest_more}
+use Rattle.table_kernel.specs.Turnings.{AreTurnedWithin, IsWholeTurn, turn_of}
+use Rattle.table_kernel.proofs.Sizes.{read_number}
+use Rattle.table_kernel.proofs.Crossings.{read, read_known, turned_small}
+use Rattle.table_kernel.proofs.Touched.{from_read, next_number, row_done, done_within, to_read, turning_more}
 use Rattle.table_kernel.proofs.turn.turn_low.Goals as goal
 
-pub turned-requires-clause-whole : goal.turned-requires-clause-whole
-turned-requires-clause-whole c =
-    let i = c.loop-column.column in
-    let s = c.requires.small in
-    let number : slice_index_or c.as_slice.result.now i (pos 0) ≡ number_at c.args.numbers.now i = ap (λ (xs : List ℤ). number_at xs i) c.as_slice.ensures ∙ c.loop-column.invariant.rest i (omega arith) in
-    whole_read c.args.pivot c.args.common c.args.along (number_at c.args.across.now i) (number_at c.args.numbers.now i) (slice_index_or c.as_slice.result.now i (pos 0))
-    (positive_size c.args.pivot (2 ^ 22) s.pivot_small) (positive_size c.args.common (2 ^ 22) s.common_small) s.along_small
-    (let e : nat_abs (number_at c.args.across.now i) ≤ 2 ^ 22 = s.across_small i (pos 0) c.loop-column-test.true in omega (arith, e))
-    (s.numbers_small i (pos 0) (omega (arith, c.loop-column-test.true, s.count)))
-    number (c.requires.whole i c.loop-column-test.true)
-
-pub loop-column-preserved : goal.loop-column-preserved
-loop-column-preserved c =
-    let i = c.loop-column.column in
-    let s = c.requires.small in
-    let xs = c.loop-column.numbers in
-    let x = read c.turned.result in
-    let across = c.args.across.now in
+pub turned-turned-requires : goal.turned-turned-requires
+turned-turned-requires c =
+    let i = c.loop-index.index in
+    let line = c.args.across.now in
     let olds = c.args.numbers.now in
-    let counted : length xs ≡ length olds = c.loop-column.invariant.count in
-    let number : slice_index_or c.as_slice.result.now i (pos 0) ≡ number_at olds i = ap (λ (ys : List ℤ). number_at ys i) c.as_slice.ensures ∙ c.loop-column.invariant.rest i (omega arith) in
-    let turned = inner_unread (read c.args.pivot) (read c.args.common) (read c.args.along) (number_at across i) (number_at olds i) (slice_index_or c.as_slice.result.now i (pos 0)) c.turned.result
-    (let e : nat_abs (number_at across i) ≤ 2 ^ 22 = s.across_small i (pos 0) c.loop-column-test.true in omega (arith, e))
-    (s.numbers_small i (pos 0) (omega (arith, c.loop-column-test.true, s.count)))
-    number c.turned.ensures in
-    let here = subst (λ (z : ℤ). IsTurned (turn_of (read c.args.pivot) (read c.args.common) (number_at across i)) (number_at olds i) (read c.args.along) z) (sym (read_known c.turned.result c.turned.type_inv)) turned in
-    let more = written_more (λ k z. IsTurned (turn_of (read c.args.pivot) (read c.args.common) (number_at across k)) (number_at olds k) (read c.args.along) z) (pos 0) xs i x (omega (arith, counted, c.loop-column-test.true, s.count)) c.loop-column.invariant.turned here in
-    let rest = rest_more (pos 0) olds xs i x c.loop-column.invariant.rest in
-    rw c.set.ensures
+    let column = slice_index_or c.args.touched.now i 0 in
+    let t = c.args.turn in
+    let y = c.args.along in
+    let here = next_number t.pivot t.common y line c.args.touched.now i olds c.loop-index.numbers c.as_slice.result.now _ c.over.result c.requires.small c.requires.touched c.loop-index-test.true c.loop-index.invariant.turning c.as_slice.ensures c.over.ensures in
+    record {
+      small = here.turn_small;
+      divisor = subst (λ (t : Turn). IsDivisorOf t.common c.args.divisor) (sym c.over.ensures) c.requires.divisor;
+      number = here.number_small;
+      along = here.along_small;
+      whole = to_read IsWholeTurn t.pivot t.common y line olds column c.over.result _ _ here (c.requires.whole column (c.requires.touched.before i c.loop-index-test.true));
+    }
+
+pub greater_size-most-requires-clause-number : goal.greater_size-most-requires-clause-number
+greater_size-most-requires-clause-number c =
+    let t = c.args.turn in
+    let here = next_number t.pivot t.common c.args.along c.args.across.now c.args.touched.now c.loop-index.index c.args.numbers.now c.loop-index.numbers c.as_slice.result.now _ c.over.result c.requires.small c.requires.touched c.loop-index-test.true c.loop-index.invariant.turning c.as_slice.ensures c.over.ensures in
+    omega (arith, ap nat_abs (read_known c.turned-turned.result c.turned-turned.type_inv), turned_small c.over.result _ _ c.turned-turned.result here.turn_small here.number_small here.along_small c.turned-turned.ensures)
+
+pub loop-index-preserved : goal.loop-index-preserved
+loop-index-preserved c =
+    let i = c.loop-index.index in
+    let line = c.args.across.now in
+    let olds = c.args.numbers.now in
+    let columns = c.args.touched.now in
+    let column = slice_index_or columns i 0 in
+    let p = c.args.turn.pivot in
+    let d = c.args.turn.common in
+    let y = c.args.along in
+    let z = c.turned-turned.result in
+    let g = c.greater_size-most.result in
+    let e = c.greater_size-most.ensures in
+    let before = c.loop-index.invariant in
+    let here = next_number p d y line columns i olds c.loop-index.numbers c.as_slice.result.now _ c.over.result c.requires.small c.requires.touched c.loop-index-test.true before.turning c.as_slice.ensures c.over.ensures in
+    let turned : IsTurned (turn_of p d (number_at line column)) (number_at olds column) (read y) (read z) =
+    subst (λ (x : ℤ). IsTurned (turn_of p d (number_at line column)) (number_at olds column) (read y) x) (sym (read_known z c.turned-turned.type_inv))
+    (from_read (λ t n w. IsTurned t n w z) p d y line olds column c.over.result _ _ here c.turned-turned.ensures) in
+    rw (read_known g c.greater_size-most.type_inv, c.set.ensures)
     (record {
-      count = length-set xs i x ∙ counted;
-      turned = more;
-      rest = rest;
+      turning = turning_more p d (read y) line columns i olds c.loop-index.numbers _ (nat_abs g) (read z) c.requires.touched c.loop-index-test.true c.requires.small.count before.turning e.most e.number turned;
+      from_zero = e.from_zero;
+      least = λ most all.
+          let size : nat_abs (read z) ≤ most = all column (c.requires.touched.before i c.loop-index-test.true) (read z) turned in
+          elim e.either [
+            | inl same ↦ omega (arith, ap nat_abs same, before.least most all)
+            | inr same ↦ omega (arith, same, size)
+          ];
     })
+
+pub returns-clause-turned : goal.returns-clause-turned
+returns-clause-turned c =
+    let t = c.args.turn in
+    let all : c.loop-index.index ≡ length c.args.touched.now = omega (arith, c.loop-index-test.false, c.loop-index.auto.index-end) in
+    row_done t.pivot t.common c.args.along c.args.own c.args.across.now c.args.touched.now c.loop-index.index c.args.numbers.now c.loop-index.numbers c.set-2.new.self _ c.requires.small c.requires.touched all c.loop-index.invariant.turning c.set-2.ensures c.requires.own
+
+pub returns-clause-size : goal.returns-clause-size
+returns-clause-size c most within small =
+    let t = c.args.turn in
+    let all : c.loop-index.index ≡ length c.args.touched.now = omega (arith, c.loop-index-test.false, c.loop-index.auto.index-end) in
+    done_within t.pivot t.common c.args.along c.args.own c.args.across.now c.args.touched.now c.loop-index.index c.args.numbers.now c.loop-index.numbers c.set-2.new.self _ c.requires.small c.requires.touched all c.loop-index.invariant.turning c.set-2.ensures most c.requires.stands within small
+
+pub returns-clause-least : goal.returns-clause-least
+returns-clause-least c most all =
+    let along_is = read_number c.args.along (let small = c.requires.small.along_small in omega (arith, small)) in
+    c.loop-index.invariant.least most (subst (λ (w : ℤ). AreTurnedWithin c.args.turn.pivot c.args.turn.common w c.args.across.now c.args.numbers.now most) (sym along_is) all)

@@ -1,14 +1,13 @@
--- The numbers before the column have turned, and the others are as before.
-use Rattle.std.proofs.Common.{◌≡◌, ℕ, ◌<◌, ◌≤◌}
-use Rattle.std.specs.Prelude.{length}
-use Rattle.fraction_table.specs.Wholes.{number_at}
-use Rattle.table_kernel.specs.Turns.{IsTurned}
-use Rattle.table_kernel.specs.Turnings.{turn_of}
+-- The numbers in the columns before the index have turned, and the others are as before.
+use Rattle.std.proofs.Common.{ℕ, ◌≤◌}
+use Rattle.std.specs.Prelude.{nat_abs, pos, ◌≤ℤ◌}
+use Rattle.table_kernel.specs.Turnings.{AreTurnedWithin}
+use Rattle.table_kernel.proofs.Touched.{AreTurning}
 use Rattle.table_kernel.proofs.turn.turn_low.Given as goal
 
-abbrev pub invariant-loop-column : goal.invariant-loop-column
-invariant-loop-column l = record {
-  count : length l.numbers ≡ length l.initial.numbers;
-  turned : (c : ℕ) → c < l.column → IsTurned (turn_of l.pivot l.common (number_at l.across c)) (number_at l.initial.numbers c) l.along (number_at l.numbers c);
-  rest : (c : ℕ) → l.column ≤ c → number_at l.numbers c ≡ number_at l.initial.numbers c;
+abbrev pub invariant-loop-index : goal.invariant-loop-index
+invariant-loop-index l = record {
+  turning : AreTurning l.turn.pivot l.turn.common l.along l.across l.touched l.index l.initial.numbers l.numbers (nat_abs l.most);
+  from_zero : pos 0 ≤ℤ l.most;
+  least : (most : ℕ) → AreTurnedWithin l.turn.pivot l.turn.common l.along l.across l.initial.numbers most → nat_abs l.most ≤ most;
 }

@@ -1,8 +1,10 @@
--- The numbers before the column turn into whole ones.
+-- The numbers in the columns before the index turn into whole ones.
 use Rattle.std.proofs.Common.{ℕ, ◌<◌}
+use Rattle.std.specs.Prelude.{slice_index_or}
 use Rattle.fraction_table.specs.Wholes.{number_at}
 use Rattle.table_kernel.specs.Turnings.{IsWholeTurn, turn_of}
 use Rattle.table_kernel.proofs.turn.turns_whole.Given as goal
 
-abbrev pub invariant-loop-column : goal.invariant-loop-column
-invariant-loop-column l = (c : ℕ) → c < l.column → IsWholeTurn (turn_of l.pivot l.common (number_at l.across c)) (number_at l.numbers c) l.along
+abbrev pub invariant-loop-index : goal.invariant-loop-index
+invariant-loop-index l =
+    (place : ℕ) → place < l.index → IsWholeTurn (turn_of l.turn.pivot l.turn.common (number_at l.across (slice_index_or l.touched place 0))) (number_at l.numbers (slice_index_or l.touched place 0)) l.along

@@ -1,12 +1,14 @@
--- The kernel's answer is shown by the table that it stands for.
-use Rattle.std.proofs.Common.{subst}
+-- The kernel's answer is shown by the table that it stands for; where it stops it is held up.
+use Rattle.std.proofs.Common.{ap, subst, sym, ◌∙◌}
 use Rattle.std.specs.Prelude.{Result, IfOk}
 use Rattle.fraction_table.specs.declared.stage.Solved.{Solved}
 use Rattle.fraction_table.specs.declared.stage.Stage.TheVariants.{Ended}
 use Rattle.fraction_table.specs.Wholes.{IsShown}
 use Rattle.table_kernel.specs.declared.bounds.OutOfRange.{OutOfRange}
 use Rattle.table_kernel.specs.Kernels.{lines_of}
-use Rattle.exact_simplex.proofs.Actives.{kernel_shown}
+use Rattle.exact_simplex.specs.declared.active.ActiveTable.{ActiveTable}
+use Rattle.exact_simplex.proofs.Actives.{clash, kernel_shown, shown_beside, was_held_up}
+use Rattle.exact_simplex.proofs.active.ActiveTable.settle.Goals.{then-self+in-Err, else-self}
 use Rattle.exact_simplex.proofs.active.ActiveTable.settle.Goals as goal
 
 pub settle-requires : goal.settle-requires
@@ -16,3 +18,18 @@ pub returns-in-Ok-clause-shown : goal.returns-in-Ok-clause-shown
 returns-in-Ok-clause-shown c =
     kernel_shown c.args.self.now.in_kernel c.settle.new.self c.in-Ok.solved c.if-self.true c.settle.ensures.kernel
     (subst (λ (r : Result Solved OutOfRange). IfOk r (λ solved. IsShown c.settle.new.self.table.basis.items (lines_of c.settle.new.self) (Ended solved))) c.in-Ok.is c.settle.ensures.shown)
+
+pub returns-clause-shown : goal.returns-clause-shown
+returns-clause-shown c =
+    shown_beside c.if-self.self.in_kernel (record c.if-self.self.kernel { table = c.settle-2.new.self }) c.settle-2.result
+    (elim c.if-self.branch [
+      | then-self+in-Err w ↦ ap (λ (a : ActiveTable). a.in_kernel) w.self-is ∙ w.leave_kernel.ensures.left
+      | else-self w ↦ ap (λ (a : ActiveTable). a.in_kernel) w.self-is ∙ w.if-self.false
+    ]) c.settle-2.ensures.shown
+
+pub returns-clause-left : goal.returns-clause-left
+returns-clause-left c was_in is_out =
+    elim c.if-self.branch [
+      | then-self+in-Err w ↦ was_held_up c.args.self.now.kernel w.settle.new.self w.settle.result _ w.in-Err.is w.settle.ensures.kernel w.settle.ensures.keeps w.settle.ensures.held_up
+      | else-self w ↦ absurd (clash (sym w.if-self.false ∙ was_in))
+    ]

@@ -1,31 +1,35 @@
 -- A column that is left at last comes first.
-use Rattle.std.proofs.Common.{◌∙◌, ◌≡◌, sym, subst, List, length, refl, arith}
-use Rattle.std.specs.Prelude.{ℤ, vec_len, ◌==◌, true}
+use Rattle.std.proofs.Common.{◌∙◌, ◌≡◌, sym, ap, subst, length, refl, arith}
+use Rattle.std.specs.Prelude.{vec_len, ◌==◌, true}
 use Rattle.std.proofs.lemmas.Bool.Decides.{nat_tests}
 use Rattle.table_kernel.specs.declared.kernel.Kernel.{Kernel}
-use Rattle.table_kernel.specs.Choices.{AreLeft, ArePositive}
-use Rattle.table_kernel.proofs.Lefts.{chosen_best, none_best, none_looked_at}
+use Rattle.table_kernel.specs.Choices.{AreLeft}
+use Rattle.table_kernel.proofs.Lefts.{chosen_best, latest_read, left_of, none_best}
 use Rattle.table_kernel.proofs.Rooms.{keeps_kernel, keeps_twice, left_keeps}
 use Rattle.table_kernel.proofs.kernel.Kernel.choose.Goals as goal
 
 pub look_at_all-requires-clause-kernel : goal.look_at_all-requires-clause-kernel
 look_at_all-requires-clause-kernel c =
     let k = c.args.self.now in
-    let n : Kernel = record k { left = c.put_positive.new.left } in
-    keeps_kernel k n (left_keeps k n refl (omega (arith, c.put_positive.ensures.room))) c.requires.kernel
+    let n : Kernel = record k { left = c.put_latest-latest.new.left } in
+    keeps_kernel k n (left_keeps k n refl (omega (arith, c.put_latest-latest.ensures.room))) c.requires.kernel
+
+pub put_latest-latest-requires-clause-leads : goal.put_latest-latest-requires-clause-leads
+put_latest-latest-requires-clause-leads c =
+    let s = c.requires.kernel.shaped in
+    ap length c.as_slice-2.ensures.value ∙ s.leads ∙ sym s.line ∙ ap length (sym c.as_slice.ensures.value)
 
 pub look_at_all-requires-clause-left : goal.look_at_all-requires-clause-left
-look_at_all-requires-clause-left c =
-    none_looked_at c.args.self.now.lows.items c.args.self.now.line.items c.put_positive.new.left.items
-    (subst (λ (line : List ℤ). ArePositive line (length line) c.put_positive.new.left.items) c.as_slice.ensures.value c.put_positive.ensures.positive)
+look_at_all-requires-clause-left c = left_of c.args.self.now c.put_latest-latest.result c.put_latest-latest.new.left.items c.requires.kernel
+    (latest_read c.args.self.now c.as_slice.result.now c.as_slice-2.result.now c.put_latest-latest.result c.put_latest-latest.new.left.items c.as_slice.ensures.value c.as_slice-2.ensures.value c.put_latest-latest.ensures.latest)
 
 pub returns-then-is_empty-clause-best : goal.returns-then-is_empty-clause-best
 returns-then-is_empty-clause-best c =
-    let left = c.put_positive.new.left in
+    let left = c.put_latest-latest.new.left in
     let tested : (vec_len left == 0) ≡ true = sym c.is_empty.ensures ∙ c.if-is_empty.true in
     let none : vec_len left ≡ 0 = grind (arith, nat_tests) in
-    none_best c.args.self.now left.items c.requires.kernel.shaped
-    (subst (λ (line : List ℤ). ArePositive line (length line) left.items) c.as_slice.ensures.value c.put_positive.ensures.positive)
+    none_best c.args.self.now c.put_latest-latest.result left.items c.requires.kernel.shaped
+    (latest_read c.args.self.now c.as_slice.result.now c.as_slice-2.result.now c.put_latest-latest.result left.items c.as_slice.ensures.value c.as_slice-2.ensures.value c.put_latest-latest.ensures.latest)
     (omega (arith, none, left.ok.0))
 
 pub returns-clause-best : goal.returns-clause-best
@@ -40,6 +44,6 @@ returns-clause-best c =
 pub returns-clause-keeps : goal.returns-clause-keeps
 returns-clause-keeps c =
     let k = c.args.self.now in
-    let n : Kernel = record k { left = c.put_positive.new.left } in
-    keeps_twice k n c.look_at_all.new.self (left_keeps k n refl (omega (arith, c.put_positive.ensures.room)))
+    let n : Kernel = record k { left = c.put_latest-latest.new.left } in
+    keeps_twice k n c.look_at_all.new.self (left_keeps k n refl (omega (arith, c.put_latest-latest.ensures.room)))
     (left_keeps n c.look_at_all.new.self c.look_at_all.ensures.keeps (omega (arith, c.look_at_all.ensures.room)))

@@ -6,6 +6,7 @@ use Rattle.fraction_table.specs.declared.table.Table.{Table}
 use Rattle.fraction_table.specs.Pivots.{IsAhead}
 use Rattle.table_kernel.specs.Kernels.{stated}
 use Rattle.table_kernel.specs.Turns.{IsBestOf}
+use Rattle.table_kernel.proofs.Refusals.{on_err}
 use Rattle.table_kernel.proofs.Rooms.{keeps_kernel, keeps_twice, same_stated}
 use Rattle.table_kernel.proofs.Settling.{line_in, line_stuck, none_positive}
 use Rattle.table_kernel.proofs.kernel.Kernel.raise.Goals as goal
@@ -31,3 +32,12 @@ returns-in-None-clause-ahead c =
       line_stuck old c.requires.kernel c.args.place c.requires.place c.requires.below
           (none_positive old c.put_line.new.self c.args.place c.put_line.ensures.keeps c.put_line.ensures.line best),
     )
+
+pub returns-in_err-pivot-in-Some-clause-same : goal.returns-in_err-pivot-in-Some-clause-same
+returns-in_err-pivot-in-Some-clause-same c =
+    on_err c.from_residual.result
+    (keeps_twice c.args.self.now c.choose.new.self c.pivot.new.self
+    (keeps_twice c.args.self.now c.put_line.new.self c.choose.new.self c.put_line.ensures.keeps c.choose.ensures.keeps) c.in_err-pivot-in-Some.ensures.same)
+
+pub returns-in_err-pivot-in-Some-clause-refused : goal.returns-in_err-pivot-in-Some-clause-refused
+returns-in_err-pivot-in-Some-clause-refused c = on_err c.from_residual.result (c.in-Some.column, c.in_err-pivot-in-Some.ensures.refused)

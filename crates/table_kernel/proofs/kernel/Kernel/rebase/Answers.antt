@@ -20,7 +20,7 @@ loop-var-init c =
       kernel = m;
       moved = none_moved (stated k) c.args.costs.now (sym (moved_same k.table.costs k.table.rows.items k.table.basis.items m.unboxed.members));
       keeps = record { top = refl; rows = refl; width = refl; common = refl; reach = refl; weight = refl };
-      room = c.moves_within.ensures c.if-not-moves_within.false;
+      room = c.moves_within.ensures.0 c.if-not-moves_within.false;
     }
 
 pub move_low-requires-clause-room : goal.move_low-requires-clause-room

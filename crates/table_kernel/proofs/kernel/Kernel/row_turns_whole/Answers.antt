@@ -1,59 +1,58 @@
--- Where nothing stands along and the denominator stays, so does the number.
-use Rattle.std.proofs.Common.{◌≡◌, ◌^◌, ◌<◌, ◌≤◌, ◌∙◌, ap, sym, subst, [], length, arith}
+-- Where the pivot's number is the denominator, what the line shares with it tells of the whole row.
+use Rattle.std.proofs.Common.{◌≡◌, ◌^◌, ◌≤◌, ◌∙◌, ap, sym, subst, ℤ, ◌<ℤ◌, ◌≤ℤ◌, [], length, arith}
 use Rattle.std.specs.Prelude.{pos, nat_abs, slice_index_or}
-use Rattle.std.proofs.lemmas.List.{get_or_default}
 use Rattle.fraction_table.specs.Wholes.{number_at}
-use Rattle.table_kernel.specs.Turnings.{AreSmallTurns, AreWholeTurns}
+use Rattle.table_kernel.specs.Turnings.{AreSmallTurns, AreTouched, AreWholeTurns}
 use Rattle.table_kernel.proofs.Sizes.{read_number}
-use Rattle.table_kernel.proofs.Crossings.{item_is, stays_turned}
-use Rattle.table_kernel.proofs.TurnArgs.{along_number, row_small, small_read, whole_turns_unread}
+use Rattle.table_kernel.proofs.Crossings.{item_is}
+use Rattle.table_kernel.proofs.Shares.{row_told, same_read}
+use Rattle.table_kernel.proofs.TurnArgs.{along_number, row_from_read, row_read, row_small, row_to_read}
 use Rattle.table_kernel.proofs.kernel.Kernel.row_turns_whole.Goals as goal
 
-pub returns-then-stays : goal.returns-then-stays
-returns-then-stays c holds column column_in =
+pub returns-then-turn : goal.returns-then-turn
+returns-then-turn c =
     let k = c.args.self.now in
     let v = c.args.var in
-    let s = c.stays.ensures c.if-stays.true in
-    let along_in : v < length k.along.items = omega (arith, c.requires.var, c.requires.ready.lows) in
-    let along_is = item_is k.along.items v c.index-along.result.now c.index-along.ensures along_in in
+    let along_is = item_is k.along.items v c.index-along.result.now c.index-along.ensures (omega (arith, c.requires.var, c.requires.ready.lows)) in
     let small : nat_abs c.index-along.result.now ≤ 2 ^ 22 = omega (arith, ap nat_abs along_is, along_number k c.requires.ready v c.requires.var) in
-    let none : number_at k.along.items v ≡ pos 0 = sym along_is ∙ sym (read_number c.index-along.result.now (omega (arith, small))) ∙ s.0 in (
-      number_at (slice_index_or k.lows.items v []) column,
-      stays_turned c.args.turn.pivot k.common (number_at k.along.items v) (number_at k.line.items column) (number_at (slice_index_or k.lows.items v []) column) none (s.1 ∙ c.requires.turn.2),
+    let same : c.args.turn.pivot ≡ c.args.turn.common =
+    same_read c.args.turn.pivot c.args.turn.common (c.requires.turn.0, c.requires.turn.1)
+    (subst (λ (d : ℤ). (pos 0 <ℤ d) × (d ≤ℤ pos (2 ^ 22))) (sym c.requires.turn.2) c.requires.ready.common) c.if-turn.true in
+    let told =
+    row_told c.args.turn.pivot k.common (number_at k.along.items v) c.args.divisor.number _ k.line.items (slice_index_or k.lows.items v []) c.args.share
+    c.requires.ready.common.0 (same ∙ c.requires.turn.2) (c.requires.divisor.same ∙ c.requires.turn.2)
+    (read_number c.index-along.result.now (omega (arith, small)) ∙ along_is) c.requires.share in (
+      λ holds. told.0 (c.divides_share.ensures.0 holds),
+      λ whole. c.divides_share.ensures.1 (told.1 whole),
     )
 
 pub turns_whole-requires : goal.turns_whole-requires
 turns_whole-requires c =
     let k = c.args.self.now in
     let v = c.args.var in
-    let along_in : v < length k.along.items = omega (arith, c.requires.var, c.requires.ready.lows) in
-    let along_is = item_is k.along.items v c.index-along.result.now c.index-along.ensures along_in in
-    let row_is : c.as_slice.result.now ≡ slice_index_or k.lows.items v [] = c.as_slice.ensures ∙ c.index.ensures ∙ get_or_default k.lows.items v c.index.result.now [] c.requires.var in
-    let small = row_small k c.args.turn.pivot v c.requires.ready (c.requires.turn.0, c.requires.turn.1) c.requires.var (c.requires.numbers v [] c.requires.var) in
+    let p = c.args.turn.pivot in
+    let d = c.args.turn.common in
+    let across = c.as_slice-2.result.now in
+    let row = c.as_slice.result.now in
+    let columns = c.as_slice-3.result.now in
+    let given = row_read k v d c.index-along.result.now across row _ columns c.requires.ready c.requires.var c.requires.turn.2 c.index-along.ensures c.as_slice-2.ensures.value (c.as_slice.ensures ∙ c.index.ensures) c.as_slice-3.ensures.value in
     record {
-      small = small_read c.args.turn.pivot c.args.turn.common (number_at k.along.items v) c.index-along.result.now k.line.items c.as_slice-2.result.now (slice_index_or k.lows.items v []) c.as_slice.result.now
-          (record {
-            small = subst (λ z. AreSmallTurns c.args.turn.pivot z (number_at k.along.items v) k.line.items (slice_index_or k.lows.items v [])) (sym c.requires.turn.2) small;
-            along = along_is;
-            across_is = c.as_slice-2.ensures.value;
-            numbers_are = row_is;
-          });
+      divisor = c.requires.divisor;
+      small = row_to_read (λ e w line numbers _. AreSmallTurns p e w line numbers) k v d _ across row columns given
+          (row_small k p v c.requires.ready (c.requires.turn.0, c.requires.turn.1) c.requires.var (c.requires.numbers v [] c.requires.var));
+      touched = row_to_read (λ e _ line _ touched. AreTouched p e line (length line) touched) k v d _ across row columns given c.requires.touched;
     }
 
 pub returns : goal.returns
-returns c holds =
+returns c =
     let k = c.args.self.now in
     let v = c.args.var in
-    let along_in : v < length k.along.items = omega (arith, c.requires.var, c.requires.ready.lows) in
-    let along_is = item_is k.along.items v c.index-along.result.now c.index-along.ensures along_in in
-    let row_is : c.as_slice.result.now ≡ slice_index_or k.lows.items v [] = c.as_slice.ensures ∙ c.index.ensures ∙ get_or_default k.lows.items v c.index.result.now [] c.requires.var in
-    let small = row_small k c.args.turn.pivot v c.requires.ready (c.requires.turn.0, c.requires.turn.1) c.requires.var (c.requires.numbers v [] c.requires.var) in
-    subst (λ z. AreWholeTurns c.args.turn.pivot z (number_at k.along.items v) k.line.items (slice_index_or k.lows.items v [])) c.requires.turn.2
-    (whole_turns_unread c.args.turn.pivot c.args.turn.common (number_at k.along.items v) c.index-along.result.now k.line.items c.as_slice-2.result.now (slice_index_or k.lows.items v []) c.as_slice.result.now
-    (record {
-      small = subst (λ z. AreSmallTurns c.args.turn.pivot z (number_at k.along.items v) k.line.items (slice_index_or k.lows.items v [])) (sym c.requires.turn.2) small;
-      along = along_is;
-      across_is = c.as_slice-2.ensures.value;
-      numbers_are = row_is;
-    })
-    (c.turns_whole.ensures holds))
+    let p = c.args.turn.pivot in
+    let d = c.args.turn.common in
+    let across = c.as_slice-2.result.now in
+    let row = c.as_slice.result.now in
+    let columns = c.as_slice-3.result.now in
+    let given = row_read k v d c.index-along.result.now across row _ columns c.requires.ready c.requires.var c.requires.turn.2 c.index-along.ensures c.as_slice-2.ensures.value (c.as_slice.ensures ∙ c.index.ensures) c.as_slice-3.ensures.value in (
+      λ holds. row_from_read (λ e w line numbers _. AreWholeTurns p e w line numbers) k v d _ across row columns given (c.turns_whole.ensures.0 holds),
+      λ whole. c.turns_whole.ensures.1 (row_to_read (λ e w line numbers _. AreWholeTurns p e w line numbers) k v d _ across row columns given whole),
+    )

@@ -1,10 +1,12 @@
--- The greatest sizes are bounds.
-use Rattle.std.proofs.Common.{◌≡◌, ◌^◌, ◌≤◌, subst, sym, arith}
+-- The tests compare what the greatest sizes come to.
+use Rattle.std.proofs.Common.{ℕ, ◌^◌, ◌≤◌, refl, subst, sym, arith}
 use Rattle.std.specs.Prelude.{nat_abs}
 use Rattle.std.proofs.lemmas.Int.{ints}
-use Rattle.table_kernel.specs.Numbers.{AllWithin}
+use Rattle.table_kernel.specs.Numbers.{AllWithin, greatest_of}
 use Rattle.table_kernel.proofs.Sizes.{read_number}
-use Rattle.table_kernel.proofs.Crossings.{entries_read, limits_read, positive_size, read, read_known}
+use Rattle.table_kernel.proofs.SizesAfter.{after_read, entries_read, greatest_at}
+use Rattle.table_kernel.proofs.Tests.{failed, never}
+use Rattle.table_kernel.proofs.Crossings.{positive_size}
 use Rattle.table_kernel.proofs.kernel.Kernel.stays_within.Goals as goal
 
 pub keeps-requires-clause-most : goal.keeps-requires-clause-most
@@ -17,24 +19,28 @@ keeps-requires-clause-along c =
     let small : nat_abs c.greatest-along.result ≤ 2 ^ 22 = c.greatest-along.ensures.least (2 ^ 22) (subst (AllWithin (2 ^ 22)) (sym c.as_slice.ensures.value) c.requires.ready.along) in
     rw (read_number c.greatest-along.result (omega (arith, small))) (c.greatest-along.ensures.from_zero, omega (arith, ints, c.greatest-along.ensures.from_zero, small))
 
-pub returns : goal.returns
-returns c holds =
+pub returns-then-not-lows_stay : goal.returns-then-not-lows_stay
+returns-then-not-lows_stay c =
     let k = c.args.self.now in
     let t = c.args.constants in
-    let r = c.requires.ready in
-    let along = c.greatest-along.result in
-    let across = c.greatest-across.result in
-    let most = c.greatest.result in
-    let pivot_known : read t.pivot ≡ t.pivot = read_number t.pivot (omega (arith, positive_size t.pivot (2 ^ 22) c.requires.pivot)) in
-    record {
-      pivot = c.requires.pivot.1;
-      along = nat_abs along;
-      along_within = subst (AllWithin (nat_abs along)) c.as_slice.ensures.value c.greatest-along.ensures.within;
-      across = nat_abs across;
-      across_within = subst (AllWithin (nat_abs across)) c.as_slice-2.ensures.value c.greatest-across.ensures.within;
-      entries = λ number size few small. c.lows_stay.ensures c.if-not-lows_stay.false number size few
-          (entries_read size number t.common t.pivot along across k.common _ _ _ c.requires.common pivot_known (read_known along c.greatest-along.type_inv) (read_known across c.greatest-across.type_inv) small);
-      most = nat_abs most;
-      most_within = subst (AllWithin (nat_abs most)) c.as_slice-3.ensures.value c.greatest.ensures.within;
-      constants = limits_read (nat_abs t.pivot) (nat_abs t.across) (nat_abs t.common) most along _ _ (read_known most c.greatest.type_inv) (read_known along c.greatest-along.type_inv) (c.keeps.ensures holds);
-    }
+    let entries = entries_read k t _ _ _ (read_number t.pivot (omega (arith, positive_size t.pivot (2 ^ 22) c.requires.pivot))) c.requires.common
+    (greatest_at k.along.items c.as_slice.result.now c.greatest-along.result c.as_slice.ensures.value c.greatest-along.type_inv c.greatest-along.ensures.within c.greatest-along.ensures.least)
+    (greatest_at k.line.items c.as_slice-2.result.now c.greatest-across.result c.as_slice-2.ensures.value c.greatest-across.type_inv c.greatest-across.ensures.within c.greatest-across.ensures.least) in
+    never (λ stays. failed c.lows_stay.result c.if-not-lows_stay.true c.lows_stay.ensures (entries.1 stays.entries))
+
+pub returns : goal.returns
+returns c =
+    let k = c.args.self.now in
+    let t = c.args.constants in
+    let along_is = greatest_at k.along.items c.as_slice.result.now c.greatest-along.result c.as_slice.ensures.value c.greatest-along.type_inv c.greatest-along.ensures.within c.greatest-along.ensures.least in
+    let across_is = greatest_at k.line.items c.as_slice-2.result.now c.greatest-across.result c.as_slice-2.ensures.value c.greatest-across.type_inv c.greatest-across.ensures.within c.greatest-across.ensures.least in
+    let most_is = greatest_at k.constants.items c.as_slice-3.result.now c.greatest.result c.as_slice-3.ensures.value c.greatest.type_inv c.greatest.ensures.within c.greatest.ensures.least in
+    let entries = entries_read k t _ _ _ (read_number t.pivot (omega (arith, positive_size t.pivot (2 ^ 22) c.requires.pivot))) c.requires.common along_is across_is in
+    let constants = after_read t.pivot t.common (greatest_of k.constants.items) (greatest_of k.along.items) (nat_abs t.across) t.pivot t.common _ _ (nat_abs t.across) refl refl most_is along_is refl in (
+      λ holds. record {
+        pivot = c.requires.pivot.1;
+        entries = entries.0 (c.lows_stay.ensures.0 c.if-not-lows_stay.false);
+        constants = subst (λ (n : ℕ). n ≤ 2 ^ 39) constants (c.keeps.ensures.0 holds);
+      },
+      λ stays. c.keeps.ensures.1 (subst (λ (n : ℕ). n ≤ 2 ^ 39) (sym constants) stays.constants),
+    )

@@ -42,5 +42,5 @@ loop-place-preserved c =
       count = length-set xs i x ∙ c.loop-place.invariant.count;
       turned = written_more (λ p z. IsTurned c.args.turn (number_at k.constants.items p) (number_at k.along.items p) z) (pos 0) xs i x (omega (arith, i_in, c.loop-place.invariant.count)) c.loop-place.invariant.turned here;
       rest = rest_more (pos 0) k.constants.items xs i x c.loop-place.invariant.rest;
-      others = record { table = o.table; common = o.common; weight = o.weight; reach = o.reach; lows = o.lows; left = o.left; line = o.line; along = o.along };
+      others = record { table = o.table; common = o.common; weight = o.weight; reach = o.reach; lows = o.lows; leads = o.leads; uses = o.uses; left = o.left; line = o.line; along = o.along };
     }
