@@ -1,5 +1,5 @@
 -- The ranges of numbers in jobs.
-use Rattle.std.proofs.Common.{◌≡◌, ◌∙◌, Result, Ok, Err, IfOk, ◌≤◌, ℕ, Bool, cond, true, false, List, [], ◌∷◌, Option, Some, None, IfSome, option_and_then, codes, refl, subst, arith}
+use Rattle.std.proofs.Common.{◌≡◌, ◌∙◌, Result, Ok, Err, IfOk, ◌≤◌, ℕ, Bool, cond, true, false, List, [], ◌∷◌, Option, Some, None, IfSome, option_and_then, option_map, codes, refl, subst, arith}
 use Rattle.std.specs.Prelude.{find, nat_le}
 use Rattle.text_lines.specs.Numbers.{number, quad}
 use Rattle.text_lines.proofs.NumberLaws.{number_within-le}
@@ -7,8 +7,8 @@ use Rattle.cost_base.specs.Lists.{same_bytes}
 use Rattle.command_words.specs.declared.job.Job.{Job}
 use Rattle.command_words.specs.declared.job.WordsStop.{WordsStop}
 use Rattle.command_words.specs.Forms.{Answers}
-use Rattle.command_words.specs.Jobs.{seen, Text, JobRead, IsInRange, Design, Check, Audit, Rewrite, Trial, Conflict, Spread, Total, Lsas, Route}
-use Rattle.command_words.specs.Commands.{Form, Found, job_of, job_of_row, row_of_word, table, takes_words, found_in, value, limits, configs, number_between, number_or, from_low, of_two, of_three, of_four, trial_job}
+use Rattle.command_words.specs.Jobs.{seen, Text, JobRead, SearchRead, IsInRange, Design, Check, Audit, Rewrite, Trial, Conflict, Spread, Total, Lsas, Route}
+use Rattle.command_words.specs.Commands.{Form, Found, search_of, job_of, job_of_row, row_of_word, table, takes_words, found_in, value, limits, configs, number_between, number_or, from_low, of_two, of_three, of_four, trial_job}
 
 two_in : {A B : Type 0} (whole : A → B → JobRead) (a : Option A) (b : Option B)
     → ((x : A) (y : B) → a ≡ Some x → b ≡ Some y → IsInRange (whole x y)) → IfSome (of_two whole a b) IsInRange
@@ -22,6 +22,10 @@ three_in whole None b c h = tt
 three_in whole (Some x) None c h = tt
 three_in whole (Some x) (Some y) None h = tt
 three_in whole (Some x) (Some y) (Some z) h = h x y z
+
+search_in : (whole : SearchRead → JobRead) (o : Option SearchRead) → ((s : SearchRead) → IsInRange (whole s)) → IfSome (option_map whole o) IsInRange
+search_in whole None h = tt
+search_in whole (Some s) h = h s
 
 four_in : {A B C D : Type 0} (whole : A → B → C → D → JobRead) (a : Option A) (b : Option B) (c : Option C) (d : Option D)
     → ((x : A) (y : B) (z : C) (w : D) → IsInRange (whole x y z w)) → IfSome (of_four whole a b c d) IsInRange
@@ -69,7 +73,7 @@ Each P (x ∷ xs) = P x × Each P xs
 rows_in : Each InRange table
 unfolding table
 rows_in = (
-  (λ found. three_in Design (value (codes "request") found) (limits found) (configs found) (λ x y z. tt)),
+  (λ found. search_in (λ s. Design s.request s.limits s.configs) (search_of found) (λ s. tt)),
   (
     (λ found. three_in Check (value (codes "request") found) (value (codes "answer") found) (configs found) (λ x y z. tt)),
     (
@@ -79,11 +83,11 @@ rows_in = (
         (
           trial_in,
           (
-            (λ found. three_in Conflict (value (codes "request") found) (limits found) (configs found) (λ x y z. tt)),
+            (λ found. search_in (λ s. Conflict s.request s.limits s.configs) (search_of found) (λ s. tt)),
             (
               (λ found. four_in Spread (value (codes "request") found) (value (codes "sets") found) (limits found) (configs found) (λ x y z w. tt)),
               (
-                (λ found. three_in Total (value (codes "request") found) (limits found) (configs found) (λ x y z. tt)),
+                (λ found. search_in (λ s. Total s.request s.limits s.configs) (search_of found) (λ s. tt)),
                 (
                   (λ found. two_in Lsas (value (codes "request") found) (configs found) (λ x y e f. tt)),
                   (

@@ -1,13 +1,13 @@
 -- The commands, their options, and the jobs that words ask for.
 use Rattle.std.specs.Prelude.{ℕ, ◌-◌, ◌^◌, List, [], ◌∷◌, map, fold, find, Bool, true, false, if◌then◌else◌, nat_le, Option, Some, None, codes}
-use Rattle.std.specs.Prelude.{option_and_then}
+use Rattle.std.specs.Prelude.{option_and_then, option_map}
 use Rattle.cost_base.specs.Lists.{same_bytes}
 use Rattle.text_lines.specs.Numbers.{number, quad}
 use Rattle.clap.specs.Lexer.{usize_max}
 use Rattle.clap.specs.Walk.{Row, Rule, first_of, all_of, is_empty}
 use Rattle.clap.specs.Simple.{App, new_app, new_rule, with_rule, matches_of}
 use Rattle.clap.specs.Faults.{fault_of}
-use Rattle.command_words.specs.Jobs.{Text, Bounds, JobRead, Design, Check, Audit, Rewrite, Trial, Conflict, Spread, Total, Lsas, Route}
+use Rattle.command_words.specs.Jobs.{Text, Bounds, SearchRead, JobRead, Design, Check, Audit, Rewrite, Trial, Conflict, Spread, Total, Lsas, Route}
 
 -- ---- the simple command of a row
 
@@ -88,8 +88,13 @@ limits found = of_two (λ nodes bits. record { nodes = nodes; top = 2 ^ bits - 1
     (number_or 100000 1 10000000 (value (codes "nodes") found))
     (number_or 127 28 127 (value (codes "bits") found))
 
+-- a request, the limits and the configurations
+abbrev pub search_of : Found → Option SearchRead
+search_of found = of_three (λ request limits configs. record { request = request; limits = limits; configs = configs })
+    (value (codes "request") found) (limits found) (configs found)
+
 abbrev pub design_job : Found → Option JobRead
-design_job found = of_three Design (value (codes "request") found) (limits found) (configs found)
+design_job found = option_map (λ s. Design s.request s.limits s.configs) (search_of found)
 
 abbrev pub check_job : Found → Option JobRead
 check_job found = of_three Check (value (codes "request") found) (value (codes "answer") found) (configs found)
@@ -107,13 +112,13 @@ trial_job found = of_two Trial
     (number_or 1 0 2147483647 (value (codes "start") found))
 
 abbrev pub conflict_job : Found → Option JobRead
-conflict_job found = of_three Conflict (value (codes "request") found) (limits found) (configs found)
+conflict_job found = option_map (λ s. Conflict s.request s.limits s.configs) (search_of found)
 
 abbrev pub spread_job : Found → Option JobRead
 spread_job found = of_four Spread (value (codes "request") found) (value (codes "sets") found) (limits found) (configs found)
 
 abbrev pub total_job : Found → Option JobRead
-total_job found = of_three Total (value (codes "request") found) (limits found) (configs found)
+total_job found = option_map (λ s. Total s.request s.limits s.configs) (search_of found)
 
 abbrev pub lsas_job : Found → Option JobRead
 lsas_job found = of_two Lsas (value (codes "request") found) (configs found)

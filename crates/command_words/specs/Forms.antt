@@ -1,5 +1,5 @@
 -- Rows of the command table by what names them in the code.
-use Rattle.std.specs.Prelude.{◌≡◌, List, map, Option, Some, None, Result, MatchResult}
+use Rattle.std.specs.Prelude.{◌≡◌, List, map, Option, Some, None, Result, MatchResult, string_bytes}
 use Rattle.std.specs.Borrow.{Bor}
 use Rattle.clap.specs.Matches.{found_of}
 use Rattle.clap.specs.Walk.{rows_of}
@@ -10,7 +10,9 @@ use Rattle.command_words.specs.declared.table.CommandName.{CommandName}
 use Rattle.command_words.specs.declared.table.CommandName.TheVariants as name
 use Rattle.command_words.specs.declared.table.ConfigWords.{ConfigWords}
 use Rattle.command_words.specs.declared.table.ConfigWords.TheVariants as words
-use Rattle.command_words.specs.Jobs.{Text}
+use Rattle.command_words.specs.declared.reading.Search.{Search}
+use Rattle.command_words.specs.Words.{texts}
+use Rattle.command_words.specs.Jobs.{Text, SearchRead, bounds}
 use Rattle.command_words.specs.Commands.{Files, none, one, several, Form, Found, design_row, check_row, audit_row, rewrite_row, trial_row, conflict_row, spread_row, total_row, lsas_row, route_row}
 
 -- the row of a command
@@ -38,6 +40,10 @@ now_texts = map (λ t. t.now)
 -- what a parse found
 abbrev pub found : ArgMatches → Found
 found matches = rows_of (found_of matches)
+
+-- a search with the bytes of its texts
+abbrev pub search_seen : Search → SearchRead
+search_seen search = record { request = string_bytes search.request; limits = bounds search.limits; configs = texts search.configs.items }
 
 -- What a call may answer that reads a part of the words: the part, a refusal where there is none, or want of memory.
 abbrev pub Answers : {A T : Type 0} → Option A → (T → A) → Result T WordsStop → Type 0

@@ -13,6 +13,12 @@ pub record Bounds : Type 0 where
   pub nodes : ℕ
   pub top : ℕ
 
+-- what a search is asked
+pub record SearchRead : Type 0 where
+  pub request : Text
+  pub limits : Bounds
+  pub configs : List Text
+
 -- what the words ask for
 pub data JobRead : Type 0 where
   Design : (request : Text) → (limits : Bounds) → (configs : List Text) → JobRead

@@ -1,9 +1,9 @@
 //! The jobs of the commands, from the values that they find.
 ghost use Rattle.std.specs.Prelude.{◌≡◌, ◌≢◌, MatchResult, true, false};
 ghost use Rattle.clap.specs.Values.{kind_of};
-ghost use Rattle.command_words.specs.Commands.{takes_words, found_in, job_of_row, design_job, check_job, audit_job, rewrite_job};
+ghost use Rattle.command_words.specs.Commands.{takes_words, found_in, job_of_row, search_of, design_job, check_job, audit_job, rewrite_job};
 ghost use Rattle.command_words.specs.Commands.{trial_job, conflict_job, spread_job, total_job, lsas_job, route_job};
-ghost use Rattle.command_words.specs.Forms.{form_of, found, Answers};
+ghost use Rattle.command_words.specs.Forms.{form_of, found, search_seen, Answers};
 ghost use Rattle.command_words.specs.Jobs.{seen};
 ghost use Rattle.command_words.specs.Words.{texts};
 
@@ -13,6 +13,7 @@ use crate::{Job, WordsStop};
 use clap::error::ErrorKind;
 use clap::{ArgMatches, Error};
 use std::alloc::Global;
+use wide_fraction::Limits;
 
 /// The job of words whose first is this command's.
 pub(crate) fn read_row(alloc: Global, name: CommandName, words: &[String]) -> Result<Job, WordsStop>
@@ -72,16 +73,36 @@ fn job_of_values(
     }
 }
 
-fn design(alloc: Global, matches: &ArgMatches<'_>) -> Result<Job, WordsStop>
-    ensures { Answers (design_job (found matches.now)) seen result }
+/// What a search is asked.
+#[derive(Drop)]
+struct Search {
+    request: String,
+    limits: Limits,
+    configs: Vec<String>,
+}
+
+/// What the words ask of a search.
+fn searched(alloc: Global, matches: &ArgMatches<'_>) -> Result<Search, WordsStop>
+    ensures { Answers (search_of (found matches.now)) search_seen result }
 {
     let limits = limits(matches).ok_or(WordsStop::Refused)?;
     let request = text(alloc, matches, "request")?;
     let configs = configs(alloc, matches)?;
-    Ok(Job::Design {
+    Ok(Search {
         request,
         limits,
         configs,
+    })
+}
+
+fn design(alloc: Global, matches: &ArgMatches<'_>) -> Result<Job, WordsStop>
+    ensures { Answers (design_job (found matches.now)) seen result }
+{
+    let asked = searched(alloc, matches)?;
+    Ok(Job::Design {
+        request: asked.request,
+        limits: asked.limits,
+        configs: asked.configs,
     })
 }
 
@@ -128,13 +149,11 @@ fn trial(matches: &ArgMatches<'_>) -> Result<Job, WordsStop>
 fn conflict(alloc: Global, matches: &ArgMatches<'_>) -> Result<Job, WordsStop>
     ensures { Answers (conflict_job (found matches.now)) seen result }
 {
-    let limits = limits(matches).ok_or(WordsStop::Refused)?;
-    let request = text(alloc, matches, "request")?;
-    let configs = configs(alloc, matches)?;
+    let asked = searched(alloc, matches)?;
     Ok(Job::Conflict {
-        request,
-        limits,
-        configs,
+        request: asked.request,
+        limits: asked.limits,
+        configs: asked.configs,
     })
 }
 
@@ -156,13 +175,11 @@ fn spread(alloc: Global, matches: &ArgMatches<'_>) -> Result<Job, WordsStop>
 fn total(alloc: Global, matches: &ArgMatches<'_>) -> Result<Job, WordsStop>
     ensures { Answers (total_job (found matches.now)) seen result }
 {
-    let limits = limits(matches).ok_or(WordsStop::Refused)?;
-    let request = text(alloc, matches, "request")?;
-    let configs = configs(alloc, matches)?;
+    let asked = searched(alloc, matches)?;
     Ok(Job::Total {
-        request,
-        limits,
-        configs,
+        request: asked.request,
+        limits: asked.limits,
+        configs: asked.configs,
     })
 }
 

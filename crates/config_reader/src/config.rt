@@ -24,7 +24,11 @@ fn first_fault<'a>(
     name: NamedHead<'a>,
 ) -> Option<LineFault>
     requires { drafts.now.names ≡ map (λ d. d.interface.name) drafts.now.drafts.items }
-    ensures { option_map fault_of result ≡ drafting.earliest (drafting.earliest (drafting.earliest (option_map fault_of parts.now.fault) (drafting.first_second drafts.now.drafts.items (map said_of parts.now.said.items))) (drafting.first_clash networks.now None drafts.now.drafts.items)) (drafting.name_fault (head_of name.entry)) }
+    ensures { option_map fault_of result ≡ drafting.earliest
+        (drafting.earliest
+        (drafting.earliest (option_map fault_of parts.now.fault) (drafting.first_second drafts.now.drafts.items (map said_of parts.now.said.items)))
+        (drafting.first_clash networks.now None drafts.now.drafts.items))
+        (drafting.name_fault (head_of name.entry)) }
 {
     let second = earliest(parts.fault, second_address(drafts, &parts.said));
     let twice = earliest(second, area_twice(&drafts.drafts, networks));

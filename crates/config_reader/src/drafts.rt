@@ -118,8 +118,11 @@ fn change(draft: &mut Draft, said: &SaidLine<'_>, networks: &Networks)
 impl<'a> Drafts<'a> {
     /// Adds a draft of which nothing is said, where the name of the head is new.
     fn add(&mut self, alloc: Global, head: NamedHead<'a>) -> Result<(), OutOfMemory>
-        ensures drafts { OnOk result (self.new.drafts.items ≡ (if list_any (same_bytes head.entry.name.now) self.old.names then self.old.drafts.items else self.old.drafts.items ++ drafting.new_draft (head_of head.entry) ∷ [])) }
-        ensures names { OnOk result (self.new.names ≡ (if list_any (same_bytes head.entry.name.now) self.old.names then self.old.names else self.old.names ++ head.entry.name.now ∷ [])) }
+        ensures drafts { OnOk result (self.new.drafts.items ≡
+            (if list_any (same_bytes head.entry.name.now) self.old.names then self.old.drafts.items
+            else self.old.drafts.items ++ drafting.new_draft (head_of head.entry) ∷ [])) }
+        ensures names { OnOk result (self.new.names ≡
+            (if list_any (same_bytes head.entry.name.now) self.old.names then self.old.names else self.old.names ++ head.entry.name.now ∷ [])) }
     {
         if self.names.add(head.name)? {
             let name = Name::from_bytes(alloc, head.name)?;

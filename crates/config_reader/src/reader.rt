@@ -58,7 +58,13 @@ impl<'a> Model for Reader<'a> {
 
     ghost Value = { Heard };
 
-    ghost view = { λ r. record { said = map said_of r.said.items; heads = map head_of r.heads.items; hostname = option_map head_of r.hostname; fault = option_map fault_of r.fault; block = block_spoken r.block } };
+    ghost view = { λ r. record {
+      said = map said_of r.said.items;
+      heads = map head_of r.heads.items;
+      hostname = option_map head_of r.hostname;
+      fault = option_map fault_of r.fault;
+      block = block_spoken r.block;
+    } };
 }
 
 impl<'a> Reader<'a> {

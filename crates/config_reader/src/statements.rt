@@ -123,7 +123,9 @@ pub(crate) fn interface_statement(text: &[u8]) -> Statement<'_>
 
 /// What a line `ip address ..` says.
 fn address_statement(text: &[u8]) -> Statement<'_>
-    ensures { statement_of result ≡ (if same_bytes (word_at (words text.now) 3) (codes "peer") then definition.Refused ConfigFault.Unsupported else definition.address_statement (grammar.prefix (word_at (words text.now) 2))) }
+    ensures { statement_of result ≡
+        (if same_bytes (word_at (words text.now) 3) (codes "peer") then definition.Refused ConfigFault.Unsupported
+        else definition.address_statement (grammar.prefix (word_at (words text.now) 2))) }
 {
     if same(word(text, 3), b"peer") {
         return Statement::Refused(ConfigFault::Unsupported);
@@ -167,7 +169,10 @@ fn cost_statement(text: &[u8]) -> Statement<'_>
 
 /// What a line `ip ospf network ..` says.
 fn kind_statement(text: &[u8]) -> Statement<'_>
-    ensures { statement_of result ≡ (if same_bytes (word_at (words text.now) 3) (codes "point-to-point") then definition.KindIs Kind.PointToPoint else (if same_bytes (word_at (words text.now) 3) (codes "broadcast") then definition.KindIs Kind.Broadcast else definition.Refused ConfigFault.Unsupported)) }
+    ensures { statement_of result ≡
+        (if same_bytes (word_at (words text.now) 3) (codes "point-to-point") then definition.KindIs Kind.PointToPoint
+        else (if same_bytes (word_at (words text.now) 3) (codes "broadcast") then definition.KindIs Kind.Broadcast
+        else definition.Refused ConfigFault.Unsupported)) }
 {
     let kind = word(text, 3);
     if same(kind, b"point-to-point") {
@@ -266,7 +271,8 @@ fn router_id_statement(text: &[u8]) -> Statement<'_>
 
 /// What a line `network ..` says.
 fn network_statement(text: &[u8]) -> Statement<'_>
-    ensures { statement_of result ≡ definition.network_statement (grammar.prefix (word_at (words text.now) 1)) (same_bytes (word_at (words text.now) 2) (codes "area")) (grammar.area (word_at (words text.now) 3)) }
+    ensures { statement_of result ≡ definition.network_statement (grammar.prefix (word_at (words text.now) 1))
+        (same_bytes (word_at (words text.now) 2) (codes "area")) (grammar.area (word_at (words text.now) 3)) }
 {
     let Some((address, length)) = prefix(word(text, 1)) else {
         return Statement::Refused(ConfigFault::BadAddress);

@@ -11,7 +11,8 @@ use text_lines::cut;
 
 /// The refusal of a text where no lawful line stands first, of which it is known whether a lawful line begins with it.
 pub(crate) fn fault_at(text: TextLeft<'_>, begins: bool) -> AnswerStop
-    ensures { (place : Place) → place ≢ AfterEnd → LacksLawful place text.entry.left.now → (IsTrue begins ↔ Begins place text.entry.left.now) → Stops place text.entry result }
+    ensures { (place : Place) → place ≢ AfterEnd → LacksLawful place text.entry.left.now → (IsTrue begins ↔ Begins place text.entry.left.now) →
+        Stops place text.entry result }
 {
     AnswerStop::Refused {
         fault: fault_kind(text.left, begins),

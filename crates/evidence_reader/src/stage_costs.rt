@@ -44,7 +44,8 @@ pub(crate) fn read_costs(
     alloc: Global,
     text: TextLeft<'_>,
 ) -> Result<(CostsPart, TextLeft<'_>), AnswerStop>
-    ensures { MatchResult result (λ r. FitsCosts r.0.costs × Goes AtCosts text.entry (costs_lines r.0.costs ++ floor_line r.0.floor ∷ []) AtRows r.1) (Stops AtCosts text.entry) }
+    ensures { MatchResult result (λ r. FitsCosts r.0.costs × Goes AtCosts text.entry (costs_lines r.0.costs ++ floor_line r.0.floor ∷ []) AtRows r.1)
+        (Stops AtCosts text.entry) }
 {
     let (head, rest) = costs_head(text)?;
     match head {
@@ -65,7 +66,8 @@ fn costs_head(text: TextLeft<'_>) -> Result<(CostsHead, TextLeft<'_>), AnswerSto
 
 /// What the line that costs begin with says, where it is the next.
 fn costs_head_next(text: TextLeft<'_>) -> Option<(CostsHead, TextLeft<'_>)>
-    ensures { MatchOption result (LacksLawful AtCosts text.entry.left.now) (λ r. Goes AtCosts text.entry (costs_head_line r.0 ∷ []) (behind_costs_head r.0) r.1) }
+    ensures { MatchOption result (LacksLawful AtCosts text.entry.left.now)
+        (λ r. Goes AtCosts text.entry (costs_head_line r.0 ∷ []) (behind_costs_head r.0) r.1) }
 {
     let (line, rest) = text.line()?;
     let head = costs_head_of(line)?;
@@ -74,7 +76,8 @@ fn costs_head_next(text: TextLeft<'_>) -> Option<(CostsHead, TextLeft<'_>)>
 
 /// What a line that costs begin with says.
 fn costs_head_of(line: &[u8]) -> Option<CostsHead>
-    ensures { MatchOption result ((next : Place) → Next AtCosts line.now next → ⊥) (λ head. Next AtCosts line.now (behind_costs_head head) × (line.now ≡ costs_head_line head)) }
+    ensures { MatchOption result ((next : Place) → Next AtCosts line.now next → ⊥)
+        (λ head. Next AtCosts line.now (behind_costs_head head) × (line.now ≡ costs_head_line head)) }
 {
     if line == b"costs none".as_slice() {
         return Some(CostsHead::NoCosts);
@@ -99,7 +102,9 @@ fn some_costs(
     greatest: u16,
     text: TextLeft<'_>,
 ) -> Result<(CostsPart, TextLeft<'_>), AnswerStop>
-    ensures { MatchResult result (λ r. (lines : List CostLine) × (r.0.costs ≡ Some (record { greatest = greatest; lines = lines })) × All FitsCostLine lines × Goes (AtSections None) text.entry (cost_lines None lines ++ floor_line r.0.floor ∷ []) AtRows r.1) (Stops (AtSections None) text.entry) }
+    ensures { MatchResult result (λ r. (lines : List CostLine) × (r.0.costs ≡ Some (record { greatest = greatest; lines = lines })) ×
+        All FitsCostLine lines × Goes (AtSections None) text.entry (cost_lines None lines ++ floor_line r.0.floor ∷ []) AtRows r.1)
+        (Stops (AtSections None) text.entry) }
 {
     let (sections, rest) = read_sections(alloc, text)?;
     let costs = Costs {

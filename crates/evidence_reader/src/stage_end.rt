@@ -18,7 +18,9 @@ use evidence_text::TreePart;
 ///
 /// `Refused` where one of the last lines is at fault, or something stands behind them.
 pub(crate) fn read_end(text: TextLeft<'_>) -> Result<(), AnswerStop>
-    ensures { MatchResult result (λ _. (after : ℕ) × IsRead (AtTree TreePart.Unfinished zero zero) text.entry.read text.entry.left.now end_lines AfterEnd after []) (Stops (AtTree TreePart.Unfinished zero zero) text.entry) }
+    ensures { MatchResult result (λ _. (after : ℕ) ×
+        IsRead (AtTree TreePart.Unfinished zero zero) text.entry.read text.entry.left.now end_lines AfterEnd after [])
+        (Stops (AtTree TreePart.Unfinished zero zero) text.entry) }
 {
     let wide = wide_line(text)?;
     let end = end_line(wide)?;
@@ -27,7 +29,8 @@ pub(crate) fn read_end(text: TextLeft<'_>) -> Result<(), AnswerStop>
 
 /// The text behind the line of the wide part.
 fn wide_line(text: TextLeft<'_>) -> Result<TextLeft<'_>, AnswerStop>
-    ensures { MatchResult result (λ rest. Goes (AtTree TreePart.Unfinished zero zero) text.entry (codes "wide none" ∷ []) AtEnd rest) (Stops (AtTree TreePart.Unfinished zero zero) text.entry) }
+    ensures { MatchResult result (λ rest. Goes (AtTree TreePart.Unfinished zero zero) text.entry (codes "wide none" ∷ []) AtEnd rest)
+        (Stops (AtTree TreePart.Unfinished zero zero) text.entry) }
 {
     match text.behind(b"wide none") {
         Some(rest) => Ok(rest),

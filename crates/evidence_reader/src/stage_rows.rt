@@ -25,7 +25,8 @@ pub(crate) fn read_rows(
     alloc: Global,
     text: TextLeft<'_>,
 ) -> Result<(Vec<Row>, TextLeft<'_>), AnswerStop>
-    ensures { MatchResult result (λ r. Goes AtRows text.entry (rows_lines r.0.items) (AtRow zero) r.1 × All (λ row. row.rival.start ≡ 0) r.0.items) (Stops AtRows text.entry) }
+    ensures { MatchResult result (λ r. Goes AtRows text.entry (rows_lines r.0.items) (AtRow zero) r.1 × All (λ row. row.rival.start ≡ 0) r.0.items)
+        (Stops AtRows text.entry) }
 {
     let (count, rest) = rows_count(text)?;
     each_row(alloc, rest, count)
@@ -47,7 +48,8 @@ fn each_row(
     text: TextLeft<'_>,
     count: u64,
 ) -> Result<(Vec<Row>, TextLeft<'_>), AnswerStop>
-    ensures { MatchResult result (λ r. (length r.0.items ≡ count) × Goes (AtRow count) text.entry (map row_line r.0.items) (AtRow zero) r.1 × All (λ row. row.rival.start ≡ 0) r.0.items) (Stops (AtRow count) text.entry) }
+    ensures { MatchResult result (λ r. (length r.0.items ≡ count) × Goes (AtRow count) text.entry (map row_line r.0.items) (AtRow zero) r.1 ×
+        All (λ row. row.rival.start ≡ 0) r.0.items) (Stops (AtRow count) text.entry) }
 {
     let mut rows = Vec::new(alloc);
     let mut left = text;
@@ -61,7 +63,8 @@ fn each_row(
 
 /// The row whose line has to be the next.
 fn row_at(alloc: Global, text: TextLeft<'_>) -> Result<(Row, TextLeft<'_>), AnswerStop>
-    ensures { (left : ℕ) → MatchResult result (λ r. Goes (AtRow (suc left)) text.entry (row_line r.0 ∷ []) (AtRow left) r.1 × (r.0.rival.start ≡ 0)) (Stops (AtRow (suc left)) text.entry) }
+    ensures { (left : ℕ) → MatchResult result (λ r. Goes (AtRow (suc left)) text.entry (row_line r.0 ∷ []) (AtRow left) r.1 × (r.0.rival.start ≡ 0))
+        (Stops (AtRow (suc left)) text.entry) }
 {
     let found = row_next(alloc, text)?;
     match found {
@@ -72,7 +75,8 @@ fn row_at(alloc: Global, text: TextLeft<'_>) -> Result<(Row, TextLeft<'_>), Answ
 
 /// The row whose line is the next, if there is one.
 fn row_next(alloc: Global, text: TextLeft<'_>) -> Result<Option<(Row, TextLeft<'_>)>, OutOfMemory>
-    ensures { IfOk result (λ found. (left : ℕ) → MatchOption found (LacksLawful (AtRow (suc left)) text.entry.left.now) (λ r. Goes (AtRow (suc left)) text.entry (row_line r.0 ∷ []) (AtRow left) r.1 × (r.0.rival.start ≡ 0))) }
+    ensures { IfOk result (λ found. (left : ℕ) → MatchOption found (LacksLawful (AtRow (suc left)) text.entry.left.now)
+        (λ r. Goes (AtRow (suc left)) text.entry (row_line r.0 ∷ []) (AtRow left) r.1 × (r.0.rival.start ≡ 0))) }
 {
     let Some((line, rest)) = text.line() else {
         return Ok(None);

@@ -64,7 +64,8 @@ pub(crate) fn read_sections(
     alloc: Global,
     text: TextLeft<'_>,
 ) -> Result<(Sections, TextLeft<'_>), AnswerStop>
-    ensures { MatchResult result (λ r. All FitsCostLine r.0.lines.items × Goes (AtSections None) text.entry (cost_lines None r.0.lines.items ++ floor_line r.0.floor ∷ []) AtRows r.1) (Stops (AtSections None) text.entry) }
+    ensures { MatchResult result (λ r. All FitsCostLine r.0.lines.items ×
+        Goes (AtSections None) text.entry (cost_lines None r.0.lines.items ++ floor_line r.0.floor ∷ []) AtRows r.1) (Stops (AtSections None) text.entry) }
 {
     let mut lines = Vec::new(alloc);
     let mut before = None;
@@ -101,7 +102,9 @@ fn next_section<'a>(
     before: Option<&'a [u8]>,
 ) -> Result<(Section<'a>, TextLeft<'a>), AnswerStop>
     requires { IfSome (option_copied before) IsOneWord }
-    ensures { MatchResult result (λ r. FitsSection r.0 × Goes (AtSections (option_copied before.entry)) text.entry (section_lines (option_copied before.entry) r.0) (behind_section r.0) r.1) (Stops (AtSections (option_copied before.entry)) text.entry) }
+    ensures { MatchResult result (λ r. FitsSection r.0 ×
+        Goes (AtSections (option_copied before.entry)) text.entry (section_lines (option_copied before.entry) r.0) (behind_section r.0) r.1)
+        (Stops (AtSections (option_copied before.entry)) text.entry) }
 {
     let (line, rest) = section_line_at(text, before)?;
     match line {
@@ -122,7 +125,9 @@ fn section_line_at<'a>(
     text: TextLeft<'a>,
     before: Option<&'a [u8]>,
 ) -> Result<(SectionLine<'a>, TextLeft<'a>), AnswerStop>
-    ensures { MatchResult result (λ r. (line : List ℕ) × IsSectionLine (option_copied before.entry) line r.0 × Goes (AtSections (option_copied before.entry)) text.entry (line ∷ []) (behind_section_line r.0) r.1) (Stops (AtSections (option_copied before.entry)) text.entry) }
+    ensures { MatchResult result (λ r. (line : List ℕ) × IsSectionLine (option_copied before.entry) line r.0 ×
+        Goes (AtSections (option_copied before.entry)) text.entry (line ∷ []) (behind_section_line r.0) r.1)
+        (Stops (AtSections (option_copied before.entry)) text.entry) }
 {
     match section_line_next(text, before) {
         Some(found) => Ok(found),
@@ -135,7 +140,9 @@ fn section_line_next<'a>(
     text: TextLeft<'a>,
     before: Option<&'a [u8]>,
 ) -> Option<(SectionLine<'a>, TextLeft<'a>)>
-    ensures { MatchOption result (LacksLawful (AtSections (option_copied before.entry)) text.entry.left.now) (λ r. (line : List ℕ) × IsSectionLine (option_copied before.entry) line r.0 × Goes (AtSections (option_copied before.entry)) text.entry (line ∷ []) (behind_section_line r.0) r.1) }
+    ensures { MatchOption result (LacksLawful (AtSections (option_copied before.entry)) text.entry.left.now)
+        (λ r. (line : List ℕ) × IsSectionLine (option_copied before.entry) line r.0 ×
+        Goes (AtSections (option_copied before.entry)) text.entry (line ∷ []) (behind_section_line r.0) r.1) }
 {
     let (line, rest) = text.line()?;
     let said = section_line_of(line, before)?;
@@ -144,7 +151,8 @@ fn section_line_next<'a>(
 
 /// What a line among the sections says behind the cost line of this router.
 fn section_line_of<'a>(line: &'a [u8], before: Option<&'a [u8]>) -> Option<SectionLine<'a>>
-    ensures { MatchOption result ((next : Place) → Next (AtSections (option_copied before.entry)) line.now next → ⊥) (IsSectionLine (option_copied before.entry) line.now) }
+    ensures { MatchOption result ((next : Place) → Next (AtSections (option_copied before.entry)) line.now next → ⊥)
+        (IsSectionLine (option_copied before.entry) line.now) }
 {
     if let Some(floor) = floor_of(line) {
         return Some(SectionLine::Floor(floor));
@@ -159,7 +167,8 @@ fn section_line_of<'a>(line: &'a [u8], before: Option<&'a [u8]>) -> Option<Secti
 
 /// The router of a line, where it isn't the one before.
 fn router_of<'a>(line: &'a [u8], before: Option<&'a [u8]>) -> Option<&'a [u8]>
-    ensures { MatchOption result ((next : Place) → IsRouterNext (option_copied before.entry) line.now next → ⊥) (λ name. IsOneWord name.now × (option_copied before.entry ≢ Some name.now) × (line.now ≡ router_line name.now)) }
+    ensures { MatchOption result ((next : Place) → IsRouterNext (option_copied before.entry) line.now next → ⊥)
+        (λ name. IsOneWord name.now × (option_copied before.entry ≢ Some name.now) × (line.now ≡ router_line name.now)) }
 {
     let router = name_after(line, b"router ")?;
     if is_same(before, router) {
@@ -185,7 +194,8 @@ fn cost_of_router<'a>(
     text: TextLeft<'a>,
 ) -> Result<(CostWords<'a>, TextLeft<'a>), AnswerStop>
     requires { IsOneWord router.now }
-    ensures { MatchResult result (λ r. (r.0.router.now ≡ router.now) × FitsWords r.0 × Goes (AtInterface router.now) text.entry (words_lines r.0) (AtSections (Some router.now)) r.1) (Stops (AtInterface router.now) text.entry) }
+    ensures { MatchResult result (λ r. (r.0.router.now ≡ router.now) × FitsWords r.0 ×
+        Goes (AtInterface router.now) text.entry (words_lines r.0) (AtSections (Some router.now)) r.1) (Stops (AtInterface router.now) text.entry) }
 {
     let (interface, rest) = interface_at(text)?;
     cost_of_interface(router, interface, rest)
@@ -199,7 +209,9 @@ fn cost_of_interface<'a>(
 ) -> Result<(CostWords<'a>, TextLeft<'a>), AnswerStop>
     requires router { IsOneWord router.now }
     requires interface { IsOneWord interface.now }
-    ensures { MatchResult result (λ r. (r.0.router.now ≡ router.now) × (r.0.interface.now ≡ interface.now) × FitsWords r.0 × Goes (AtCost router.now) text.entry (cost_line r.0.cost ∷ codes "exit" ∷ []) (AtSections (Some router.now)) r.1) (Stops (AtCost router.now) text.entry) }
+    ensures { MatchResult result (λ r. (r.0.router.now ≡ router.now) × (r.0.interface.now ≡ interface.now) × FitsWords r.0 ×
+        Goes (AtCost router.now) text.entry (cost_line r.0.cost ∷ codes "exit" ∷ []) (AtSections (Some router.now)) r.1)
+        (Stops (AtCost router.now) text.entry) }
 {
     let (cost, rest) = cost_at(text)?;
     let rest = exit_at(rest)?;
@@ -213,7 +225,9 @@ fn cost_of_interface<'a>(
 
 /// The interface whose line has to be the next, and the text behind it.
 fn interface_at(text: TextLeft<'_>) -> Result<(&[u8], TextLeft<'_>), AnswerStop>
-    ensures { (router : List ℕ) → MatchResult result (λ r. IsOneWord r.0.now × Goes (AtInterface router) text.entry (interface_line r.0.now ∷ []) (AtCost router) r.1) (Stops (AtInterface router) text.entry) }
+    ensures { (router : List ℕ) → MatchResult result
+        (λ r. IsOneWord r.0.now × Goes (AtInterface router) text.entry (interface_line r.0.now ∷ []) (AtCost router) r.1)
+        (Stops (AtInterface router) text.entry) }
 {
     match interface_next(text) {
         Some(found) => Ok(found),
@@ -223,7 +237,8 @@ fn interface_at(text: TextLeft<'_>) -> Result<(&[u8], TextLeft<'_>), AnswerStop>
 
 /// The interface whose line is the next, and the text behind it.
 fn interface_next(text: TextLeft<'_>) -> Option<(&[u8], TextLeft<'_>)>
-    ensures { (router : List ℕ) → MatchOption result (LacksLawful (AtInterface router) text.entry.left.now) (λ r. IsOneWord r.0.now × Goes (AtInterface router) text.entry (interface_line r.0.now ∷ []) (AtCost router) r.1) }
+    ensures { (router : List ℕ) → MatchOption result (LacksLawful (AtInterface router) text.entry.left.now)
+        (λ r. IsOneWord r.0.now × Goes (AtInterface router) text.entry (interface_line r.0.now ∷ []) (AtCost router) r.1) }
 {
     let (line, rest) = text.line()?;
     let interface = name_after(line, b"interface ")?;
@@ -232,7 +247,8 @@ fn interface_next(text: TextLeft<'_>) -> Option<(&[u8], TextLeft<'_>)>
 
 /// The cost whose line has to be the next, and the text behind it.
 fn cost_at(text: TextLeft<'_>) -> Result<(u16, TextLeft<'_>), AnswerStop>
-    ensures { (router : List ℕ) → MatchResult result (λ r. (0 < r.0) × Goes (AtCost router) text.entry (cost_line r.0 ∷ []) (AtExit router) r.1) (Stops (AtCost router) text.entry) }
+    ensures { (router : List ℕ) → MatchResult result (λ r. (0 < r.0) × Goes (AtCost router) text.entry (cost_line r.0 ∷ []) (AtExit router) r.1)
+        (Stops (AtCost router) text.entry) }
 {
     match cost_next(text) {
         Some(found) => Ok(found),
@@ -242,7 +258,8 @@ fn cost_at(text: TextLeft<'_>) -> Result<(u16, TextLeft<'_>), AnswerStop>
 
 /// The cost whose line is the next, and the text behind it.
 fn cost_next(text: TextLeft<'_>) -> Option<(u16, TextLeft<'_>)>
-    ensures { (router : List ℕ) → MatchOption result (LacksLawful (AtCost router) text.entry.left.now) (λ r. (0 < r.0) × Goes (AtCost router) text.entry (cost_line r.0 ∷ []) (AtExit router) r.1) }
+    ensures { (router : List ℕ) → MatchOption result (LacksLawful (AtCost router) text.entry.left.now)
+        (λ r. (0 < r.0) × Goes (AtCost router) text.entry (cost_line r.0 ∷ []) (AtExit router) r.1) }
 {
     let (line, rest) = text.line()?;
     let cost = cost_of(line)?;
@@ -259,7 +276,8 @@ fn cost_of(line: &[u8]) -> Option<u16>
 
 /// The text behind the line that closes an interface.
 fn exit_at(text: TextLeft<'_>) -> Result<TextLeft<'_>, AnswerStop>
-    ensures { (router : List ℕ) → MatchResult result (λ rest. Goes (AtExit router) text.entry (codes "exit" ∷ []) (AtSections (Some router)) rest) (Stops (AtExit router) text.entry) }
+    ensures { (router : List ℕ) → MatchResult result (λ rest. Goes (AtExit router) text.entry (codes "exit" ∷ []) (AtSections (Some router)) rest)
+        (Stops (AtExit router) text.entry) }
 {
     match text.behind(b"exit") {
         Some(rest) => Ok(rest),

@@ -187,23 +187,6 @@ rises_from low high (e ∷ es) (suc m) past rises m_in =
     let later = rises_from (suc e.0) high es m past rises.3 (omega arith) in
     omega (arith, rises.0)
 
--- a column that isn't before the column at a place stands from there on, and another one before it
-pub drop_has : (low high : ℕ) (es : List (ℕ × Fraction)) (m past column : ℕ) → Rises low high es → m < length es → head_column (drop m es) past ≤ column → fraction_at es column ≡ fraction_at (drop m es) column
-drop_has low high [] m past column rises m_in before = absurd (omega arith)
-drop_has low high (e ∷ es) zero past column rises m_in before = refl
-drop_has low high (e ∷ es) (suc m) past column rises m_in before =
-    fraction_there e es column (apart (rises_from (suc e.0) high es m past rises.3 (omega arith)))
-    ∙ drop_has (suc e.0) high es m past column rises.3 (omega arith) before
-  where
-    apart : suc e.0 ≤ head_column (drop m es) past → e.0 ≢ column
-    apart h = omega arith
-
-pub take_has : (low high : ℕ) (es : List (ℕ × Fraction)) (m past column : ℕ) → Rises low high es → m < length es → column < head_column (drop m es) past → fraction_at es column ≡ fraction_at (take m es) column
-take_has low high [] m past column rises m_in before = absurd (omega arith)
-take_has low high (e ∷ es) zero past column rises m_in before = at_below e.0 high (e ∷ es) column (omega arith, rises.1, rises.2, rises.3) before
-take_has low high (e ∷ es) (suc m) past column rises m_in before =
-    ap (λ f. cond (e.0 == column) e.1 f) (take_has (suc e.0) high es m past column rises.3 (omega arith) before)
-
 pub drop_rises : (low high m : ℕ) (es : List (ℕ × Fraction)) → Rises low high es → Rises low high (drop m es)
 drop_rises low high zero es rises = rises
 drop_rises low high (suc m) [] rises = tt

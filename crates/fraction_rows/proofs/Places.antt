@@ -1,12 +1,12 @@
 -- The place of a column in a list that rises: each half that is left out lacks it.
 use Rattle.std.proofs.Common.{◌≡◌, ◌≢◌, ℕ, zero, suc, ◌+◌, ◌<◌, ◌≤◌, refl, sym, ◌∙◌, ap, subst, List, [], ◌∷◌, ◌++◌, length, map, take, drop, cond, arith}
-use Rattle.std.specs.Prelude.{slice_set, slice_index_or}
+use Rattle.std.specs.Prelude.{◌==◌, slice_set, slice_index_or}
 use Rattle.std.proofs.lemmas.List.{append_assoc, append-nil, length-append, take-append-drop}
 use Rattle.std.proofs.lemmas.List.Elements.{All-append, All-cons, All-head, All-nil, All-tail}
 use Rattle.whole_numbers.specs.Fractions.{Fraction}
-use Rattle.fraction_rows.specs.TableRows.{Rises}
-use Rattle.fraction_rows.specs.Entries.{IsPlaceOf, IsWithout, head_column, replaced}
-use Rattle.fraction_rows.proofs.Columns.{other_test}
+use Rattle.fraction_rows.specs.TableRows.{Rises, fraction_at, nothing}
+use Rattle.fraction_rows.specs.Entries.{IsHalfOf, IsPlaceOf, IsWithout, head_column, replaced}
+use Rattle.fraction_rows.proofs.Columns.{fraction_there, other_test, rises_from}
 
 abbrev Entries : Type 0
 Entries = List (ℕ × Fraction)
@@ -33,26 +33,10 @@ pub before_without : (low high column m past : ℕ) (es : Entries) → Rises low
 before_without low high column m past [] rises m_in reached = absurd (omega arith)
 before_without low high column zero past (e ∷ es) rises m_in reached = All-nil (IsApart column)
 before_without low high column (suc m) past (e ∷ es) rises m_in reached =
-    let from = rises_to (suc e.0) high m past es rises.3 (omega (arith, m_in)) in
+    let from = rises_from (suc e.0) high es m past rises.3 (omega (arith, m_in)) in
     All-cons (IsApart column) e (take m es) (omega (arith, from, reached)) (before_without (suc e.0) high column m past es rises.3 (omega (arith, m_in)) reached)
-  where
-    rises_to : (low high m past : ℕ) (es : Entries) → Rises low high es → m < length es → low ≤ head_column (drop m es) past
-    rises_to low high m past [] rises m_in = absurd (omega arith)
-    rises_to low high zero past (d ∷ es) rises m_in = rises.0
-    rises_to low high (suc m) past (d ∷ es) rises m_in =
-        let rest = rises_to (suc d.0) high m past es rises.3 (omega (arith, m_in)) in
-        omega (arith, rises.0, rest)
 
--- what is left, and what stands around it
-pub record HalfOf (es : Entries) (column place : ℕ) (left : Entries) : Type 0 where
-  pub before : Entries
-  pub after : Entries
-  pub whole : es ≡ before ++ (left ++ after)
-  pub place_is : place ≡ length before
-  pub early : IsWithout column before
-  pub late : IsWithout column after
-
-pub half_begins : (es : Entries) (column : ℕ) → HalfOf es column 0 es
+pub half_begins : (es : Entries) (column : ℕ) → IsHalfOf es column 0 es
 half_begins es column =
     record {
       before = [];
@@ -64,7 +48,7 @@ half_begins es column =
     }
 
 -- the first half is kept
-pub first_half : (es : Entries) (column place : ℕ) (left : Entries) (m : ℕ) → HalfOf es column place left → IsWithout column (drop m left) → HalfOf es column place (take m left)
+pub first_half : (es : Entries) (column place : ℕ) (left : Entries) (m : ℕ) → IsHalfOf es column place left → IsWithout column (drop m left) → IsHalfOf es column place (take m left)
 first_half es column place left m h without =
     record {
       before = h.before;
@@ -79,7 +63,7 @@ first_half es column place left m h without =
     }
 
 -- the second half is
-pub second_half : (es : Entries) (column place : ℕ) (left : Entries) (m : ℕ) → HalfOf es column place left → m < length left → IsWithout column (take m left) → HalfOf es column (place + m) (drop m left)
+pub second_half : (es : Entries) (column place : ℕ) (left : Entries) (m : ℕ) → IsHalfOf es column place left → m < length left → IsWithout column (take m left) → IsHalfOf es column (place + m) (drop m left)
 second_half es column place left m h m_in without =
     record {
       before = h.before ++ take m left;
@@ -102,9 +86,30 @@ second_half es column place left m h m_in without =
     counted : length h.before + m ≡ length (h.before ++ take m left)
     counted = omega (arith, length-append h.before (take m left), taken m left m_in)
 
-pub half_ends : (es : Entries) (column place : ℕ) (left : Entries) → HalfOf es column place left → length left ≤ 1 → IsPlaceOf es column place
+pub half_ends : (es : Entries) (column place : ℕ) (left : Entries) → IsHalfOf es column place left → length left ≤ 1 → IsPlaceOf es column place
 half_ends es column place left h few =
     record { before = h.before; left = left; after = h.after; whole = h.whole; place_is = h.place_is; few = few; early = h.early; late = h.late }
+
+-- a list that lacks the column has no fraction there
+none_at : (column : ℕ) (es : Entries) → IsWithout column es → fraction_at es column ≡ nothing
+none_at column [] without = refl
+none_at column (e ∷ es) without =
+    fraction_there e es column (All-head (IsApart column) e es without) ∙ none_at column es (All-tail (IsApart column) e es without)
+
+-- what is left has the column's fraction
+pub half_has : (es : Entries) (column place : ℕ) (left : Entries) → IsHalfOf es column place left → fraction_at es column ≡ fraction_at left column
+half_has es column place left h =
+    ap (λ (l : Entries). fraction_at l column) h.whole ∙ behind h.before h.early ∙ ahead left
+  where
+    behind : (before : Entries) → IsWithout column before → fraction_at (before ++ (left ++ h.after)) column ≡ fraction_at (left ++ h.after) column
+    behind [] without = refl
+    behind (e ∷ before) without =
+        fraction_there e (before ++ (left ++ h.after)) column (All-head (IsApart column) e before without)
+        ∙ behind before (All-tail (IsApart column) e before without)
+
+    ahead : (l : Entries) → fraction_at (l ++ h.after) column ≡ fraction_at l column
+    ahead [] = none_at column h.after h.late
+    ahead (e ∷ l) = ap (λ f. cond (e.0 == column) e.1 f) (ahead l)
 
 apart_stays : (column : ℕ) (value : Fraction) (e : ℕ × Fraction) → e.0 ≢ column → replaced column value e ≡ e
 apart_stays column value e apart = ap (λ b. cond b (e.0, value) e) (other_test e.0 column apart)

@@ -68,6 +68,15 @@ replaced column value e = if e.0 == column then (e.0, value) else e
 abbrev pub IsWithout : ℕ → List (ℕ × Fraction) → Type 0
 IsWithout column es = All (λ e. e.0 ≢ column) es
 
+-- what is left of the list, and what stands around it without the column, so much before it
+pub record IsHalfOf (es : List (ℕ × Fraction)) (column place : ℕ) (left : List (ℕ × Fraction)) : Type 0 where
+  pub before : List (ℕ × Fraction)
+  pub after : List (ℕ × Fraction)
+  pub whole : es ≡ before ++ (left ++ after)
+  pub place_is : place ≡ length before
+  pub early : IsWithout column before
+  pub late : IsWithout column after
+
 -- the list has the column nowhere but at the place
 pub record IsPlaceOf (es : List (ℕ × Fraction)) (column place : ℕ) : Type 0 where
   pub before : List (ℕ × Fraction)

@@ -1,9 +1,10 @@
 //! Lists of columns that rise, each with its fraction.
-ghost use Rattle.std.specs.Prelude.{◌≡◌, ◌≢◌, ℕ, ◌<◌, ◌≤◌, [], map, min, nat_abs, pos, ◌-ℤ◌, ◌*ℤ◌, vec_len, IfOk, IfErr, IfSome, OnOk};
+ghost use Rattle.std.specs.Prelude.{◌≡◌, ◌≢◌, ℕ, ◌<◌, ◌≤◌, [], length, map, min, nat_abs, pos, ◌-ℤ◌, ◌*ℤ◌, vec_len, IfOk, IfErr, IfSome, OnOk};
 ghost use Rattle.std.specs.Vec.{vec_capacity};
 ghost use Rattle.whole_numbers.specs.Fractions.{minus, times, whole};
 ghost use Rattle.fraction_rows.specs.TableRows.{IsNumber, Rises, fraction_at, nothing};
-ghost use Rattle.fraction_rows.specs.Entries.{AllNumbers, AreRising, IsMade, IsPassing, IsPlaceOf, IsPut, IsQuotientStep, IsTermStep, after_column, crossed_at, divided_at, head_column, head_fraction, replaced};
+ghost use Rattle.fraction_rows.specs.Entries.{AllNumbers, AreRising, IsHalfOf, IsMade, IsPassing, IsPlaceOf, IsPut, IsQuotientStep, IsTermStep, after_column};
+ghost use Rattle.fraction_rows.specs.Entries.{crossed_at, divided_at, head_column, head_fraction, replaced};
 
 use wide_fraction::{Frac, Top, Wide, div, mul, sub};
 
@@ -173,7 +174,8 @@ pub fn cross_entries(
     ensures rises { Rises 0 width made.new.items }
     ensures numbers { AllNumbers top made.new.items }
     ensures room { width ≤ vec_capacity made.new }
-    ensures step { IfErr result (λ wide. (column : ℕ) × (column < width) × IsTermStep (fraction_at olds.now column) factor (fraction_at quotients.now column) wide) }
+    ensures step { IfErr result (λ wide. (column : ℕ) × (column < width) ×
+        IsTermStep (fraction_at olds.now column) factor (fraction_at quotients.now column) wide) }
     ensures passes { IfErr result (λ wide. IsPassing top wide) }
 {
     let mut olds_left = olds;
@@ -254,37 +256,12 @@ pub fn divide_entries(
     }
 }
 
-/// The fraction of a column, found by halving.
-#[inline(never)]
-pub fn find_fraction(entries: &[(u32, Frac)], column: u32) -> Frac
+/// What is left of the list around a column, found by halving: at most one pair, and before it how many stand in front.
+#[inline]
+fn halved(entries: &[(u32, Frac)], column: u32) -> (usize, &[(u32, Frac)])
     requires { AreRising entries.now }
-    ensures { result ≡ fraction_at entries.now column }
-{
-    let mut left = entries;
-    'halves: while 1 < left.len() {
-        let middle = left.len() / 2;
-        let (first, second) = left.split_at(middle);
-        if column < next_column(second, column) {
-            left = first;
-        } else {
-            left = second;
-        }
-    }
-    take_at(left, column).0
-}
-
-/// The pair with another fraction, where it is that of the column.
-fn replaced(entry: (u32, Frac), column: u32, value: Frac) -> (u32, Frac)
-    ensures { result ≡ replaced column value entry }
-{
-    let (at, old) = entry;
-    if at == column { (at, value) } else { (at, old) }
-}
-
-/// The place before which and behind which the list doesn't have the column, found by halving.
-fn place_of(entries: &[(u32, Frac)], column: u32) -> usize
-    requires { AreRising entries.now }
-    ensures { IsPlaceOf entries.now column result }
+    ensures half { IsHalfOf entries.now column result.0 result.1.now }
+    ensures few { length result.1.now ≤ 1 }
 {
     let mut place = 0;
     let mut left = entries;
@@ -298,6 +275,33 @@ fn place_of(entries: &[(u32, Frac)], column: u32) -> usize
             place += middle;
         }
     }
+    (place, left)
+}
+
+/// The fraction of a column.
+#[inline(never)]
+pub fn find_fraction(entries: &[(u32, Frac)], column: u32) -> Frac
+    requires { AreRising entries.now }
+    ensures { result ≡ fraction_at entries.now column }
+{
+    let (_, left) = halved(entries, column);
+    take_at(left, column).0
+}
+
+/// The pair with another fraction, where it is that of the column.
+fn replaced(entry: (u32, Frac), column: u32, value: Frac) -> (u32, Frac)
+    ensures { result ≡ replaced column value entry }
+{
+    let (at, old) = entry;
+    if at == column { (at, value) } else { (at, old) }
+}
+
+/// The place before which and behind which the list doesn't have the column.
+fn place_of(entries: &[(u32, Frac)], column: u32) -> usize
+    requires { AreRising entries.now }
+    ensures { IsPlaceOf entries.now column result }
+{
+    let (place, _) = halved(entries, column);
     place
 }
 

@@ -31,7 +31,9 @@ fn has_bit(bits: u128, number: u32) -> bool
 }
 
 /// No marks.
-pub fn no_marks() -> Marks {
+pub fn no_marks() -> Marks
+    ensures { (column : ℕ) → IsMarked result column → ⊥ }
+{
     Marks { near: 0, far: 0 }
 }
 

@@ -3,7 +3,8 @@ ghost use Rattle.std.specs.Prelude.{◌≡◌, ◌≢◌, ℕ, suc, true, ◌<�
 ghost use Rattle.cost_base.specs.Lists.{numbers_from};
 ghost use Rattle.whole_numbers.specs.Fractions.{IsLowest};
 ghost use Rattle.path_rows.specs.Basis.{entry};
-ghost use Rattle.fraction_rows.specs.TableRows.{AreNumbers, IsCrossStep, IsDivideStep, IsNumber, IsWideStep, Rises, crossed_by, divided_without, filled, nothing};
+ghost use Rattle.fraction_rows.specs.TableRows.{AreNumbers, IsCrossStep, IsDivideStep, IsNumber, IsWideStep, Rises, crossed_by, divided_without, filled};
+ghost use Rattle.fraction_rows.specs.TableRows.{nothing};
 
 use crate::entries::{
     cross_entries, crossed, divide_entries, find_fraction, put_entry, replace_fraction,

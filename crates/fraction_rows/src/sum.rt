@@ -117,7 +117,8 @@ pub fn sum_lines(
     requires many { length form.now.coefficients ≤ length lines.now }
     requires scratch { length scratch.old ≡ length row.old }
     requires numbers { AreNumbers top row.old }
-    ensures sums { OnOk result ((place : ℕ) → place < length row.old → entry row.new place ≡ sum_from (entry row.old place) form.now.coefficients lines.now place) }
+    ensures sums { OnOk result ((place : ℕ) → place < length row.old →
+        entry row.new place ≡ sum_from (entry row.old place) form.now.coefficients lines.now place) }
     ensures numbers { OnOk result (AreNumbers top row.new) }
     ensures width { length row.new ≡ length row.old }
     ensures scratch_width { length scratch.new ≡ length scratch.old }

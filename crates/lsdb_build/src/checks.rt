@@ -4,8 +4,10 @@ ghost use Rattle.cost_base.specs.Lists.{same_bytes};
 ghost use Rattle.lsdb_build.specs.Neighbours.{Port, shares_subnet};
 ghost use Rattle.lsdb_build.specs.SubnetChecks.{fails, fault_of};
 ghost use Rattle.lsdb_build.specs.Tallies.{IsTally, same_subnet, same_trait, subnet_of, member_of, kind_on, rank_on};
-ghost use Rattle.lsdb_build.specs.Topology.{is_second_of_router, is_second_of_address, is_mismatch, is_crowding, lacks_designated, first_where, at_port, at_config, past, second_of_name, Tells};
-ghost use Rattle.lsdb_build.specs.declared.stop.TopologyFault.TheVariants.{TooMany, NameTwice, SameRouterTwice, AddressTwice, TypeMismatch, CrowdedLink, NoDesignated};
+ghost use Rattle.lsdb_build.specs.Topology.{is_second_of_router, is_second_of_address, is_mismatch, is_crowding, lacks_designated, first_where, at_port};
+ghost use Rattle.lsdb_build.specs.Topology.{at_config, past, second_of_name, Tells};
+ghost use Rattle.lsdb_build.specs.declared.stop.TopologyFault.TheVariants.{TooMany, NameTwice, SameRouterTwice, AddressTwice, TypeMismatch, CrowdedLink};
+ghost use Rattle.lsdb_build.specs.declared.stop.TopologyFault.TheVariants.{NoDesignated};
 
 use crate::port::{Port, Subnet, is_broadcast, subnet_of};
 use crate::tally::Tally;

@@ -49,7 +49,8 @@ pub fn linked_ports<'a>(alloc: Global, ports: &[Port<'a>]) -> Result<Vec<Port<'a
 
 /// Whether a port is a transit subnet's first member, from how many linked ports before it stand on each subnet.
 fn is_first_member(seen: &Tally<Subnet>, port: &Port) -> bool
-    ensures { (before : List Port) → IsTally same_subnet seen.now.counts (map subnet_of before) → result ≡ (is_broadcast port.now && not (list_any (shares_subnet port.now) before)) }
+    ensures { (before : List Port) → IsTally same_subnet seen.now.counts (map subnet_of before) →
+        result ≡ (is_broadcast port.now && not (list_any (shares_subnet port.now) before)) }
 {
     let members = members_on(seen, port);
     is_broadcast(port) && members == 0
@@ -199,7 +200,8 @@ pub fn subnets_of(
     places: &Places,
     transit: &[Port],
 ) -> Result<Vec<Listed<u32>>, OutOfMemory>
-    ensures { IfOk result (λ made. (links : List Port) → ArePlaces places.now.by_subnet links → made.items ≡ map (λ first. places_from 0 (shares_subnet first) links) transit.now) }
+    ensures { IfOk result (λ made. (links : List Port) → ArePlaces places.now.by_subnet links →
+        made.items ≡ map (λ first. places_from 0 (shares_subnet first) links) transit.now) }
 {
     let mut made = Vec::new(alloc);
     for first in transit {

@@ -25,7 +25,8 @@ fn holds(outer: &Port, inner: &Port) -> bool
 
 /// Whether two ports of different routers are on different subnets of which one contains the other.
 fn overlaps(port: &Port, other: &Port) -> bool
-    ensures { result ≡ (not (port.now.router == other.now.router) && not (shares_subnet port.now other.now) && (holds port.now other.now || holds other.now port.now)) }
+    ensures { result ≡ (not (port.now.router == other.now.router) && not (shares_subnet port.now other.now) &&
+        (holds port.now other.now || holds other.now port.now)) }
 {
     port.router != other.router
         && !shares_subnet(port, other)
@@ -52,7 +53,8 @@ fn prefix_of(port: &Port, length: u8) -> Subnet
 
 /// Whether a port's address lies in a shorter one of the subnets seen, which another router has.
 fn is_inside(seen: &Owners, port: &Port) -> bool
-    ensures { result ≡ false → (l : ℕ) → l < port.now.interface.length → has_other (get same_subnet seen.now.by_prefix (prefix_of port.now l)) port.now.router ≡ false }
+    ensures { result ≡ false → (l : ℕ) → l < port.now.interface.length →
+        has_other (get same_subnet seen.now.by_prefix (prefix_of port.now l)) port.now.router ≡ false }
 {
     for length in 0..port.interface.length {
         if seen.has_other(port.router, prefix_of(port, length)) {
@@ -76,7 +78,8 @@ fn note_prefixes(enclosing: &mut Owners, port: &Port) -> Result<(), OutOfMemory>
 /// Whether an earlier port of another router may have an overlapping subnet: one of the subnets seen contains the
 /// port's, or one of the prefixes that enclose them is the port's subnet. Where neither holds, none overlaps.
 fn may_overlap(seen: &Owners, enclosing: &Owners, port: &Port) -> bool
-    ensures { (before : List Port) → All (HasSubnet seen.now.by_prefix) before → All (HasPrefixes enclosing.now.by_prefix) before → is_overlap before port.now ≡ true → result ≡ true }
+    ensures { (before : List Port) → All (HasSubnet seen.now.by_prefix) before → All (HasPrefixes enclosing.now.by_prefix) before →
+        is_overlap before port.now ≡ true → result ≡ true }
 {
     is_inside(seen, port) || enclosing.has_other(port.router, subnet_of(port))
 }

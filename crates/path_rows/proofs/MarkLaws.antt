@@ -89,7 +89,7 @@ marked_low n entries var value row count old new begun lows highs marked counted
       high_count = ap length highs ∙ marked.high_count;
       low_small = subst (λ (ms : List ℕ). All (λ mark. mark ≤ length (entries ++ e ∷ [])) ms) (sym lows) (small_set old.low.items var count (length (entries ++ e ∷ [])) (omega arith) (small_more old.low.items entries e marked.low_small));
       high_small = subst (λ (ms : List ℕ). All (λ mark. mark ≤ length (entries ++ e ∷ [])) ms) (sym highs) (small_more old.high.items entries e marked.high_small);
-      begun = let b = marked.begun in omega arith;
+      begun = let b = marked.begun in omega (arith, begun, long, ap length run);
       low_marks =
           subst (λ (rs : List (ℕ × Side)). AreMarks Low new.begun rs new.low.items) (sym run)
           (subst (λ (ms : List ℕ). AreMarks Low new.begun ((var, Low) ∷ run_of entries) ms) (sym lows)
@@ -112,7 +112,7 @@ marked_high n entries var value row count old new begun lows highs marked counte
       high_count = ap length highs ∙ length-set old.high.items var count ∙ marked.high_count;
       low_small = subst (λ (ms : List ℕ). All (λ mark. mark ≤ length (entries ++ e ∷ [])) ms) (sym lows) (small_more old.low.items entries e marked.low_small);
       high_small = subst (λ (ms : List ℕ). All (λ mark. mark ≤ length (entries ++ e ∷ [])) ms) (sym highs) (small_set old.high.items var count (length (entries ++ e ∷ [])) (omega arith) (small_more old.high.items entries e marked.high_small));
-      begun = let b = marked.begun in omega arith;
+      begun = let b = marked.begun in omega (arith, begun, long, ap length run);
       low_marks =
           subst (λ (rs : List (ℕ × Side)). AreMarks Low new.begun rs new.low.items) (sym run)
           (subst (λ (ms : List ℕ). AreMarks Low new.begun ((var, High) ∷ run_of entries) ms) (sym lows)

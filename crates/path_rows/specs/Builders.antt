@@ -1,5 +1,5 @@
 -- What a tree that is built keeps: one box and a stack of changed ends for the open places, and marks for what was tightened.
-use Rattle.std.specs.Prelude.{◌≡◌, ℕ, ◌<◌, ◌≤◌, ◌↔◌, Bool, true, false, List, [], ◌∷◌, map, length, reverse, slice_index, All, Contains}
+use Rattle.std.specs.Prelude.{◌≡◌, ℕ, ◌+◌, ◌<◌, ◌≤◌, ◌↔◌, Bool, true, false, List, [], ◌∷◌, map, length, reverse, slice_index, All, Contains}
 use Rattle.path_rows.specs.declared.tree.Side.{Side}
 use Rattle.path_rows.specs.declared.tree.Side.TheVariants.{Low as LowSide, High as HighSide}
 use Rattle.path_rows.specs.declared.tree.Entry.{Entry}
@@ -42,7 +42,7 @@ pub record IsMarked (n : ℕ) (entries : List Entry) (marks : Marks) : Type 0 wh
   pub high_count : length marks.high.items ≡ n
   pub low_small : All (λ mark. mark ≤ length entries) marks.low.items
   pub high_small : All (λ mark. mark ≤ length entries) marks.high.items
-  pub begun : marks.begun ≤ length entries
+  pub begun : marks.begun + length (run_of entries) ≡ length entries
   pub low_marks : AreMarks LowSide marks.begun (run_of entries) marks.low.items
   pub high_marks : AreMarks HighSide marks.begun (run_of entries) marks.high.items
 

@@ -127,7 +127,11 @@ impl OpenBoxes {
     pub fn cut(&mut self, var: u32, value: u16) -> Result<(), OutOfMemory>
         requires known { var < length self.old.present.low }
         requires value { value < slice_index self.old.present.high var }
-        ensures done { OnOk result (self.new ≡ record { present = with_high self.old.present var value; behind = with_low self.old.present var (value + 1) ∷ self.old.behind }) }
+        ensures done { OnOk result (self.new ≡ record {
+          present = with_high self.old.present var value;
+          behind = with_low self.old.present var (value + 1) ∷
+              self.old.behind;
+        }) }
         ensures same { OnErr result (self.new ≡ self.old) }
     {
         let place = var as usize;

@@ -82,7 +82,9 @@ impl TreeBuilder {
     }
 
     /// Whether nothing was tightened since the last entry that isn't a Tighten.
-    pub fn is_fresh(&self) -> bool {
+    pub fn is_fresh(&self) -> bool
+        ensures { 0 < length self.now.places → IsTrue result ↔ ((first_place self.now.places).since ≡ []) }
+    {
         self.marks.begun == self.entries.len()
     }
 

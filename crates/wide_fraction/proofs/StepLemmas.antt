@@ -1,5 +1,5 @@
 -- What the numbers of a step give: the exact fraction within the top, or a number that passes it.
-use Rattle.std.proofs.Common.{◌≡◌, ℕ, suc, ◌^◌, ◌<◌, ◌≤◌, ◌*◌, ◌/◌, refl, sym, ◌∙◌, ap, subst, inl, inr, arith, [], ◌∷◌}
+use Rattle.std.proofs.Common.{◌≡◌, ℕ, suc, ◌^◌, ◌<◌, ◌≤◌, ◌*◌, ◌/◌, refl, sym, ◌∙◌, ap, subst, inl, inr, arith, List, [], ◌∷◌}
 use Rattle.std.specs.Prelude.{ℤ, pos, negsuc, neg_ℤ, nat_abs, ◌+ℤ◌, ◌*ℤ◌, Any, All, Some}
 use Rattle.std.proofs.lemmas.List.Elements.{All-cons, All-nil}
 use Rattle.std.proofs.lemmas.Int.{ints, unsigned_abs-mul}
@@ -217,6 +217,11 @@ whole_product_passes top a c wide = product_numerator_passes top (whole a) (whol
 pub whole_product_answer : (top : ℕ) (a c z : ℤ) → IsWithin top (whole a) → z ≡ (a *ℤ c) → nat_abs (a *ℤ c) ≤ top → IsAnswer top (listed_of_product (whole a) (whole c)) (times (whole a) (whole c)) (Some (whole z))
 whole_product_answer top a c z a_within z_is within =
     product_answer top (whole a) (whole c) 1 1 a c 1 1 z 1 (whole_lowest a) (whole_lowest c) (record { crosses = whole_crosses a c; left = refl; right = refl }) within z_is refl a_within.denominator
+
+-- the whole number that a short way made is the answer of its step
+pub whole_answer : (most top : ℕ) (made : List ℕ) (exact q : Fraction) (n : ℤ) → most ≡ top → q ≡ whole n → IsAnswer most made exact (Some (whole n)) → IsAnswer top made exact (Some q)
+whole_answer most top made exact q n top_is q_is answer =
+    subst (λ (r : Fraction). IsAnswer top made exact (Some r)) (sym q_is) (subst (λ (t : ℕ). IsAnswer t made exact (Some (whole n))) top_is answer)
 
 -- a fraction over 1 is whole
 pub whole_seen : (q : Fraction) → q.denominator ≡ 1 → whole q.numerator ≡ q

@@ -34,14 +34,11 @@ pub fn add(left: Frac, right: Frac, top: Top) -> Result<Frac, Wide>
     ensures passes { OnErr result (Passes top StepName.Add left right) }
     ensures named { IfErr result (λ wide. wide ≡ record { step = StepName.Add; left = left; right = right }) }
 {
-    match sum(left, right, top) {
-        Some(answer) => Ok(answer),
-        None => Err(Wide {
-            step: StepName::Add,
-            left,
-            right,
-        }),
-    }
+    sum(left, right, top).ok_or(Wide {
+        step: StepName::Add,
+        left,
+        right,
+    })
 }
 
 /// The difference in lowest terms. `Wide` comes exactly where the sum of `left` and the negated `right` makes a whole
@@ -55,14 +52,11 @@ pub fn sub(left: Frac, right: Frac, top: Top) -> Result<Frac, Wide>
     ensures passes { OnErr result (Passes top StepName.Sub left right) }
     ensures named { IfErr result (λ wide. wide ≡ record { step = StepName.Sub; left = left; right = right }) }
 {
-    match sum(left, right.negated(), top) {
-        Some(answer) => Ok(answer),
-        None => Err(Wide {
-            step: StepName::Sub,
-            left,
-            right,
-        }),
-    }
+    sum(left, right.negated(), top).ok_or(Wide {
+        step: StepName::Sub,
+        left,
+        right,
+    })
 }
 
 /// The product in lowest terms. `Wide` comes exactly where its numerator or its denominator passes `top` in size.
@@ -75,14 +69,11 @@ pub fn mul(left: Frac, right: Frac, top: Top) -> Result<Frac, Wide>
     ensures passes { OnErr result (Passes top StepName.Mul left right) }
     ensures named { IfErr result (λ wide. wide ≡ record { step = StepName.Mul; left = left; right = right }) }
 {
-    match product(left, right, top) {
-        Some(answer) => Ok(answer),
-        None => Err(Wide {
-            step: StepName::Mul,
-            left,
-            right,
-        }),
-    }
+    product(left, right, top).ok_or(Wide {
+        step: StepName::Mul,
+        left,
+        right,
+    })
 }
 
 /// The quotient in lowest terms. `Wide` comes exactly where its numerator or its denominator passes `top` in size, and
@@ -97,14 +88,11 @@ pub fn div(left: Frac, right: Frac, top: Top) -> Result<Frac, Wide>
     ensures passes { OnErr result (Passes top StepName.Div left right) }
     ensures named { IfErr result (λ wide. wide ≡ record { step = StepName.Div; left = left; right = right }) }
 {
-    match product(left, right.inverted(), top) {
-        Some(answer) => Ok(answer),
-        None => Err(Wide {
-            step: StepName::Div,
-            left,
-            right,
-        }),
-    }
+    product(left, right.inverted(), top).ok_or(Wide {
+        step: StepName::Div,
+        left,
+        right,
+    })
 }
 
 /// The sum, or nothing where a whole number on its way passes `top`. Two whole numbers take the short way.

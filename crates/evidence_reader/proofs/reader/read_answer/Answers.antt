@@ -1,12 +1,15 @@
-use Rattle.std.proofs.Common.{◌≡◌, List, All, sym, subst}
+use Rattle.std.proofs.Common.{◌≡◌, List, [], All, sym, subst}
 use Rattle.std.proofs.lemmas.Result.{err_from_is_err_and}
 use Rattle.path_rows.specs.declared.form.Row.{Row}
 use Rattle.path_rows.specs.Answers.{AnswerParts}
-use Rattle.answer_lines.specs.Grammar.{AtRows, AtRow}
+use Rattle.answer_lines.specs.Grammar.{AtHead, AtRows, AtRow, AfterEnd}
+use Rattle.answer_lines.specs.Lawful.{IsRead}
 use Rattle.answer_lines.specs.Going.{Goes}
 use Rattle.evidence_text.specs.Parts.{rows_lines}
+use Rattle.evidence_text.proofs.AnswerOrder.{ordered}
 use Rattle.evidence_reader.proofs.Going.{stop-then}
 use Rattle.evidence_reader.proofs.WholeText.{stop_at_start, parts_read, text_read, answer_kept}
+use Rattle.evidence_reader.proofs.reader.read_answer.Goals.{After-from_items}
 use Rattle.evidence_reader.proofs.reader.read_answer.Goals as goal
 
 pub returns-in_err-verdict-clause-stopped : goal.returns-in_err-verdict-clause-stopped
@@ -51,9 +54,9 @@ returns-in_err-read_end-clause-stopped c =
     (stop_at_start c.new-text.result.read c.new-text.result.left.now c.args.bytes.now _ c.new-text.ensures.read c.new-text.ensures.left
     (stop-then _ c.in_ok-verdict.ensures (stop-then _ c.in_ok-priced.ensures.1 (stop-then _ c.in_ok-rows.ensures.0 (stop-then _ c.in_ok-proof.ensures.1 (stop-then _ c.in_ok-unfinished.ensures.1 c.in_err-read_end.ensures))))))
 
-pub returns-clause-read : goal.returns-clause-read
-returns-clause-read c =
-    let answer : AnswerParts =
+-- the answer that the parts make
+abbrev answer_of : After-from_items → AnswerParts
+answer_of c =
     record {
       verdict = c.in_ok-verdict.verdict;
       costs = c.in_ok-priced.priced.costs;
@@ -61,29 +64,24 @@ returns-clause-read c =
       rows = c.from_items.result;
       proof = c.in_ok-proof.proof;
       unfinished = c.in_ok-unfinished.unfinished;
-    } in
+    }
+
+-- its lines were read
+all_read : (c : After-from_items) → IsRead AtHead c.new-text.result.read c.new-text.result.left.now (ordered (answer_of c)) AfterEnd c.in_ok-read_end.ensures.0 []
+all_read c =
     let rows =
     subst (λ (l : List Row). Goes AtRows c.in_ok-priced.behind_costs (rows_lines l) (AtRow 0) c.in_ok-rows.behind_rows) (sym c.from_items.ensures) c.in_ok-rows.ensures.0 in
-    let read =
-    parts_read answer c.in_ok-verdict.ensures c.in_ok-priced.ensures.1 rows c.in_ok-proof.ensures.1 c.in_ok-unfinished.ensures.1 c.in_ok-read_end.ensures.1 in
-    text_read answer c.new-text.result.read c.new-text.result.left.now c.args.bytes.now c.new-text.ensures.left read
+    parts_read (answer_of c) c.in_ok-verdict.ensures c.in_ok-priced.ensures.1 rows c.in_ok-proof.ensures.1 c.in_ok-unfinished.ensures.1 c.in_ok-read_end.ensures.1
+
+pub returns-clause-read : goal.returns-clause-read
+returns-clause-read c =
+    let done = (goal.at.returns-clause-read c).After-from_items in
+    text_read (answer_of done) c.new-text.result.read c.new-text.result.left.now c.args.bytes.now c.new-text.ensures.left (all_read done)
 
 pub returns-clause-starts : goal.returns-clause-starts
 returns-clause-starts c = subst (λ (l : List Row). All (λ row. row.rival.start ≡ 0) l) (sym c.from_items.ensures) c.in_ok-rows.ensures.1
 
 pub invariant_of-result : goal.invariant_of-result
 invariant_of-result c =
-    let answer : AnswerParts =
-    record {
-      verdict = c.in_ok-verdict.verdict;
-      costs = c.in_ok-priced.priced.costs;
-      floor = c.in_ok-priced.priced.floor;
-      rows = c.from_items.result;
-      proof = c.in_ok-proof.proof;
-      unfinished = c.in_ok-unfinished.unfinished;
-    } in
-    let rows =
-    subst (λ (l : List Row). Goes AtRows c.in_ok-priced.behind_costs (rows_lines l) (AtRow 0) c.in_ok-rows.behind_rows) (sym c.from_items.ensures) c.in_ok-rows.ensures.0 in
-    let read =
-    parts_read answer c.in_ok-verdict.ensures c.in_ok-priced.ensures.1 rows c.in_ok-proof.ensures.1 c.in_ok-unfinished.ensures.1 c.in_ok-read_end.ensures.1 in
-    answer_kept answer c.in_ok-priced.ensures.0 c.in_ok-proof.ensures.0 c.in_ok-unfinished.ensures.0 read
+    let done = (goal.at.invariant_of-result c).After-from_items in
+    answer_kept (answer_of done) c.in_ok-priced.ensures.0 c.in_ok-proof.ensures.0 c.in_ok-unfinished.ensures.0 (all_read done)

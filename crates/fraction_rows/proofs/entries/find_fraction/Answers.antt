@@ -1,38 +1,10 @@
--- Each half that is kept has the column's fraction.
-use Rattle.std.proofs.Common.{ℕ, ◌<◌, ◌≤◌, ◌/◌, ◌∙◌, List, length, subst, drop, arith}
-use Rattle.whole_numbers.specs.Fractions.{Fraction}
-use Rattle.fraction_rows.specs.Entries.{head_column}
-use Rattle.fraction_rows.proofs.Columns.{drop_has, take_has, drop_rises, take_rises}
+-- What is left has the column's fraction, at its head.
+use Rattle.std.proofs.Common.{◌∙◌, sym}
+use Rattle.fraction_rows.proofs.Columns.{single_at}
+use Rattle.fraction_rows.proofs.Places.{half_has}
 use Rattle.fraction_rows.proofs.entries.find_fraction.Goals as goal
 
-pub halves-preserved-then-column-next_column : goal.halves-preserved-then-column-next_column
-halves-preserved-then-column-next_column c =
-    let left = c.halves.left.now in
-    let column = c.args.column in
-    let m = length left / 2 in
-    let m_in : m < length left = omega arith in
-    let rising = c.halves.invariant.rising in
-    let ahead : column < head_column (drop m left) column =
-    subst (λ (es : List (ℕ × Fraction)). column < head_column es column) c.split_at.ensures.back
-    (subst (λ (n : ℕ). column < n) c.next_column.ensures c.if-column-next_column.true) in
-    rw c.split_at.ensures.front
-    (record {
-      same = c.halves.invariant.same ∙ take_has 0 rising.0 left m column column rising.1 m_in ahead;
-      rising = (rising.0, take_rises 0 rising.0 m left rising.1);
-    })
-
-pub halves-preserved : goal.halves-preserved
-halves-preserved c =
-    let left = c.halves.left.now in
-    let column = c.args.column in
-    let m = length left / 2 in
-    let m_in : m < length left = omega arith in
-    let rising = c.halves.invariant.rising in
-    let reached : head_column (drop m left) column ≤ column =
-    subst (λ (es : List (ℕ × Fraction)). head_column es column ≤ column) c.split_at.ensures.back
-    (subst (λ (n : ℕ). n ≤ column) c.next_column.ensures c.if-column-next_column.false) in
-    rw c.split_at.ensures.back
-    (record {
-      same = c.halves.invariant.same ∙ drop_has 0 rising.0 left m column column rising.1 m_in reached;
-      rising = (rising.0, drop_rises 0 rising.0 m left rising.1);
-    })
+pub returns : goal.returns
+returns c =
+    c.take_at.ensures.fraction
+    ∙ sym (half_has c.args.entries.now c.args.column c.halved.result.0 c.halved.result.1.now c.halved.ensures.half ∙ single_at c.halved.result.1.now c.args.column c.halved.ensures.few)

@@ -1,8 +1,19 @@
-use Rattle.std.proofs.Common.{◌≤◌, subst}
-use Rattle.std.specs.Prelude.{All}
-use Rattle.whole_numbers.specs.Fractions.{Fraction, listed_of_sum}
+use Rattle.std.proofs.Common.{subst, rules}
+use Rattle.whole_numbers.specs.Fractions.{Fraction, negated, plus, listed_of_sum}
+use Rattle.wide_fraction.specs.Widths.{IsAnswer}
+use Rattle.wide_fraction.proofs.steps.sub.Goals.{After-sum}
 use Rattle.wide_fraction.proofs.steps.sub.Goals as goal
 
-pub returns-in-Some-clause-fits : goal.returns-in-Some-clause-fits
-returns-in-Some-clause-fits c =
-    subst (λ (q : Fraction). All (λ n. n ≤ c.args.top) (listed_of_sum c.args.left q)) c.negated.ensures c.in-Some.ensures.2
+-- the answer tells of the negated fraction
+told : (c : After-sum) → IsAnswer c.args.top (listed_of_sum c.args.left (negated c.args.right)) (plus c.args.left (negated c.args.right)) c.sum.result
+told c = subst (λ (q : Fraction). IsAnswer c.args.top (listed_of_sum c.args.left q) (plus c.args.left q) c.sum.result) c.negated.ensures c.sum.ensures
+
+pub returns-clause-fits : goal.returns-clause-fits
+returns-clause-fits c =
+    let answer = told (goal.at.returns-clause-fits c).After-sum in
+    search rules
+
+pub returns-clause-passes : goal.returns-clause-passes
+returns-clause-passes c =
+    let answer = told (goal.at.returns-clause-passes c).After-sum in
+    search rules

@@ -1,10 +1,10 @@
-use Rattle.std.proofs.Common.{◌≡◌, ◌<◌, ℕ, sym, ◌∙◌, ap, subst, SFits, rules}
-use Rattle.std.specs.Prelude.{ℤ, Any, Some}
+use Rattle.std.proofs.Common.{◌<◌, ℕ, sym, ◌∙◌, ap, subst, SFits, rules}
+use Rattle.std.specs.Prelude.{ℤ, Any}
 use Rattle.std.proofs.lemmas.Int.{to_z-of_z}
 use mir.Syntax.{w128}
-use Rattle.whole_numbers.specs.Fractions.{Fraction, whole, times, listed_of_product}
-use Rattle.wide_fraction.specs.Widths.{IsWithin, IsAnswer}
-use Rattle.wide_fraction.proofs.StepLemmas.{whole_product_passes, whole_product_answer}
+use Rattle.whole_numbers.specs.Fractions.{whole, listed_of_product}
+use Rattle.wide_fraction.specs.Widths.{IsWithin}
+use Rattle.wide_fraction.proofs.StepLemmas.{whole_answer, whole_product_passes, whole_product_answer}
 use Rattle.wide_fraction.proofs.steps.whole_product.Goals as goal
 
 pub returns-in-None : goal.returns-in-None
@@ -21,8 +21,6 @@ returns-in-Some c =
     let right_fits : SFits w128 c.args.right = c.ranges.right in
     let product_fits : SFits w128 c.in-Some.product = search rules in
     let answer = simp to_z-of_z at c.in-Some.ensures in
-    let made : c.whole_wide.result ≡ whole c.in-Some.product = c.whole_wide.ensures ∙ ap (λ (z : ℤ). whole z) (to_z-of_z w128 c.in-Some.product product_fits) in
     let left_within : IsWithin c.size.result (whole c.args.left) = subst (λ (t : ℕ). IsWithin t (whole c.args.left)) (sym c.size.ensures.value) c.requires in
-    subst (λ (q : Fraction). IsAnswer c.args.top (listed_of_product (whole c.args.left) (whole c.args.right)) (times (whole c.args.left) (whole c.args.right)) (Some q)) (sym made)
-    (subst (λ (t : ℕ). IsAnswer t (listed_of_product (whole c.args.left) (whole c.args.right)) (times (whole c.args.left) (whole c.args.right)) (Some (whole c.in-Some.product))) c.size.ensures.value
-    (whole_product_answer c.size.result c.args.left c.args.right c.in-Some.product left_within answer.0 answer.1))
+    whole_answer c.size.result c.args.top (listed_of_product (whole c.args.left) (whole c.args.right)) _ c.whole_wide.result c.in-Some.product c.size.ensures.value (c.whole_wide.ensures ∙ ap (λ (z : ℤ). whole z) (to_z-of_z w128 c.in-Some.product product_fits))
+    (whole_product_answer c.size.result c.args.left c.args.right c.in-Some.product left_within answer.0 answer.1)

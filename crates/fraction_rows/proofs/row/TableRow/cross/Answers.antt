@@ -7,7 +7,22 @@ use Rattle.fraction_rows.specs.TableRows.{AreNumbers, Rises, crossed_by, filled}
 use Rattle.fraction_rows.specs.Marks.{AllMarked}
 use Rattle.fraction_rows.specs.Entries.{IsMade, crossed_at}
 use Rattle.fraction_rows.proofs.Filled.{row_crossed_as, row_numbers, entry_numbers, term_step, crossed_wide, width_is, same_width, on_ok, always_ok}
+use Rattle.fraction_rows.proofs.row.TableRow.cross.Goals.{After-quotients}
 use Rattle.fraction_rows.proofs.row.TableRow.cross.Goals as goal
+
+-- the new row is as wide as the old one
+into_width : (c : After-quotients) → c.into.inside.width ≡ c.self.inside.width
+into_width c =
+    let s = c.self.inside in
+    let i = c.into.inside in
+    same_width i.constant s.constant i.width s.width i.entries.items s.entries.items c.args.into.now c.args.self.now c.into.view_is c.self.view_is c.requires.into
+
+-- and so are the quotients
+quotients_width : (c : After-quotients) → c.quotients.inside.width ≡ c.self.inside.width
+quotients_width c =
+    let s = c.self.inside in
+    let q = c.quotients.inside in
+    same_width q.constant s.constant q.width s.width q.entries.items s.entries.items c.args.quotients.now c.args.self.now c.quotients.view_is c.self.view_is c.requires.quotients
 
 pub returns-in_err-into-inside-clause-wide : goal.returns-in_err-into-inside-clause-wide
 returns-in_err-into-inside-clause-wide c =
@@ -23,9 +38,8 @@ returns-in_err-into-inside-clause-wide c =
 
 pub cross_entries-made-requires-clause-quotients : goal.cross_entries-made-requires-clause-quotients
 cross_entries-made-requires-clause-quotients c =
-    let s = c.self.inside in
     let q = c.quotients.inside in
-    let width = same_width q.constant s.constant q.width s.width q.entries.items s.entries.items c.args.quotients.now c.args.self.now c.quotients.view_is c.self.view_is c.requires.quotients in
+    let width = quotients_width (goal.at.cross_entries-made-requires-clause-quotients c).After-quotients in
     rw c.as_slice-2.ensures.value (subst (λ (w : ℕ). Rises 0 w q.entries.items) width c.quotients.invariant.rises)
 
 pub cross_entries-made-requires-clause-old_numbers : goal.cross_entries-made-requires-clause-old_numbers
@@ -41,16 +55,12 @@ cross_entries-made-requires-clause-quotient_numbers c =
 
 pub cross_entries-made-requires-clause-room : goal.cross_entries-made-requires-clause-room
 cross_entries-made-requires-clause-room c =
-    let s = c.self.inside in
-    let i = c.into.inside in
-    let width = same_width i.constant s.constant i.width s.width i.entries.items s.entries.items c.args.into.now c.args.self.now c.into.view_is c.self.view_is c.requires.into in
+    let width = into_width (goal.at.cross_entries-made-requires-clause-room c).After-quotients in
     omega (arith, c.clear.ensures.capacity, c.into.invariant.room)
 
 pub invariant_of-into-2 : goal.invariant_of-into-2
 invariant_of-into-2 c =
-    let s = c.self.inside in
-    let i = c.into.inside in
-    let width = same_width i.constant s.constant i.width s.width i.entries.items s.entries.items c.args.into.now c.args.self.now c.into.view_is c.self.view_is c.requires.into in
+    let width = into_width (goal.at.invariant_of-into-2 c).After-quotients in
     record {
       rises = subst (λ (w : ℕ). Rises 0 w c.cross_entries-made.new.made.items) (sym width) c.cross_entries-made.ensures.rises;
       room = omega (arith, c.cross_entries-made.ensures.room);
@@ -62,13 +72,13 @@ returns-clause-crossed c =
     let s = c.self.inside in
     let q = c.quotients.inside in
     let i = c.into.inside in
-    let into_width = same_width i.constant s.constant i.width s.width i.entries.items s.entries.items c.args.into.now c.args.self.now c.into.view_is c.self.view_is c.requires.into in
-    let width = same_width q.constant s.constant q.width s.width q.entries.items s.entries.items c.args.quotients.now c.args.self.now c.quotients.view_is c.self.view_is c.requires.quotients in
+    let same = into_width (goal.at.returns-clause-crossed c).After-quotients in
+    let width = quotients_width (goal.at.returns-clause-crossed c).After-quotients in
     on_ok c.cross_entries-made.result
     (IsMade s.width (crossed_at c.args.factor) c.as_slice.result.now c.as_slice-2.result.now c.cross_entries-made.new.made.items)
     (c.in_ok-into-inside.field-0 ∷ filled i.width c.cross_entries-made.new.made.items ≡ crossed_by c.args.factor c.args.self.now c.args.quotients.now)
     (row_crossed_as c.in_ok-into-inside.field-0 c.args.factor s.constant q.constant s.width i.width q.width s.entries.items q.entries.items c.cross_entries-made.new.made.items c.as_slice.result.now c.as_slice-2.result.now c.args.self.now c.args.quotients.now
-    c.in_ok-into-inside.ensures.exact into_width width c.as_slice.ensures.value c.as_slice-2.ensures.value c.self.view_is c.quotients.view_is)
+    c.in_ok-into-inside.ensures.exact same width c.as_slice.ensures.value c.as_slice-2.ensures.value c.self.view_is c.quotients.view_is)
     c.cross_entries-made.ensures.made
 
 pub returns-clause-numbers : goal.returns-clause-numbers
@@ -81,6 +91,6 @@ pub returns-clause-wide : goal.returns-clause-wide
 returns-clause-wide c =
     let s = c.self.inside in
     let q = c.quotients.inside in
-    let width = same_width q.constant s.constant q.width s.width q.entries.items s.entries.items c.args.quotients.now c.args.self.now c.quotients.view_is c.self.view_is c.requires.quotients in
+    let width = quotients_width (goal.at.returns-clause-wide c).After-quotients in
     crossed_wide c.cross_entries-made.result c.args.top c.args.factor s.constant q.constant s.width q.width s.entries.items q.entries.items c.as_slice.result.now c.as_slice-2.result.now c.args.self.now c.args.quotients.now
     width c.as_slice.ensures.value c.as_slice-2.ensures.value c.self.view_is c.quotients.view_is c.cross_entries-made.ensures.step c.cross_entries-made.ensures.passes

@@ -10,7 +10,15 @@ use Rattle.fraction_rows.specs.Entries.{IsMade, divided_at}
 use Rattle.fraction_rows.proofs.Numbers.{divided_number}
 use Rattle.fraction_rows.proofs.Passing.{named_passes}
 use Rattle.fraction_rows.proofs.Filled.{row_divided_as, row_numbers, entry_numbers, quotient_step, divided_wide, width_is, same_width, on_ok, always_ok}
+use Rattle.fraction_rows.proofs.row.TableRow.divide.Goals.{After-self}
 use Rattle.fraction_rows.proofs.row.TableRow.divide.Goals as goal
+
+-- the new row is as wide as the old one
+into_width : (c : After-self) → c.into.inside.width ≡ c.self.inside.width
+into_width c =
+    let s = c.self.inside in
+    let i = c.into.inside in
+    same_width i.constant s.constant i.width s.width i.entries.items s.entries.items c.args.into.now c.args.self.now c.into.view_is c.self.view_is c.requires.into
 
 pub returns-in_err-into-inside-clause-wide : goal.returns-in_err-into-inside-clause-wide
 returns-in_err-into-inside-clause-wide c =
@@ -30,16 +38,12 @@ divide_entries-made-requires-clause-old_numbers c =
 
 pub divide_entries-made-requires-clause-room : goal.divide_entries-made-requires-clause-room
 divide_entries-made-requires-clause-room c =
-    let s = c.self.inside in
-    let i = c.into.inside in
-    let width = same_width i.constant s.constant i.width s.width i.entries.items s.entries.items c.args.into.now c.args.self.now c.into.view_is c.self.view_is c.requires.into in
+    let width = into_width (goal.at.divide_entries-made-requires-clause-room c).After-self in
     omega (arith, c.clear.ensures.capacity, c.into.invariant.room)
 
 pub invariant_of-into-2 : goal.invariant_of-into-2
 invariant_of-into-2 c =
-    let s = c.self.inside in
-    let i = c.into.inside in
-    let width = same_width i.constant s.constant i.width s.width i.entries.items s.entries.items c.args.into.now c.args.self.now c.into.view_is c.self.view_is c.requires.into in
+    let width = into_width (goal.at.invariant_of-into-2 c).After-self in
     record {
       rises = subst (λ (w : ℕ). Rises 0 w c.divide_entries-made.new.made.items) (sym width) c.divide_entries-made.ensures.rises;
       room = omega (arith, c.divide_entries-made.ensures.room);
@@ -50,12 +54,12 @@ pub returns-clause-divided : goal.returns-clause-divided
 returns-clause-divided c =
     let s = c.self.inside in
     let i = c.into.inside in
-    let into_width = same_width i.constant s.constant i.width s.width i.entries.items s.entries.items c.args.into.now c.args.self.now c.into.view_is c.self.view_is c.requires.into in
+    let same = into_width (goal.at.returns-clause-divided c).After-self in
     on_ok c.divide_entries-made.result
     (IsMade s.width (divided_at c.args.left_out c.args.divisor) c.as_slice.result.now [] c.divide_entries-made.new.made.items)
     (c.in_ok-into-inside.field-0 ∷ filled i.width c.divide_entries-made.new.made.items ≡ divided_without (suc c.args.left_out) c.args.divisor c.args.self.now 0)
     (row_divided_as c.args.left_out c.in_ok-into-inside.field-0 c.args.divisor s.constant s.width i.width s.entries.items c.divide_entries-made.new.made.items c.as_slice.result.now c.args.self.now
-    c.in_ok-into-inside.ensures.exact into_width c.as_slice.ensures.value c.self.view_is)
+    c.in_ok-into-inside.ensures.exact same c.as_slice.ensures.value c.self.view_is)
     c.divide_entries-made.ensures.made
 
 pub returns-clause-numbers : goal.returns-clause-numbers
