@@ -2,7 +2,8 @@
 //!
 //! Each function reads the numbers of its argument, so that contracts know the range of their types. None writes anything.
 ghost use Rattle.std.specs.Prelude.{ℕ, List, All, Some, length};
-ghost use Rattle.path_rows.specs.Bounds.{BoundsCosts, BoundsEntry, BoundsFloor, BoundsMember, BoundsParts, BoundsRow, BoundsTree, BoundsVerdict, IsCost, IsRowNumber, IsThing};
+ghost use Rattle.path_rows.specs.Bounds.{BoundsCosts, BoundsEntry, BoundsFloor, BoundsMember, BoundsParts, BoundsRow, BoundsTree, BoundsVerdict, IsCost};
+ghost use Rattle.path_rows.specs.Bounds.{IsRowNumber, IsThing};
 ghost use Rattle.answer_laws.specs.Laws.{IsAnswerValue};
 
 use path_rows::{Answer, CapTree, CostLine, Costs, Entry, Floor, Member, Parts, Row, Verdict};

@@ -29,7 +29,8 @@ pub enum Judgement {
 
 /// The rejection of an answer by the checker.
 fn rejection_of_answer(stop: CheckStop) -> Result<Rejection, OutOfMemory>
-    ensures { (claim : Claim) (answer : AnswerParts) → IsTextOf claim.bytes answer → StopsBy (tests claim.problem answer) stop → RefusesInvalid claim.problem answer stop → IfOk result (IsInvalid claim) }
+    ensures { (claim : Claim) (answer : AnswerParts) → IsTextOf claim.bytes answer → StopsBy (tests claim.problem answer) stop →
+        RefusesInvalid claim.problem answer stop → IfOk result (IsInvalid claim) }
 {
     match stop {
         CheckStop::Refused { fault, place } => Ok(Rejection {
@@ -75,7 +76,8 @@ pub fn check_files<'a, S: Shelf>(
     answer: &'a str,
     shelf: &mut S,
 ) -> Result<Judgement, Stop<'a>>
-    ensures { Gave (S.gave shelf.old shelf.new) (λ came. IsReadAs (claim_read (files_named words.entry) answer.now) came (λ judgement claim. IsJudged claim judgement) result) }
+    ensures { Gave (S.gave shelf.old shelf.new) (λ came. IsReadAs (claim_read (files_named words.entry) answer.now) came
+        (λ judgement claim. IsJudged claim judgement) result) }
 {
     let problem = read_problem(alloc, View::AsRequested, words, shelf)?;
     let bytes = read_answer_file(alloc, shelf, answer)?;

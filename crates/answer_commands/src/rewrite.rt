@@ -37,7 +37,8 @@ const NO_HEAD: u8 = 50;
 
 /// What a configuration that wasn't rewritten comes to.
 fn unwritten(stop: RewriteStop) -> Result<Revised, OutOfMemory>
-    ensures { (r : Revision) (answer : AnswerParts) (costs : Costs) → IsTextOf r.bytes answer → answer.costs ≡ Some costs → TellsMissing (first_missing (new_costs r.config costs.lines) r.config.bytes) stop → IfOk result (IsRevised r) }
+    ensures { (r : Revision) (answer : AnswerParts) (costs : Costs) → IsTextOf r.bytes answer → answer.costs ≡ Some costs →
+        TellsMissing (first_missing (new_costs r.config costs.lines) r.config.bytes) stop → IfOk result (IsRevised r) }
 {
     match stop {
         RewriteStop::NoInterface(_) => Ok(Revised::Rejected(Rejection {
@@ -56,7 +57,8 @@ fn revised_by_lines(
 ) -> Result<Revised, OutOfMemory>
     requires few { length lines.now < 2 ^ 32 - 1 }
     requires fit { All FitsCostLine lines.now }
-    ensures { (bytes : List ℕ) (answer : AnswerParts) (costs : Costs) → IsTextOf bytes answer → answer.costs ≡ Some costs → costs.lines ≡ lines.now → IfOk result (IsRevised (record { config = config.now; bytes = bytes })) }
+    ensures { (bytes : List ℕ) (answer : AnswerParts) (costs : Costs) → IsTextOf bytes answer → answer.costs ≡ Some costs → costs.lines ≡ lines.now →
+        IfOk result (IsRevised (record { config = config.now; bytes = bytes })) }
 {
     let own = last_lines(alloc, &config.said().name, lines)?;
     match rewrite(alloc, config.name, &config.bytes, &own) {
@@ -112,7 +114,8 @@ pub fn rewrite_files<'a, S: Shelf>(
     config: &'a str,
     shelf: &mut S,
 ) -> Result<Revised, Stop<'a>>
-    ensures { Gave (S.gave shelf.old shelf.new) (λ came. IsReadAs (revision_read config.now answer.now) came (λ revised revision. IsRevised revision revised) result) }
+    ensures { Gave (S.gave shelf.old shelf.new) (λ came. IsReadAs (revision_read config.now answer.now) came
+        (λ revised revision. IsRevised revision revised) result) }
 {
     let text = read_config_text(alloc, shelf, config)?;
     let bytes = read_answer_file(alloc, shelf, answer)?;

@@ -1,5 +1,6 @@
 //! Reading the tree lines of an answer.
-ghost use Rattle.std.specs.Prelude.{◌≡◌, ◌≢◌, ℕ, ◌+◌, ◌<◌, ◌≤◌, ◌^◌, List, [], ◌∷◌, ◌++◌, All, AllPairs, MatchOption, IfOk, IsTrue, false, codes, length, slice_index_or};
+ghost use Rattle.std.specs.Prelude.{◌≡◌, ◌≢◌, ℕ, ◌+◌, ◌<◌, ◌≤◌, ◌^◌, List, [], ◌∷◌, ◌++◌, All, AllPairs, MatchOption, IfOk, IsTrue, false, codes, length};
+ghost use Rattle.std.specs.Prelude.{slice_index_or};
 ghost use Rattle.cost_base.specs.Decimal.{decimal};
 ghost use Rattle.cost_base.specs.declared.StepName.{StepName};
 ghost use Rattle.path_rows.specs.declared.tree.Side.{Side};
@@ -87,7 +88,8 @@ fn split_of(words: Pieces<'_>) -> Option<Entry>
 
 /// The entry with these words behind `tighten`.
 fn tighten_of(words: Pieces<'_>) -> Option<Entry>
-    ensures { MatchOption result (SaysNoEntry (codes "tighten" ∷ words_left words.entry)) (λ entry. SaysEntry (codes "tighten" ∷ words_left words.entry) entry) }
+    ensures { MatchOption result (SaysNoEntry (codes "tighten" ∷ words_left words.entry))
+        (λ entry. SaysEntry (codes "tighten" ∷ words_left words.entry) entry) }
 {
     let (var, behind_var) = words.number(GREATEST_VAR)?;
     let (side, behind_side) = side_of(behind_var)?;
@@ -103,7 +105,8 @@ fn tighten_of(words: Pieces<'_>) -> Option<Entry>
 
 /// The number that is the last word.
 fn last_number(words: Pieces<'_>, greatest: u128) -> Option<u128>
-    ensures { MatchOption result ((n : ℕ) → n ≤ greatest → words_left words.entry ≢ decimal n ∷ []) (λ n. (n ≤ greatest) × (words_left words.entry ≡ decimal n ∷ [])) }
+    ensures { MatchOption result ((n : ℕ) → n ≤ greatest → words_left words.entry ≢ decimal n ∷ [])
+        (λ n. (n ≤ greatest) × (words_left words.entry ≡ decimal n ∷ [])) }
 {
     let (number, rest) = words.number(greatest)?;
     if rest.is_done() { Some(number) } else { None }
@@ -111,7 +114,8 @@ fn last_number(words: Pieces<'_>, greatest: u128) -> Option<u128>
 
 /// The side that is the next word, and the words behind it.
 fn side_of(words: Pieces<'_>) -> Option<(Side, Pieces<'_>)>
-    ensures { MatchOption result ((side : Side) (rest : List (List ℕ)) → words_left words.entry ≢ side_word side ∷ rest) (λ r. words_left words.entry ≡ side_word r.0 ∷ words_left r.1) }
+    ensures { MatchOption result ((side : Side) (rest : List (List ℕ)) → words_left words.entry ≢ side_word side ∷ rest)
+        (λ r. words_left words.entry ≡ side_word r.0 ∷ words_left r.1) }
 {
     if let Some(rest) = words.behind(b"low") {
         return Some((Side::Low, rest));
@@ -122,7 +126,8 @@ fn side_of(words: Pieces<'_>) -> Option<(Side, Pieces<'_>)>
 
 /// The entry with these words behind `refute`.
 fn refute_of(alloc: Global, words: Pieces<'_>) -> Result<Option<Entry>, OutOfMemory>
-    ensures { IfOk result (λ found. MatchOption found (SaysNoEntry (codes "refute" ∷ words_left words.entry)) (λ entry. SaysEntry (codes "refute" ∷ words_left words.entry) entry)) }
+    ensures { IfOk result (λ found. MatchOption found (SaysNoEntry (codes "refute" ∷ words_left words.entry))
+        (λ entry. SaysEntry (codes "refute" ∷ words_left words.entry) entry)) }
 {
     if words.is_done() {
         return Ok(None);
@@ -137,7 +142,8 @@ fn refute_of(alloc: Global, words: Pieces<'_>) -> Result<Option<Entry>, OutOfMem
 
 /// The rows with their multipliers that words say.
 fn parts_of(alloc: Global, words: Pieces<'_>) -> Result<Option<Vec<(u64, u128)>>, OutOfMemory>
-    ensures { IfOk result (λ found. MatchOption found ((ps : List (ℕ × ℕ)) → BoundsParts ps → All (λ part. part.1 < 10 ^ 31) ps → words_left words.entry ≢ part_words ps)
+    ensures { IfOk result (λ found. MatchOption found
+        ((ps : List (ℕ × ℕ)) → BoundsParts ps → All (λ part. part.1 < 10 ^ 31) ps → words_left words.entry ≢ part_words ps)
         (λ ps. BoundsParts ps.items × All (λ part. part.1 < 10 ^ 31) ps.items × (words_left words.entry ≡ part_words ps.items))) }
 {
     let mut parts = Vec::new(alloc);
@@ -157,7 +163,8 @@ fn parts_of(alloc: Global, words: Pieces<'_>) -> Result<Option<Vec<(u64, u128)>>
 
 /// The row with its multiplier that the next two words say, and the words behind them.
 pub fn part_of(words: Pieces<'_>) -> Option<((u64, u128), Pieces<'_>)>
-    ensures { MatchOption result ((row m : ℕ) (rest : List (List ℕ)) → IsRowNumber row → 0 < m → m < 10 ^ 31 → words_left words.entry ≢ decimal row ∷ decimal m ∷ rest)
+    ensures { MatchOption result ((row m : ℕ) (rest : List (List ℕ)) → IsRowNumber row → 0 < m → m < 10 ^ 31 →
+        words_left words.entry ≢ decimal row ∷ decimal m ∷ rest)
         (λ r. IsRowNumber r.0.0 × (0 < r.0.1) × (r.0.1 < 10 ^ 31) × (words_left words.entry ≡ decimal r.0.0 ∷ decimal r.0.1 ∷ words_left r.1)) }
 {
     let (row, behind_row) = words.number(GREATEST_ROW)?;
@@ -193,7 +200,8 @@ struct HalveFront {
 
 /// The entry with these words behind `halve`.
 fn halve_of(alloc: Global, words: Pieces<'_>) -> Result<Option<Entry>, OutOfMemory>
-    ensures { IfOk result (λ found. MatchOption found (SaysNoEntry (codes "halve" ∷ words_left words.entry)) (λ entry. SaysEntry (codes "halve" ∷ words_left words.entry) entry)) }
+    ensures { IfOk result (λ found. MatchOption found (SaysNoEntry (codes "halve" ∷ words_left words.entry))
+        (λ entry. SaysEntry (codes "halve" ∷ words_left words.entry) entry)) }
 {
     let Some((front, rest)) = halve_front(words) else {
         return Ok(None);
@@ -250,7 +258,8 @@ fn next_ratio(words: Pieces<'_>) -> Option<(Ratio, Pieces<'_>)>
 
 /// The step that is the next word, and the words behind it.
 fn step_of(words: Pieces<'_>) -> Option<(StepName, Pieces<'_>)>
-    ensures { MatchOption result ((step : StepName) (rest : List (List ℕ)) → words_left words.entry ≢ step_word step ∷ rest) (λ r. words_left words.entry ≡ step_word r.0 ∷ words_left r.1) }
+    ensures { MatchOption result ((step : StepName) (rest : List (List ℕ)) → words_left words.entry ≢ step_word step ∷ rest)
+        (λ r. words_left words.entry ≡ step_word r.0 ∷ words_left r.1) }
 {
     let (word, rest) = words.word()?;
     let step = step_named(word)?;
@@ -305,7 +314,8 @@ pub fn member_of(words: Pieces<'_>) -> Option<(Member, Pieces<'_>)>
 
 /// The member of a bound of a variable, whose side is known, and the words behind it.
 fn bound_of(side: Side, words: Pieces<'_>) -> Option<(Member, Pieces<'_>)>
-    ensures { MatchOption result ((var value : ℕ) (rest : List (List ℕ)) → IsThing var → IsCost value → words_left words.entry ≢ decimal var ∷ decimal value ∷ rest)
+    ensures { MatchOption result ((var value : ℕ) (rest : List (List ℕ)) → IsThing var → IsCost value →
+        words_left words.entry ≢ decimal var ∷ decimal value ∷ rest)
         (λ r. BoundsMember r.0 × (side_word side ∷ words_left words.entry ≡ member_words r.0 ++ words_left r.1)) }
 {
     let (var, behind_var) = words.number(GREATEST_VAR)?;

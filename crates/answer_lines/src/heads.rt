@@ -13,7 +13,8 @@ use path_rows::{Floor, Verdict};
 
 /// The verdict that a line says.
 fn verdict_of(line: &[u8]) -> Option<Verdict>
-    ensures { MatchOption result ((verdict : Verdict) → BoundsVerdict verdict → line.now ≢ verdict_line verdict) (λ verdict. BoundsVerdict verdict × (line.now ≡ verdict_line verdict)) }
+    ensures { MatchOption result ((verdict : Verdict) → BoundsVerdict verdict → line.now ≢ verdict_line verdict)
+        (λ verdict. BoundsVerdict verdict × (line.now ≡ verdict_line verdict)) }
 {
     if line == b"verdict impossible".as_slice() {
         return Some(Verdict::Impossible);
@@ -27,7 +28,8 @@ fn verdict_of(line: &[u8]) -> Option<Verdict>
 
 /// The floor that a line says.
 pub fn floor_of(line: &[u8]) -> Option<Floor>
-    ensures { MatchOption result ((floor : Floor) → BoundsFloor floor → line.now ≢ floor_line floor) (λ floor. BoundsFloor floor × (line.now ≡ floor_line floor)) }
+    ensures { MatchOption result ((floor : Floor) → BoundsFloor floor → line.now ≢ floor_line floor)
+        (λ floor. BoundsFloor floor × (line.now ≡ floor_line floor)) }
 {
     if line == b"floor none".as_slice() {
         return Some(Floor::Absent);
@@ -41,7 +43,8 @@ pub fn floor_of(line: &[u8]) -> Option<Floor>
 
 /// The verdict, where its line is the next, and the text behind it.
 pub fn verdict_next(text: TextLeft<'_>) -> Option<(Verdict, TextLeft<'_>)>
-    ensures { MatchOption result (LacksLawful AtVerdict text.entry.left.now) (λ r. BoundsVerdict r.0 × Goes AtVerdict text.entry (verdict_line r.0 ∷ []) AtCosts r.1) }
+    ensures { MatchOption result (LacksLawful AtVerdict text.entry.left.now)
+        (λ r. BoundsVerdict r.0 × Goes AtVerdict text.entry (verdict_line r.0 ∷ []) AtCosts r.1) }
 {
     let (line, rest) = text.line()?;
     let verdict = verdict_of(line)?;

@@ -27,7 +27,8 @@ pub(crate) fn ratio_of(word: &[u8]) -> Option<Ratio>
 fn lowest(numerator: i128, denominator: u128) -> Option<Ratio>
     requires above { nat_abs numerator < 2 ^ 127 }
     requires below { denominator < 2 ^ 127 }
-    ensures { MatchOption result ((q : Ratio) → IsPrinted q → q.numerator ≡ numerator → q.denominator ≡ pos denominator → ⊥) (λ q. IsPrinted q × (q.numerator ≡ numerator) × (q.denominator ≡ pos denominator)) }
+    ensures { MatchOption result ((q : Ratio) → IsPrinted q → q.numerator ≡ numerator → q.denominator ≡ pos denominator → ⊥)
+        (λ q. IsPrinted q × (q.numerator ≡ numerator) × (q.denominator ≡ pos denominator)) }
 {
     if denominator == 0 {
         return None;
@@ -57,7 +58,8 @@ pub fn integer_of(word: &[u8]) -> Option<i128>
 
 /// The number below 0 with these digits.
 fn negative_of(digits: &[u8]) -> Option<i128>
-    ensures { MatchOption result ((n : ℕ) → n + 1 < 2 ^ 127 → digits.now ≢ decimal (n + 1)) (λ z. (n : ℕ) × (z ≡ negsuc n) × (n + 1 < 2 ^ 127) × (digits.now ≡ decimal (n + 1))) }
+    ensures { MatchOption result ((n : ℕ) → n + 1 < 2 ^ 127 → digits.now ≢ decimal (n + 1))
+        (λ z. (n : ℕ) × (z ≡ negsuc n) × (n + 1 < 2 ^ 127) × (digits.now ≡ decimal (n + 1))) }
 {
     let size = printed_number(digits, GREATEST_SIZE)?;
     if size == 0 {

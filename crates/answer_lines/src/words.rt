@@ -37,7 +37,8 @@ impl<'a> Pieces<'a> {
 
     /// The words behind this one, where it is the next.
     pub fn behind(self, wanted: &[u8]) -> Option<Pieces<'a>>
-        ensures { MatchOption result ((rest : List (List ℕ)) → words_left self.entry ≢ wanted.now ∷ rest) (λ r. words_left self.entry ≡ wanted.now ∷ words_left r) }
+        ensures { MatchOption result ((rest : List (List ℕ)) → words_left self.entry ≢ wanted.now ∷ rest)
+            (λ r. words_left self.entry ≡ wanted.now ∷ words_left r) }
     {
         let (word, rest) = self.word()?;
         if word == wanted { Some(rest) } else { None }
@@ -45,7 +46,8 @@ impl<'a> Pieces<'a> {
 
     /// The number that is the next word, at most `greatest` and as it is printed, and the words behind it.
     pub fn number(self, greatest: u128) -> Option<(u128, Pieces<'a>)>
-        ensures { MatchOption result ((n : ℕ) (rest : List (List ℕ)) → n ≤ greatest → words_left self.entry ≢ decimal n ∷ rest) (λ r. (r.0 ≤ greatest) × (words_left self.entry ≡ decimal r.0 ∷ words_left r.1)) }
+        ensures { MatchOption result ((n : ℕ) (rest : List (List ℕ)) → n ≤ greatest → words_left self.entry ≢ decimal n ∷ rest)
+            (λ r. (r.0 ≤ greatest) × (words_left self.entry ≡ decimal r.0 ∷ words_left r.1)) }
     {
         let (word, rest) = self.word()?;
         let number = printed_number(word, greatest)?;
@@ -87,7 +89,8 @@ pub fn number_after(line: &[u8], front: &[u8], greatest: u128) -> Option<u128>
 
 /// The name that stands alone behind the front of a line.
 pub fn name_after<'a>(line: &'a [u8], front: &[u8]) -> Option<&'a [u8]>
-    ensures { MatchOption result ((name : List ℕ) → IsOneWord name → line.now ≢ front.now ++ name) (λ name. IsOneWord name.now × (line.now ≡ front.now ++ name.now)) }
+    ensures { MatchOption result ((name : List ℕ) → IsOneWord name → line.now ≢ front.now ++ name)
+        (λ name. IsOneWord name.now × (line.now ≡ front.now ++ name.now)) }
 {
     let name = after(line, front)?;
     if is_one_word(name) { Some(name) } else { None }

@@ -81,8 +81,10 @@ impl<'a> Begun<'a> {
     /// What follows the next word, which lacks so many bytes. With a space behind it a word must lack none.
     fn behind(self, missing: usize) -> Option<Begun<'a>>
         ensures { MatchOption result
-            (((split 32 self.entry.text.now ≢ self.entry.text.now ∷ []) × (missing ≢ 0)) ⊎ ((split 32 self.entry.text.now ≡ self.entry.text.now ∷ []) × (self.entry.room < missing + 1)))
-            (λ after. ((word : List ℕ) × (self.entry.text.now ≡ word ++ 32 ∷ after.text.now) × (split 32 self.entry.text.now ≡ word ∷ split 32 after.text.now) × (missing ≡ 0) × (after.room ≡ self.entry.room))
+            (((split 32 self.entry.text.now ≢ self.entry.text.now ∷ []) × (missing ≢ 0)) ⊎
+            ((split 32 self.entry.text.now ≡ self.entry.text.now ∷ []) × (self.entry.room < missing + 1)))
+            (λ after. ((word : List ℕ) × (self.entry.text.now ≡ word ++ 32 ∷ after.text.now) ×
+            (split 32 self.entry.text.now ≡ word ∷ split 32 after.text.now) × (missing ≡ 0) × (after.room ≡ self.entry.room))
             ⊎ ((split 32 self.entry.text.now ≡ self.entry.text.now ∷ []) × (after.text.now ≡ []) × (after.room + missing + 1 ≡ self.entry.room))) }
     {
         match cut(self.text, b' ') {

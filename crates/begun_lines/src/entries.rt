@@ -8,7 +8,9 @@ ghost use Rattle.text_lines.specs.Numbers.{split};
 ghost use Rattle.evidence_text.specs.declared.TreePart.{TreePart};
 ghost use Rattle.answer_lines.specs.Grammar.{AtTree};
 ghost use Rattle.answer_lines.specs.Places.{Begins};
-ghost use Rattle.begun_lines.specs.BegunLines.{Becomes, Then, Alone, IsAmong, IsNumber, IsSide, IsStepWord, IsEitherStep, IsLaterStep, rows_from, multipliers, LeafWords, ParentWords, PartingWords, SplitWords, BoundWords, TightenWords, PartsWords, RefuteWords, RowWords, EndWords, MemberWords, MembersWords, BasisWords, HalveWords, EntryWords};
+ghost use Rattle.begun_lines.specs.BegunLines.{Becomes, Then, Alone, IsAmong, IsNumber, IsSide, IsStepWord, IsEitherStep, IsLaterStep, rows_from, multipliers};
+ghost use Rattle.begun_lines.specs.BegunLines.{LeafWords, ParentWords, PartingWords, SplitWords, BoundWords, TightenWords, PartsWords, RefuteWords, RowWords};
+ghost use Rattle.begun_lines.specs.BegunLines.{EndWords, MemberWords, MembersWords, BasisWords, HalveWords, EntryWords};
 
 use crate::begun::Begun;
 use crate::numbers::Numbers;

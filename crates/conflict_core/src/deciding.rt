@@ -1,6 +1,6 @@
 //! One set of requests decided.
-ghost use Rattle.std.specs.Prelude.{◌≡◌, IfOk};
-ghost use Rattle.form_search.specs.Advised.{AreLeft, IsCalled};
+ghost use Rattle.std.specs.Prelude.{IfOk};
+ghost use Rattle.form_search.specs.Advised.{AreCalled};
 ghost use Rattle.conflict_core.specs.Conflicts.{IsRequestSet};
 ghost use Rattle.conflict_core.specs.Deciding.{IsSetDecided};
 
@@ -43,9 +43,7 @@ pub(crate) fn decide_set(
 ) -> Result<Decided, OutOfMemory>
     requires { IsRequestSet problem.now members.items }
     ensures decided { IfOk result (IsSetDecided problem.now limits.now.top limits.now.nodes members.items) }
-    ensures advisors { AreLeft
-        (IsCalled (λ b c. c.vtable ≡ b.vtable) (λ b. state b) (λ b. (⟦<dyn Advisor as Advisor>⟧ b.vtable).left) (λ b. (⟦<dyn Advisor as Advisor>⟧ b.vtable).after))
-        advisors.old.items advisors.new.items }
+    ensures advisors { AreCalled ⟦<dyn Advisor as Advisor>⟧ (λ b. b.vtable) (λ b. state b) advisors.old.items advisors.new.items }
 {
     keeps_problem(problem);
     let part = problem.only(alloc, members.as_slice())?;

@@ -1,6 +1,6 @@
 //! A least conflict.
 ghost use Rattle.std.specs.Prelude.{◌≡◌, ◌⊎◌, ℕ, ◌≤◌, length, IfOk};
-ghost use Rattle.form_search.specs.Advised.{AreLeft, IsCalled};
+ghost use Rattle.form_search.specs.Advised.{AreCalled};
 ghost use Rattle.conflict_core.specs.Conflicts.{IsConflictFound, IsConflictLessOne, all_requests};
 ghost use Rattle.conflict_core.specs.Deciding.{IsRefutedSet, IsShrunk, IsSpentSet};
 
@@ -65,9 +65,7 @@ fn shrink(
 ) -> Result<Conflict, OutOfMemory>
     requires { IsRefutedSet problem.now limits.now.top limits.now.nodes conflict }
     ensures found { IfOk result (IsConflictFound problem.now limits.now.top limits.now.nodes) }
-    ensures advisors { AreLeft
-        (IsCalled (λ b c. c.vtable ≡ b.vtable) (λ b. state b) (λ b. (⟦<dyn Advisor as Advisor>⟧ b.vtable).left) (λ b. (⟦<dyn Advisor as Advisor>⟧ b.vtable).after))
-        advisors.old.items advisors.new.items }
+    ensures advisors { AreCalled ⟦<dyn Advisor as Advisor>⟧ (λ b. b.vtable) (λ b. state b) advisors.old.items advisors.new.items }
 {
     let mut shrunk = Shrunk {
         conflict,
@@ -99,9 +97,7 @@ pub fn find_conflict(
     advisors: &mut Vec<Box<dyn Advisor>>,
 ) -> Result<Conflict, OutOfMemory>
     ensures found { IfOk result (IsConflictFound problem.now limits.now.top limits.now.nodes) }
-    ensures advisors { AreLeft
-        (IsCalled (λ b c. c.vtable ≡ b.vtable) (λ b. state b) (λ b. (⟦<dyn Advisor as Advisor>⟧ b.vtable).left) (λ b. (⟦<dyn Advisor as Advisor>⟧ b.vtable).after))
-        advisors.old.items advisors.new.items }
+    ensures advisors { AreCalled ⟦<dyn Advisor as Advisor>⟧ (λ b. b.vtable) (λ b. state b) advisors.old.items advisors.new.items }
 {
     keeps_problem(problem);
     let all = all_requests(alloc, problem)?;

@@ -1,6 +1,7 @@
 //! A conflict that is made smaller.
 ghost use Rattle.std.specs.Prelude.{◌≡◌, ◌<◌, ◌++◌, ◌∷◌, [], length, IfOk};
-ghost use Rattle.form_search.specs.Advised.{AreLeft, IsCalled};
+ghost use Rattle.std.specs.List.{remove};
+ghost use Rattle.form_search.specs.Advised.{AreCalled};
 ghost use Rattle.conflict_core.specs.Deciding.{IsShrunk, IsTurned};
 
 use crate::deciding::{Decided, SetTree, decide_set};
@@ -54,6 +55,18 @@ impl Shrunk {
     }
 }
 
+/// The members but the next one for which it isn't known whether the others are a conflict without it.
+fn without_next(alloc: Global, shrunk: &Shrunk) -> Result<Vec<u32>, OutOfMemory>
+    requires { length shrunk.now.without.items < length shrunk.now.conflict.members.items }
+    ensures { IfOk result (λ others. others.items ≡ remove shrunk.now.conflict.members.items (length shrunk.now.without.items)) }
+{
+    without_one(
+        alloc,
+        shrunk.conflict.members.as_slice(),
+        shrunk.without.len(),
+    )
+}
+
 /// Leaves out the next member for which it isn't known whether the others are a conflict without it.
 pub(crate) fn leave_out(
     alloc: Global,
@@ -65,13 +78,10 @@ pub(crate) fn leave_out(
     requires shrunk { IsShrunk problem.now limits.now.top limits.now.nodes shrunk }
     requires left { length shrunk.without.items < length shrunk.conflict.members.items }
     ensures turned { IfOk result (IsTurned problem.now limits.now.top limits.now.nodes shrunk) }
-    ensures advisors { AreLeft
-        (IsCalled (λ b c. c.vtable ≡ b.vtable) (λ b. state b) (λ b. (⟦<dyn Advisor as Advisor>⟧ b.vtable).left) (λ b. (⟦<dyn Advisor as Advisor>⟧ b.vtable).after))
-        advisors.old.items advisors.new.items }
+    ensures advisors { AreCalled ⟦<dyn Advisor as Advisor>⟧ (λ b. b.vtable) (λ b. state b) advisors.old.items advisors.new.items }
 {
     keeps_problem(problem);
-    let place = shrunk.without.len();
-    let others = without_one(alloc, shrunk.conflict.members.as_slice(), place)?;
+    let others = without_next(alloc, &shrunk)?;
     match decide_set(alloc, problem, others, limits, advisors)? {
         Decided::Costs(costs) => Ok(Tried::On(shrunk.with_costs(costs)?)),
         Decided::Refuted(conflict) => Ok(Tried::On(shrunk.with_conflict(conflict))),

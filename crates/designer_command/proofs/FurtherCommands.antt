@@ -18,6 +18,7 @@ use Rattle.command_words.specs.Jobs.{Bounds}
 use Rattle.conflict_core.specs.declared.conflict.Conflict.{Conflict}
 use Rattle.conflict_core.specs.declared.conflict.Conflict.TheVariants.{Fits, Core, Unknown as NoConflictKnown}
 use Rattle.conflict_core.specs.Conflicts.{IsConflictFound}
+use Rattle.printed_rows.proofs.CapBoxes.{capped_box}
 use Rattle.wish_commands.specs.Conflicts as conflicts
 use Rattle.wish_commands.specs.Conflicts.{MayConflict, ShowsConflict}
 use Rattle.spread_sets.specs.declared.spread.Spread.{Spread}
@@ -31,7 +32,7 @@ use Rattle.lsa_commands.specs.Lsas.{MayLsas}
 use Rattle.lsa_commands.specs.Routes.{MayRoute}
 use Rattle.designer_command.specs.TotalRuns.{IsTotalUndecided, MayTotal}
 use Rattle.designer_command.specs.Completeness.{ConflictsAreFound, IdentifiedInputIsWritten, IsLarge, IsSettled, IsSpreadSettled, KnownRoutersAreRouted, SpreadsAreFound, TotalsAreFound}
-use Rattle.designer_command.proofs.LargeBudgets.{capped-le, capped_box, large_suffice}
+use Rattle.designer_command.proofs.LargeBudgets.{capped-le, large_suffice}
 use Rattle.designer_command.proofs.CompletenessLaws.{best_settles, never_undecided, none_settles}
 use Rattle.designer_command.proofs.OwnStatuses.{only_done, own_conflict, own_lsas, own_route, own_spread, own_total, said_end}
 

@@ -1,14 +1,15 @@
 -- A budget of about twice as many entries as there are points can't be used up.
-use Rattle.std.proofs.Common.{◌≡◌, ℕ, zero, suc, ◌+◌, ◌-◌, ◌*◌, ◌<◌, ◌≤◌, refl, sym, ◌∙◌, arith, List, [], ◌∷◌, length, map}
-use Rattle.std.specs.Prelude.{All, slice_index, min}
+use Rattle.std.proofs.Common.{◌≡◌, ℕ, zero, suc, ◌+◌, ◌-◌, ◌*◌, ◌<◌, ◌≤◌, sym, ◌∙◌, arith, List, [], ◌∷◌, length, map}
+use Rattle.std.specs.Prelude.{slice_index, min}
 use Rattle.std.proofs.Math.Nat.{mul-le-mul_left, mul-le-mul_right}
 use Rattle.std.proofs.lemmas.List.{length-map, get_or-map}
-use Rattle.path_rows.specs.Problems.{DesignProblem, IsProblem}
-use Rattle.path_rows.specs.Boxes.{IsBox, capped, points, points_of}
+use Rattle.path_rows.specs.Problems.{DesignProblem}
+use Rattle.path_rows.specs.Boxes.{capped, points, points_of}
 use Rattle.path_rows.specs.Rows.{box_of, forms_of_rows}
 use Rattle.path_rows.specs.Answers.{greatest_bound}
 use Rattle.path_rows.proofs.ProblemTrees.{le_greatest}
 use Rattle.path_rows.proofs.TreeShapes.{few_entries}
+use Rattle.printed_rows.proofs.CapBoxes.{capped_box}
 use Rattle.designer_command.specs.Completeness.{LargeBudgetsSuffice}
 
 product_le : (a b c d : ℕ) → a ≤ b → c ≤ d → a * c ≤ b * d
@@ -35,19 +36,6 @@ capped-le p cap =
     let other = get_or-map (λ h. min h (greatest_bound p)) p.high k 0 0 inside in
     let most : slice_index p.high k ≤ greatest_bound p = le_greatest p.high k inside in
     omega arith)
-
--- the box at a cap that isn't below a lower bound
-pub capped_box : (p : DesignProblem) (cap : ℕ) → IsProblem p → All (λ low. low ≤ cap) p.low → IsBox (length p.low) (capped (box_of p) cap)
-capped_box p cap kept no_higher = record {
-  low_count = refl;
-  high_count = length-map p.high (λ h. min h cap) ∙ sym kept.low_count;
-  ordered = λ k within.
-      let inside : k < length p.high = omega (arith, kept.low_count) in
-      let one = get_or-map (λ h. min h cap) p.high k 0 0 inside in
-      let bounds = kept.ordered k within in
-      let low : slice_index p.low k ≤ cap = no_higher k 0 within in
-      omega (arith, bounds.1);
-}
 
 pub large_suffice : LargeBudgetsSuffice
 large_suffice limits p kept enough cap rows tree no_higher true_rows earnest undone spent =

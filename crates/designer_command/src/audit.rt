@@ -155,7 +155,8 @@ pub(crate) fn audit_report<'a, S: Shelf>(
     words: FileWords<'a>,
     shelf: &mut S,
 ) -> Result<Report, Stop<'a>>
-    ensures { Gave (S.gave shelf.old shelf.new) (λ came. IsReadAs (outcome View.AtPresent (files_named words.entry)) came (λ report d. MayAudit d report.status (bytes_in report.text)) result) }
+    ensures { Gave (S.gave shelf.old shelf.new) (λ came. IsReadAs (outcome View.AtPresent (files_named words.entry)) came
+        (λ report d. MayAudit d report.status (bytes_in report.text)) result) }
 {
     let problem = read_problem(alloc, View::AtPresent, words, shelf)?;
     let found = audit(alloc, &problem)?;

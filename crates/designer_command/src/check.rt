@@ -36,7 +36,8 @@ pub(crate) fn check_report<'a, S: Shelf>(
     answer: &'a str,
     shelf: &mut S,
 ) -> Result<Report, Stop<'a>>
-    ensures { Gave (S.gave shelf.old shelf.new) (λ came. IsReadAs (claim_read (files_named words.entry) answer.now) came (λ report claim. MayCheck claim report.status (bytes_in report.text)) result) }
+    ensures { Gave (S.gave shelf.old shelf.new) (λ came. IsReadAs (claim_read (files_named words.entry) answer.now) came
+        (λ report claim. MayCheck claim report.status (bytes_in report.text)) result) }
 {
     let judgement = check_files(alloc, words, answer, shelf)?;
     Ok(report_of_judgement(alloc, judgement)?)

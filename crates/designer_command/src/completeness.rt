@@ -1,6 +1,8 @@
 //! When a run has to answer: each law is the contract of a function, most of them of one that does nothing.
 ghost use Rattle.std.specs.Prelude.{◌≢◌};
-ghost use Rattle.designer_command.specs.Completeness.{ConflictsAreFound, DesignsAreAccepted, HeadedCostsAreWritten, IdentifiedInputIsWritten, KnownRoutersAreRouted, LargeBudgetsSuffice, MadeCasesAreDesigned, SpreadsAreFound, TotalsAreFound, ValidAnswersAreAccepted, WellFormedInputIsAudited, WellFormedInputIsDesigned};
+ghost use Rattle.designer_command.specs.Completeness.{ConflictsAreFound, DesignsAreAccepted, HeadedCostsAreWritten, IdentifiedInputIsWritten};
+ghost use Rattle.designer_command.specs.Completeness.{KnownRoutersAreRouted, LargeBudgetsSuffice, MadeCasesAreDesigned, SpreadsAreFound, TotalsAreFound};
+ghost use Rattle.designer_command.specs.Completeness.{ValidAnswersAreAccepted, WellFormedInputIsAudited, WellFormedInputIsDesigned};
 
 use crate::run;
 use advisor_box::Advisor;

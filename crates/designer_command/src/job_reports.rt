@@ -1,6 +1,6 @@
 //! The report of each command, by its words.
 ghost use Rattle.std.specs.Prelude.{◌≡◌, ◌≤◌, ◌<◌, ◌^◌, [], IfOk, Some};
-ghost use Rattle.form_search.specs.Advised.{AreLeft, IsCalled};
+ghost use Rattle.form_search.specs.Advised.{AreCalled};
 ghost use Rattle.command_words.specs.Words.{texts};
 ghost use Rattle.command_words.specs.Jobs.{Audit, Check, Conflict, Design, Lsas, Rewrite, Route, Spread, Total, Trial as TrialJob, bounds};
 ghost use Rattle.report_writer.specs.Reports.{bytes_in};
@@ -33,9 +33,7 @@ pub(crate) fn of_design<S: Shelf>(
 ) -> Result<Report, OutOfMemory>
     requires itself { limits.now ≡ limits.now }
     ensures reported { ReportsJob (S.gave shelf.old shelf.new) (Design request.now (bounds limits.now) (texts configs.now)) result }
-    ensures advisors { AreLeft
-        (IsCalled (λ b c. c.vtable ≡ b.vtable) (λ b. state b) (λ b. (⟦<dyn Advisor as Advisor>⟧ b.vtable).left) (λ b. (⟦<dyn Advisor as Advisor>⟧ b.vtable).after))
-        advisors.old.items advisors.new.items }
+    ensures advisors { AreCalled ⟦<dyn Advisor as Advisor>⟧ (λ b. b.vtable) (λ b. state b) advisors.old.items advisors.new.items }
 {
     let words = FileWords { request, configs };
     report_of(alloc, design_report(alloc, words, limits, shelf, advisors))
@@ -91,9 +89,7 @@ pub(crate) fn of_trial(
     requires most { blocks ≤ 125 }
     requires start { start < 2 ^ 31 }
     ensures tried { IfOk result (λ report. MayWrite (Some (TrialJob blocks start)) [] report.status (bytes_in report.text)) }
-    ensures advisors { AreLeft
-        (IsCalled (λ b c. c.vtable ≡ b.vtable) (λ b. state b) (λ b. (⟦<dyn Advisor as Advisor>⟧ b.vtable).left) (λ b. (⟦<dyn Advisor as Advisor>⟧ b.vtable).after))
-        advisors.old.items advisors.new.items }
+    ensures advisors { AreCalled ⟦<dyn Advisor as Advisor>⟧ (λ b. b.vtable) (λ b. state b) advisors.old.items advisors.new.items }
 {
     trial_report(alloc, Trial { blocks, start }, advisors)
 }
@@ -109,9 +105,7 @@ pub(crate) fn of_conflict<S: Shelf>(
 ) -> Result<Report, OutOfMemory>
     requires itself { limits.now ≡ limits.now }
     ensures reported { ReportsJob (S.gave shelf.old shelf.new) (Conflict request.now (bounds limits.now) (texts configs.now)) result }
-    ensures advisors { AreLeft
-        (IsCalled (λ b c. c.vtable ≡ b.vtable) (λ b. state b) (λ b. (⟦<dyn Advisor as Advisor>⟧ b.vtable).left) (λ b. (⟦<dyn Advisor as Advisor>⟧ b.vtable).after))
-        advisors.old.items advisors.new.items }
+    ensures advisors { AreCalled ⟦<dyn Advisor as Advisor>⟧ (λ b. b.vtable) (λ b. state b) advisors.old.items advisors.new.items }
 {
     let words = FileWords { request, configs };
     report_of(
@@ -146,9 +140,7 @@ pub(crate) fn of_total<S: Shelf>(
 ) -> Result<Report, OutOfMemory>
     requires itself { limits.now ≡ limits.now }
     ensures reported { ReportsJob (S.gave shelf.old shelf.new) (Total request.now (bounds limits.now) (texts configs.now)) result }
-    ensures advisors { AreLeft
-        (IsCalled (λ b c. c.vtable ≡ b.vtable) (λ b. state b) (λ b. (⟦<dyn Advisor as Advisor>⟧ b.vtable).left) (λ b. (⟦<dyn Advisor as Advisor>⟧ b.vtable).after))
-        advisors.old.items advisors.new.items }
+    ensures advisors { AreCalled ⟦<dyn Advisor as Advisor>⟧ (λ b. b.vtable) (λ b. state b) advisors.old.items advisors.new.items }
 {
     let words = FileWords { request, configs };
     report_of(alloc, total_report(alloc, words, limits, shelf, advisors))

@@ -1,7 +1,7 @@
 //! `total`: the least total among the best costs.
 ghost use Rattle.std.specs.Prelude.{◌≡◌, ◌++◌, ◌∷◌, [], ◌≤◌, IfOk, OnOk, Some, codes};
 ghost use Rattle.cost_base.specs.Decimal.{decimal};
-ghost use Rattle.form_search.specs.Advised.{AreLeft, IsCalled};
+ghost use Rattle.form_search.specs.Advised.{AreCalled};
 ghost use Rattle.command_words.specs.Jobs.{bounds};
 ghost use Rattle.path_rows.specs.Text.{spaced, text, tree_lines};
 ghost use Rattle.evidence_text.specs.Lines.{text_of};
@@ -147,9 +147,7 @@ pub(crate) fn total_report<'a, S: Shelf>(
 ) -> Result<Report, Stop<'a>>
     ensures read { Gave (S.gave shelf.old shelf.new) (λ came. IsReadAs (outcome View.AsRequested (files_named words.entry)) came
         (λ report d. MayTotal (bounds limits.now) d report.status (bytes_in report.text)) result) }
-    ensures advisors { AreLeft
-        (IsCalled (λ b c. c.vtable ≡ b.vtable) (λ b. state b) (λ b. (⟦<dyn Advisor as Advisor>⟧ b.vtable).left) (λ b. (⟦<dyn Advisor as Advisor>⟧ b.vtable).after))
-        advisors.old.items advisors.new.items }
+    ensures advisors { AreCalled ⟦<dyn Advisor as Advisor>⟧ (λ b. b.vtable) (λ b. state b) advisors.old.items advisors.new.items }
 {
     let problem = read_problem(alloc, View::AsRequested, words, shelf)?;
     let answer = answer_to(alloc, &problem, limits, advisors)?;

@@ -33,7 +33,8 @@ pub(crate) fn rewrite_report<'a, S: Shelf>(
     config: &'a str,
     shelf: &mut S,
 ) -> Result<Report, Stop<'a>>
-    ensures { Gave (S.gave shelf.old shelf.new) (λ came. IsReadAs (revision_read config.now answer.now) came (λ report revision. MayRewrite revision report.status (bytes_in report.text)) result) }
+    ensures { Gave (S.gave shelf.old shelf.new) (λ came. IsReadAs (revision_read config.now answer.now) came
+        (λ report revision. MayRewrite revision report.status (bytes_in report.text)) result) }
 {
     let revised = rewrite_files(alloc, answer, config, shelf)?;
     Ok(report_of_revised(alloc, revised)?)

@@ -1,6 +1,6 @@
 //! The top call.
 ghost use Rattle.std.specs.Prelude.{◌≡◌, ℕ, List, MatchResult};
-ghost use Rattle.form_search.specs.Advised.{AreLeft, IsCalled};
+ghost use Rattle.form_search.specs.Advised.{AreCalled};
 ghost use Rattle.command_words.specs.Words.{texts};
 ghost use Rattle.command_words.specs.Jobs.{IsInRange, seen};
 ghost use Rattle.report_writer.specs.Reports.{IsWritten, Reports, bytes_in};
@@ -50,9 +50,7 @@ fn job_report<S: Shelf>(
 ) -> Result<Report, OutOfMemory>
     requires { IsInRange (seen job.now) }
     ensures reported { ReportsJob (S.gave shelf.old shelf.new) (seen job.now) result }
-    ensures advisors { AreLeft
-        (IsCalled (λ b c. c.vtable ≡ b.vtable) (λ b. state b) (λ b. (⟦<dyn Advisor as Advisor>⟧ b.vtable).left) (λ b. (⟦<dyn Advisor as Advisor>⟧ b.vtable).after))
-        advisors.old.items advisors.new.items }
+    ensures advisors { AreCalled ⟦<dyn Advisor as Advisor>⟧ (λ b. b.vtable) (λ b. state b) advisors.old.items advisors.new.items }
 {
     match job {
         Job::Design {
@@ -91,7 +89,8 @@ fn job_report<S: Shelf>(
 
 /// Writes a report, where memory sufficed to make it, and tells how the run ends.
 fn write_made<K: Sink>(made: Result<Report, OutOfMemory>, out: &mut K) -> Status
-    ensures { MatchResult made (λ report. IsWritten report.status (bytes_in report.text) (K.handed out.old out.new) (K.faults out.old) (K.faults out.new) result)
+    ensures { MatchResult made (λ report. IsWritten report.status (bytes_in report.text) (K.handed out.old out.new) (K.faults out.old)
+        (K.faults out.new) result)
         (λ _. (result ≡ Status.OutOfMemory) × (out.new ≡ out.old)) }
 {
     match made {
@@ -153,11 +152,10 @@ pub fn run<S: Shelf, K: Sink>(
     out: &mut K,
     advisors: &mut Vec<Box<dyn Advisor>>,
 ) -> Status
-    ensures meets { RunMeets (texts words.now) (S.gave shelf.old shelf.new) (S.held shelf.old) (S.faults shelf.old) (S.faults shelf.new) (K.handed out.old out.new) (K.got out.old) (K.got out.new) (K.faults out.old) (K.faults out.new) result }
+    ensures meets { RunMeets (texts words.now) (S.gave shelf.old shelf.new) (S.held shelf.old) (S.faults shelf.old) (S.faults shelf.new)
+        (K.handed out.old out.new) (K.got out.old) (K.got out.new) (K.faults out.old) (K.faults out.new) result }
     ensures held { (name : List ℕ) → S.held shelf.new name ≡ S.held shelf.old name }
-    ensures advisors { AreLeft
-        (IsCalled (λ b c. c.vtable ≡ b.vtable) (λ b. state b) (λ b. (⟦<dyn Advisor as Advisor>⟧ b.vtable).left) (λ b. (⟦<dyn Advisor as Advisor>⟧ b.vtable).after))
-        advisors.old.items advisors.new.items }
+    ensures advisors { AreCalled ⟦<dyn Advisor as Advisor>⟧ (λ b. b.vtable) (λ b. state b) advisors.old.items advisors.new.items }
 {
     match read_words(alloc, words) {
         Ok(job) => write_made(job_report(alloc, &job, shelf, advisors), out),

@@ -4,7 +4,7 @@ ghost use Rattle.std.specs.List.{sum};
 ghost use Rattle.cost_base.specs.Decimal.{decimal};
 ghost use Rattle.command_words.specs.Jobs.{bounds};
 ghost use Rattle.path_rows.specs.Text.{text};
-ghost use Rattle.form_search.specs.Advised.{AreLeft, IsCalled};
+ghost use Rattle.form_search.specs.Advised.{AreCalled};
 ghost use Rattle.input_files.specs.Readings.{Gave};
 ghost use Rattle.input_files.specs.Outcomes.{Input, outcome};
 ghost use Rattle.input_files.specs.Stops.{IsReadAs, files_named};
@@ -72,7 +72,8 @@ fn best_report(
 ) -> Result<Report, OutOfMemory>
     requires few { trial.blocks ≤ 125 }
     requires lines { length problem.now.vars ≡ length lines.now }
-    ensures { IfOk result (Reports Status.Done (summary_line trial.blocks trial.start (codes "optimal") (decimal greatest) (decimal (sum (costs_given problem.now lines.now))))) }
+    ensures { IfOk result (Reports Status.Done (summary_line trial.blocks trial.start (codes "optimal") (decimal greatest)
+        (decimal (sum (costs_given problem.now lines.now))))) }
 {
     let total = total_of(alloc, problem, lines)?;
     let line = best_line(alloc, trial, greatest, total)?;
@@ -108,10 +109,10 @@ fn report_on_texts<'a, S: Shelf>(
     advisors: &mut Vec<Box<dyn Advisor>>,
 ) -> Result<Report, Stop<'a>>
     requires { trial.blocks ≤ 125 }
-    ensures read { Gave (S.gave shelf.old shelf.new) (λ came. IsReadAs (outcome View.AsRequested (files_named words.entry)) came (λ report d. MayTry trial.blocks trial.start d report.status (bytes_in report.text)) result) }
-    ensures advisors { AreLeft
-        (IsCalled (λ b c. c.vtable ≡ b.vtable) (λ b. state b) (λ b. (⟦<dyn Advisor as Advisor>⟧ b.vtable).left) (λ b. (⟦<dyn Advisor as Advisor>⟧ b.vtable).after))
-        advisors.old.items advisors.new.items }
+    ensures read { Gave (S.gave shelf.old shelf.new)
+        (λ came. IsReadAs (outcome View.AsRequested (files_named words.entry)) came
+        (λ report d. MayTry trial.blocks trial.start d report.status (bytes_in report.text)) result) }
+    ensures advisors { AreCalled ⟦<dyn Advisor as Advisor>⟧ (λ b. b.vtable) (λ b. state b) advisors.old.items advisors.new.items }
 {
     let problem = read_problem(alloc, View::AsRequested, words, shelf)?;
     let answer = answer_to(alloc, &problem, &trial_limits(), advisors)?;
@@ -128,9 +129,7 @@ pub(crate) fn trial_report(
     requires most { trial.blocks ≤ 125 }
     requires start { trial.start < 2 ^ 31 }
     ensures tried { IfOk result (λ report. MayTrial trial.blocks trial.start report.status (bytes_in report.text)) }
-    ensures advisors { AreLeft
-        (IsCalled (λ b c. c.vtable ≡ b.vtable) (λ b. state b) (λ b. (⟦<dyn Advisor as Advisor>⟧ b.vtable).left) (λ b. (⟦<dyn Advisor as Advisor>⟧ b.vtable).after))
-        advisors.old.items advisors.new.items }
+    ensures advisors { AreCalled ⟦<dyn Advisor as Advisor>⟧ (λ b. b.vtable) (λ b. state b) advisors.old.items advisors.new.items }
 {
     let case = make_case(alloc, trial.blocks, trial.start)?;
     let mut shelf = shelf_of(alloc, &case)?;

@@ -1,5 +1,6 @@
 //! The tests of the costs and the floor of an optimal answer, each with its refusal.
-ghost use Rattle.evidence_checker.specs.declared.fault.CheckFault.TheVariants.{FalseFloor, NotOnlyCheapest, OutOfBounds, UnequalEnds, WrongGreatest, WrongPlaces};
+ghost use Rattle.evidence_checker.specs.declared.fault.CheckFault.TheVariants.{FalseFloor, NotOnlyCheapest, OutOfBounds, UnequalEnds, WrongGreatest};
+ghost use Rattle.evidence_checker.specs.declared.fault.CheckFault.TheVariants.{WrongPlaces};
 ghost use Rattle.evidence_checker.specs.Numbers.{number_of};
 ghost use Rattle.std.specs.Prelude.{◌≡◌, ℕ, ◌≤◌, [], ◌∷◌, length, All, IfOk, IfErr};
 ghost use Rattle.path_rows.specs.Answers.{Names, GivesCosts};

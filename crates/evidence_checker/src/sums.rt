@@ -1,5 +1,6 @@
 //! Weighted sums of forms, and whether they are negative over a whole box.
-ghost use Rattle.std.specs.Prelude.{◌≡◌, ◌↔◌, ℕ, ◌+◌, ◌*◌, ◌^◌, ◌<◌, ◌≤◌, ℤ, pos, ◌+ℤ◌, ◌*ℤ◌, ◌<ℤ◌, nat_abs, length, map, slice_index_or, All, Any, IsTrue, MatchBool, sum_by};
+ghost use Rattle.std.specs.Prelude.{◌≡◌, ◌↔◌, ℕ, ◌+◌, ◌*◌, ◌^◌, ◌<◌, ◌≤◌, ℤ, pos, ◌+ℤ◌, ◌*ℤ◌, ◌<ℤ◌, nat_abs, length, map, slice_index_or, All, Any, IsTrue};
+ghost use Rattle.std.specs.Prelude.{MatchBool, sum_by};
 ghost use Rattle.path_rows.specs.Boxes.{upper_sum, greatest};
 ghost use Rattle.path_rows.specs.Forms.{weighted, IsSmallForm};
 

@@ -153,7 +153,8 @@ fn put_cost_line<K: Sink>(
     out: &mut K,
 ) -> Result<(), PutFailed>
     requires { AreShort (router_lines (option_copied before) cost.now.router ++ interface_lines cost.now) }
-    ensures { IsPut (K.got out.old) (K.got out.new) (K.faults out.old) (K.faults out.new) (text_of (router_lines (option_copied before.entry) cost.now.router ++ interface_lines cost.now)) result }
+    ensures { IsPut (K.got out.old) (K.got out.new) (K.faults out.old) (K.faults out.new)
+        (text_of (router_lines (option_copied before.entry) cost.now.router ++ interface_lines cost.now)) result }
 {
     put_router(before, &cost.router, line, out)?;
     put_interface(cost, line, out)
@@ -167,7 +168,8 @@ fn put_router<K: Sink>(
     out: &mut K,
 ) -> Result<(), PutFailed>
     requires { AreShort (router_lines (option_copied before) router.now) }
-    ensures { IsPut (K.got out.old) (K.got out.new) (K.faults out.old) (K.faults out.new) (text_of (router_lines (option_copied before.entry) router.now)) result }
+    ensures { IsPut (K.got out.old) (K.got out.new) (K.faults out.old) (K.faults out.new)
+        (text_of (router_lines (option_copied before.entry) router.now)) result }
 {
     if let Some(name) = before {
         if name.as_bytes() == router.as_bytes() {
@@ -219,7 +221,8 @@ fn put_tree_part<K: Sink>(
     out: &mut K,
 ) -> Result<(), PutFailed>
     requires { AreShort (tree_lines (part_word part) (option_copied tree)) }
-    ensures { IsPut (K.got out.old) (K.got out.new) (K.faults out.old) (K.faults out.new) (text_of (tree_lines (part_word part) (option_copied tree.entry))) result }
+    ensures { IsPut (K.got out.old) (K.got out.new) (K.faults out.old) (K.faults out.new)
+        (text_of (tree_lines (part_word part) (option_copied tree.entry))) result }
 {
     match tree {
         None => {

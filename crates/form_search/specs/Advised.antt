@@ -2,6 +2,7 @@
 use Rattle.std.specs.Prelude.{◌≡◌, ℕ, ◌⊎◌, List, drop}
 use Rattle.std.specs.List.{AllZip}
 use Rattle.path_rows.specs.declared.tree.Entry.{Entry}
+use Rattle.advisor_box.specs.declared.advisor.Advisor.{Ghosts}
 use Rattle.advisor_box.specs.declared.candidate.Candidate.{Candidate}
 
 -- One call: the advisor is itself, at the state that a pick among some choices leaves, or at the one after an entry of
@@ -19,3 +20,9 @@ pub data Leads {A : Type 0} (Step : A → A → Type 0) : A → A → Type 0 whe
 pub record AreLeft {A : Type 0} (Step : A → A → Type 0) (old new : List A) : Type 0 where
   pub gone : ℕ
   pub left : AllZip (Leads Step) (drop gone old) new
+
+-- The same, each step one call. Advisors with the same rules are of one kind, and what the members of that kind are tells
+-- how a call leaves them.
+abbrev pub AreCalled : {A V : Type 0} {X : V → Type 0} → ((rules : V) → Ghosts (X rules)) → (A → V) → (A → List ℕ) → List A → List A → Type 0
+AreCalled members rules state =
+    AreLeft (IsCalled (λ b c. rules c ≡ rules b) state (λ b. (members (rules b)).left) (λ b. (members (rules b)).after))

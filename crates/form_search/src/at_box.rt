@@ -7,7 +7,7 @@ ghost use Rattle.path_rows.specs.declared.tree.Side.{Side};
 ghost use Rattle.path_rows.specs.Forms.{Form};
 ghost use Rattle.path_rows.specs.Boxes.{IsInBox, IsPointOf};
 ghost use Rattle.path_rows.specs.OpenPlaces.{first_place};
-ghost use Rattle.form_search.specs.Advised.{AreLeft, IsCalled};
+ghost use Rattle.form_search.specs.Advised.{AreCalled};
 ghost use Rattle.form_search.specs.Sources.{Grows, SameFor, SameSource};
 ghost use Rattle.form_search.specs.Points.{IsCostsBox, IsFractional, IsLeastOf, IsWholePoint};
 ghost use Rattle.form_search.specs.Turns.{IsDesk, IsNext, IsSplitAt};
@@ -76,10 +76,7 @@ fn split_there(
     requires inside { IsPointOf costs.now point.now }
     requires fractional { IsWholePoint point.now → ⊥ }
     ensures split { IfOk result (IsSplitAt costs.now point.now) }
-    ensures advisors { AreLeft
-        (IsCalled (λ b c. c.vtable ≡ b.vtable) (λ b. state b)
-        (λ b. (⟦<dyn Advisor as Advisor>⟧ b.vtable).left) (λ b. (⟦<dyn Advisor as Advisor>⟧ b.vtable).after))
-        advisors.old.items advisors.new.items }
+    ensures advisors { AreCalled ⟦<dyn Advisor as Advisor>⟧ (λ b. b.vtable) (λ b. state b) advisors.old.items advisors.new.items }
 {
     let candidates = candidates_of(alloc, point, costs, watch)?;
     let picked = choose(advisors, &candidates);
@@ -102,10 +99,7 @@ fn at_least_point<S: RowSource>(
     ensures point { point.new ≡ point.old }
     ensures in_step { SameFor (S.in_step source.old) (S.in_step source.new) }
     ensures same { SameSource S.count S.accepted S.true_form S.candidates source.old source.new }
-    ensures advisors { AreLeft
-        (IsCalled (λ b c. c.vtable ≡ b.vtable) (λ b. state b)
-        (λ b. (⟦<dyn Advisor as Advisor>⟧ b.vtable).left) (λ b. (⟦<dyn Advisor as Advisor>⟧ b.vtable).after))
-        advisors.old.items advisors.new.items }
+    ensures advisors { AreCalled ⟦<dyn Advisor as Advisor>⟧ (λ b. b.vtable) (λ b. state b) advisors.old.items advisors.new.items }
 {
     match costs_there(alloc, source, costs, point)? {
         Some(found) => Ok(Next::Costs(found)),
@@ -135,10 +129,7 @@ fn at_box<S: RowSource>(
     ensures grows { Grows (S.true_form source.old) pool.old pool.new }
     ensures in_step { OnOk result (S.in_step source.new pool.new) }
     ensures same { SameSource S.count S.accepted S.true_form S.candidates source.old source.new }
-    ensures advisors { AreLeft
-        (IsCalled (λ b c. c.vtable ≡ b.vtable) (λ b. state b)
-        (λ b. (⟦<dyn Advisor as Advisor>⟧ b.vtable).left) (λ b. (⟦<dyn Advisor as Advisor>⟧ b.vtable).after))
-        advisors.old.items advisors.new.items }
+    ensures advisors { AreCalled ⟦<dyn Advisor as Advisor>⟧ (λ b. b.vtable) (λ b. state b) advisors.old.items advisors.new.items }
 {
     match relax(
         alloc,
@@ -183,10 +174,7 @@ pub(crate) fn next_at<S: RowSource>(
     ensures grows { Grows (S.true_form source.old) pool.old pool.new }
     ensures in_step { OnOk result (S.in_step source.new pool.new) }
     ensures same { SameSource S.count S.accepted S.true_form S.candidates source.old source.new }
-    ensures advisors { AreLeft
-        (IsCalled (λ b c. c.vtable ≡ b.vtable) (λ b. state b)
-        (λ b. (⟦<dyn Advisor as Advisor>⟧ b.vtable).left) (λ b. (⟦<dyn Advisor as Advisor>⟧ b.vtable).after))
-        advisors.old.items advisors.new.items }
+    ensures advisors { AreCalled ⟦<dyn Advisor as Advisor>⟧ (λ b. b.vtable) (λ b. state b) advisors.old.items advisors.new.items }
 {
     if let Some(entry) = propagated(alloc, pool, tree, &mut desk.watch)? {
         return Ok(Next::Entry(entry));

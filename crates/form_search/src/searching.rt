@@ -5,7 +5,7 @@ ghost use Rattle.path_rows.specs.Forms.{Form};
 ghost use Rattle.path_rows.specs.Boxes.{IsBox};
 ghost use Rattle.path_rows.specs.Trees.{IsWholeTree, SoundAt};
 ghost use Rattle.path_rows.specs.OpenPlaces.{first_place, fresh, grown, undones};
-ghost use Rattle.form_search.specs.Advised.{AreLeft, IsCalled};
+ghost use Rattle.form_search.specs.Advised.{AreCalled};
 ghost use Rattle.form_search.specs.Finds.{IsFound};
 ghost use Rattle.form_search.specs.Points.{IsCostsBox};
 ghost use Rattle.form_search.specs.Sources.{Grows, SameSource};
@@ -62,10 +62,7 @@ fn turn(
     requires sound { IsSoundNext (first_place tree.places).box next }
     requires whole { IsWholeTree (tree.entries ++ undones (length tree.places)) }
     ensures outcome { IfOk result (λ outcome. outcome ≡ turned nodes tree next) }
-    ensures advisors { AreLeft
-        (IsCalled (λ b c. c.vtable ≡ b.vtable) (λ b. state b)
-        (λ b. (⟦<dyn Advisor as Advisor>⟧ b.vtable).left) (λ b. (⟦<dyn Advisor as Advisor>⟧ b.vtable).after))
-        advisors.old.items advisors.new.items }
+    ensures advisors { AreCalled ⟦<dyn Advisor as Advisor>⟧ (λ b. b.vtable) (λ b. state b) advisors.old.items advisors.new.items }
 {
     match next {
         Next::Forms => Ok(ControlFlow::Continue(tree)),
@@ -106,10 +103,7 @@ pub fn search<S: RowSource>(
     ensures grows { Grows (S.true_form source.old) pool.old pool.new }
     ensures in_step { OnOk result (S.in_step source.new pool.new) }
     ensures same { SameSource S.count S.accepted S.true_form S.candidates source.old source.new }
-    ensures advisors { AreLeft
-        (IsCalled (λ b c. c.vtable ≡ b.vtable) (λ b. state b)
-        (λ b. (⟦<dyn Advisor as Advisor>⟧ b.vtable).left) (λ b. (⟦<dyn Advisor as Advisor>⟧ b.vtable).after))
-        advisors.old.items advisors.new.items }
+    ensures advisors { AreCalled ⟦<dyn Advisor as Advisor>⟧ (λ b. b.vtable) (λ b. state b) advisors.old.items advisors.new.items }
 {
     let mut tree = first_tree(alloc, source.variables(), costs)?;
     let mut desk = Desk::start(alloc, costs)?;

@@ -160,7 +160,8 @@ pub fn read_problem<'a, S: Shelf>(
     shelf: &mut S,
 ) -> Result<Problem, Stop<'a>>
     ensures present { IfOk result (λ p. view ≡ View.AtPresent → p.low ≡ []) }
-    ensures read { Gave (S.gave shelf.old shelf.new) (λ came. IsReadAs (outcome view (files_named words.entry)) came (λ p d. (d.problem ≡ p) × IsDatabase d.database) result) }
+    ensures read { Gave (S.gave shelf.old shelf.new)
+        (λ came. IsReadAs (outcome view (files_named words.entry)) came (λ p d. (d.problem ≡ p) × IsDatabase d.database) result) }
 {
     let network = read_network(alloc, view, words, shelf)?;
     Ok(network.problem)

@@ -180,7 +180,8 @@ pub(crate) fn read_configs<'a, S: Shelf>(
     shelf: &mut S,
     names: &'a [String],
 ) -> Result<Vec<RouterConfig>, Stop<'a>>
-    ensures { Gave (S.gave shelf.old shelf.new) (λ came. IsReadAs (configs_read (texts names.now)) came (λ configs files. configs.items ≡ routers_of files) result) }
+    ensures { Gave (S.gave shelf.old shelf.new) (λ came. IsReadAs (configs_read (texts names.now)) came
+        (λ configs files. configs.items ≡ routers_of files) result) }
 {
     let mut configs = Vec::new(alloc);
     for name in names {

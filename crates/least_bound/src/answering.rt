@@ -125,8 +125,10 @@ fn undecided(
     requires pool { IsPool problem.now pool }
     requires from_floor { greatest_cost problem.now.low ≤ unfinished.cap }
     requires costs { CostsFound problem.now unfinished.cap (option_copied costs) }
-    requires trees { (top : ℕ) × (nodes : ℕ) × (nodes ≤ 10000000) × IsKeptBelow problem.now top nodes pool unfinished.cap kept × IsSpent problem.now top nodes pool unfinished }
-    ensures { (top nodes : ℕ) → IsKeptBelow problem.now top nodes pool unfinished.cap kept → IsSpent problem.now top nodes pool unfinished → IfOk result (IsAnswered problem.now top nodes) }
+    requires trees { (top : ℕ) × (nodes : ℕ) × (nodes ≤ 10000000) × IsKeptBelow problem.now top nodes pool unfinished.cap kept ×
+        IsSpent problem.now top nodes pool unfinished }
+    ensures { (top nodes : ℕ) → IsKeptBelow problem.now top nodes pool unfinished.cap kept → IsSpent problem.now top nodes pool unfinished →
+        IfOk result (IsAnswered problem.now top nodes) }
 {
     keeps_problem(problem);
     let cap = cap_of(&unfinished);

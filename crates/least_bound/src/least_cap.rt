@@ -1,6 +1,6 @@
 //! The least cap.
-ghost use Rattle.std.specs.Prelude.{◌≡◌, ℕ, ◌≤◌, IfOk};
-ghost use Rattle.form_search.specs.Advised.{AreLeft, IsCalled};
+ghost use Rattle.std.specs.Prelude.{ℕ, ◌≤◌, IfOk};
+ghost use Rattle.form_search.specs.Advised.{AreCalled};
 ghost use Rattle.cost_branching.specs.Pools.{IsPool};
 ghost use Rattle.least_bound.specs.Answered.{IsAnswered};
 ghost use Rattle.least_bound.specs.Caps.{IsProgress};
@@ -28,9 +28,7 @@ fn narrowed(
     requires pool { IsPool problem.now pool }
     requires progress { IsProgress problem.now limits.now.top limits.now.nodes pool progress }
     ensures answered { IfOk result (IsAnswered problem.now limits.now.top limits.now.nodes) }
-    ensures advisors { AreLeft
-        (IsCalled (λ b c. c.vtable ≡ b.vtable) (λ b. state b) (λ b. (⟦<dyn Advisor as Advisor>⟧ b.vtable).left) (λ b. (⟦<dyn Advisor as Advisor>⟧ b.vtable).after))
-        advisors.old.items advisors.new.items }
+    ensures advisors { AreCalled ⟦<dyn Advisor as Advisor>⟧ (λ b. b.vtable) (λ b. state b) advisors.old.items advisors.new.items }
 {
     keeps_problem(problem);
     let mut pool = pool;
@@ -59,9 +57,7 @@ pub fn least(
     advisors: &mut Vec<Box<dyn Advisor>>,
 ) -> Result<Answer, OutOfMemory>
     ensures answered { IfOk result (IsAnswered problem.now limits.now.top limits.now.nodes) }
-    ensures advisors { AreLeft
-        (IsCalled (λ b c. c.vtable ≡ b.vtable) (λ b. state b) (λ b. (⟦<dyn Advisor as Advisor>⟧ b.vtable).left) (λ b. (⟦<dyn Advisor as Advisor>⟧ b.vtable).after))
-        advisors.old.items advisors.new.items }
+    ensures advisors { AreCalled ⟦<dyn Advisor as Advisor>⟧ (λ b. b.vtable) (λ b. state b) advisors.old.items advisors.new.items }
 {
     keeps_problem(problem);
     let ceiling = greatest_of(problem.high.as_slice());

@@ -116,7 +116,8 @@ impl Progress {
         ensures holds { (p : DesignProblem) (top nodes : ℕ) (old new : Pooled) →
             IsProblem p → IsPool p new → MoreRows old new → IsProgress p top nodes old self → IsDecided p top nodes cap new found →
             IsProgress p top nodes new result }
-        ensures nearer { (p : DesignProblem) (top nodes : ℕ) (pool : Pooled) → IsDecided p top nodes cap pool found → result.most + self.least < self.most + result.least }
+        ensures nearer { (p : DesignProblem) (top nodes : ℕ) (pool : Pooled) → IsDecided p top nodes cap pool found →
+            result.most + self.least < self.most + result.least }
     {
         let Progress {
             floor,

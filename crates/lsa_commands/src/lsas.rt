@@ -33,7 +33,8 @@ fn stop_of_id(found: IdFault, words: FileWords<'_>) -> Stop<'_>
 /// Tests that each configuration has a router ID of its own.
 fn check_router_ids<'a>(configs: &[RouterConfig], words: FileWords<'a>) -> Result<(), Stop<'a>>
     requires { length configs.now < 2 ^ 32 }
-    ensures { (d : Input) → routers_of d.files ≡ configs.now → IsReadAs (if_identified (files_named words.entry) d (first_id_fault [] 0 configs.now)) [] (λ _ said. said ≡ d) result }
+    ensures { (d : Input) → routers_of d.files ≡ configs.now →
+        IsReadAs (if_identified (files_named words.entry) d (first_id_fault [] 0 configs.now)) [] (λ _ said. said ≡ d) result }
 {
     match check_ids(configs) {
         None => Ok(()),
@@ -81,7 +82,8 @@ pub fn lsas_report<'a, S: Shelf>(
     words: FileWords<'a>,
     shelf: &mut S,
 ) -> Result<Report, Stop<'a>>
-    ensures { Gave (S.gave shelf.old shelf.new) (λ came. IsReadAs (identified_read (files_named words.entry)) came (λ report d. MayLsas d report.status (bytes_in report.text)) result) }
+    ensures { Gave (S.gave shelf.old shelf.new) (λ came. IsReadAs (identified_read (files_named words.entry)) came
+        (λ report d. MayLsas d report.status (bytes_in report.text)) result) }
 {
     let network = read_network(alloc, View::AtPresent, words, shelf)?;
     check_router_ids(&network.configs, words)?;

@@ -148,7 +148,8 @@ pub fn route_report<'a, S: Shelf>(
     to: u32,
     shelf: &mut S,
 ) -> Result<Report, Stop<'a>>
-    ensures { Gave (S.gave shelf.old shelf.new) (λ came. IsReadAs (route_read lsas.now from to) came (λ report said. MayRoute from to said report.status (bytes_in report.text)) result) }
+    ensures { Gave (S.gave shelf.old shelf.new) (λ came. IsReadAs (route_read lsas.now from to) came
+        (λ report said. MayRoute from to said report.status (bytes_in report.text)) result) }
 {
     let database = read_database(alloc, shelf, lsas)?;
     check_router(database.as_slice(), from, lsas, 0)?;

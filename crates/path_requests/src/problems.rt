@@ -95,7 +95,12 @@ fn push_name(
     requires few { length own.now < 2 ^ 32 }
     requires own { own.now ≡ owners choices.now.asked choices.now.database }
     requires there { slice_get choices.now.database.links number ≡ Some link.now }
-    ensures { OnOk result (made.new.items ≡ made.old.items ++ (if is_free (range_of choices.now.asked choices.now.database link.now) then record { router = slice_index_or choices.now.database.routers link.now.router []; interface = link.now.interface; var = variable_of choices.now.asked choices.now.database number } ∷ [] else [])) }
+    ensures { OnOk result (made.new.items ≡ made.old.items ++ (if is_free (range_of choices.now.asked choices.now.database link.now) then
+        record {
+          router = slice_index_or choices.now.database.routers link.now.router [];
+          interface = link.now.interface;
+          var = variable_of choices.now.asked choices.now.database number;
+        } ∷ [] else [])) }
 {
     if is_free(choices.range_of(number)) {
         let var = variable_of(choices, own, number, link);

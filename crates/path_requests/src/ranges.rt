@@ -52,7 +52,8 @@ fn decide(
     range: Range,
     decided: &mut Vec<Option<Range>>,
 )
-    ensures { (f : LinkValue → Option Range) → decided.old.items ≡ map f names.now.links → decided.new.items ≡ map (λ link. option_or (f link) (if is_named names.now router.now interface.now link then Some range else None)) names.now.links }
+    ensures { (f : LinkValue → Option Range) → decided.old.items ≡ map f names.now.links →
+        decided.new.items ≡ map (λ link. option_or (f link) (if is_named names.now router.now interface.now link then Some range else None)) names.now.links }
 {
     match names.find_interface(router, interface) {
         Some(link) => {
@@ -67,7 +68,8 @@ fn decide(
 
 /// Decides the range of the link that a line names, if it is undecided.
 fn decide_named(names: &Names, wish: &Wish, decided: &mut Vec<Option<Range>>)
-    ensures { (f : LinkValue → Option Range) → decided.old.items ≡ map f names.now.links → decided.new.items ≡ map (λ link. option_or (f link) (said_of_one names.now link wish.now)) names.now.links }
+    ensures { (f : LinkValue → Option Range) → decided.old.items ≡ map f names.now.links →
+        decided.new.items ≡ map (λ link. option_or (f link) (said_of_one names.now link wish.now)) names.now.links }
 {
     match wish {
         Wish::Free(router, interface, low, high) => {

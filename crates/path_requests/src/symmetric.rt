@@ -49,7 +49,8 @@ fn tied_by_all(alloc: Global, names: &Names, all: bool) -> Result<Vec<bool>, Out
 
 /// Marks the link of an interface.
 fn mark(names: &Names, router: &[u8], interface: &[u8], marks: &mut Vec<bool>)
-    ensures { (f : LinkValue → Bool) → marks.old.items ≡ map f names.now.links → marks.new.items ≡ map (λ link. f link || is_named names.now router.now interface.now link) names.now.links }
+    ensures { (f : LinkValue → Bool) → marks.old.items ≡ map f names.now.links →
+        marks.new.items ≡ map (λ link. f link || is_named names.now router.now interface.now link) names.now.links }
 {
     match names.find_interface(router, interface) {
         Some(link) => {
@@ -64,7 +65,8 @@ fn mark(names: &Names, router: &[u8], interface: &[u8], marks: &mut Vec<bool>)
 
 /// Marks the link that a line names as symmetric.
 fn mark_named(names: &Names, wish: &Wish, marks: &mut Vec<bool>)
-    ensures { (f : LinkValue → Bool) → marks.old.items ≡ map f names.now.links → marks.new.items ≡ map (λ link. f link || ties_one names.now link wish.now) names.now.links }
+    ensures { (f : LinkValue → Bool) → marks.old.items ≡ map f names.now.links →
+        marks.new.items ≡ map (λ link. f link || ties_one names.now link wish.now) names.now.links }
 {
     if let Wish::Symmetric(router, interface) = wish {
         mark(names, router.as_bytes(), interface.as_bytes(), marks);
@@ -73,7 +75,8 @@ fn mark_named(names: &Names, wish: &Wish, marks: &mut Vec<bool>)
 
 /// Marks the links that lines name as symmetric.
 fn mark_lines(names: &Names, items: &[Item], marks: &mut Vec<bool>)
-    ensures { (f : LinkValue → Bool) → marks.old.items ≡ map f names.now.links → marks.new.items ≡ map (λ link. f link || list_any (λ item. ties_one names.now link item.what) items.now) names.now.links }
+    ensures { (f : LinkValue → Bool) → marks.old.items ≡ map f names.now.links →
+        marks.new.items ≡ map (λ link. f link || list_any (λ item. ties_one names.now link item.what) items.now) names.now.links }
 {
     for item in items {
         mark_named(names, &item.what, marks);

@@ -59,7 +59,8 @@ fn high_of(range: Range) -> u16
 /// Whether a link has a variable of its own.
 fn is_own(choices: &Choices, number: u32, link: &Linked) -> bool
     requires { slice_get choices.now.database.links number ≡ Some link.now }
-    ensures { result ≡ (is_free (range_of choices.now.asked choices.now.database link.now) && owner_at choices.now.asked choices.now.database number (Some link.now) == number) }
+    ensures { result ≡ (is_free (range_of choices.now.asked choices.now.database link.now) &&
+        owner_at choices.now.asked choices.now.database number (Some link.now) == number) }
 {
     let free = is_free(choices.range_of(number));
     free && owner(choices, number, link) == number
@@ -94,7 +95,8 @@ pub fn own_links(alloc: Global, choices: &Choices) -> Result<Vec<u32>, OutOfMemo
 
 /// Appends the lower bound of the link of a number.
 fn push_low(choices: &Choices, number: u32, made: &mut Vec<u16>) -> Result<(), OutOfMemory>
-    ensures { OnOk result (made.new.items ≡ made.old.items ++ map low_of (option_to_list (range_at choices.now.asked choices.now.database (slice_get choices.now.database.links number)))) }
+    ensures { OnOk result (made.new.items ≡ made.old.items ++
+        map low_of (option_to_list (range_at choices.now.asked choices.now.database (slice_get choices.now.database.links number)))) }
 {
     match choices.range_at(number) {
         Some(range) => Ok(made.push(low_of(range))?),
@@ -104,7 +106,8 @@ fn push_low(choices: &Choices, number: u32, made: &mut Vec<u16>) -> Result<(), O
 
 /// Appends the upper bound of the link of a number.
 fn push_high(choices: &Choices, number: u32, made: &mut Vec<u16>) -> Result<(), OutOfMemory>
-    ensures { OnOk result (made.new.items ≡ made.old.items ++ map high_of (option_to_list (range_at choices.now.asked choices.now.database (slice_get choices.now.database.links number)))) }
+    ensures { OnOk result (made.new.items ≡ made.old.items ++
+        map high_of (option_to_list (range_at choices.now.asked choices.now.database (slice_get choices.now.database.links number)))) }
 {
     match choices.range_at(number) {
         Some(range) => Ok(made.push(high_of(range))?),
@@ -114,7 +117,8 @@ fn push_high(choices: &Choices, number: u32, made: &mut Vec<u16>) -> Result<(), 
 
 /// The lower bounds of some links.
 pub fn low_bounds(alloc: Global, choices: &Choices, own: &[u32]) -> Result<Vec<u16>, OutOfMemory>
-    ensures { IfOk result (λ made. made.items ≡ map low_of (filter_map (λ l. range_at choices.now.asked choices.now.database (slice_get choices.now.database.links l)) own.now)) }
+    ensures { IfOk result (λ made. made.items ≡
+        map low_of (filter_map (λ l. range_at choices.now.asked choices.now.database (slice_get choices.now.database.links l)) own.now)) }
 {
     let mut made = Vec::new(alloc);
     for link in own {
@@ -125,7 +129,8 @@ pub fn low_bounds(alloc: Global, choices: &Choices, own: &[u32]) -> Result<Vec<u
 
 /// The upper bounds of some links.
 pub fn high_bounds(alloc: Global, choices: &Choices, own: &[u32]) -> Result<Vec<u16>, OutOfMemory>
-    ensures { IfOk result (λ made. made.items ≡ map high_of (filter_map (λ l. range_at choices.now.asked choices.now.database (slice_get choices.now.database.links l)) own.now)) }
+    ensures { IfOk result (λ made. made.items ≡
+        map high_of (filter_map (λ l. range_at choices.now.asked choices.now.database (slice_get choices.now.database.links l)) own.now)) }
 {
     let mut made = Vec::new(alloc);
     for link in own {

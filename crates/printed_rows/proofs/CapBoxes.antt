@@ -3,7 +3,7 @@ use Rattle.std.proofs.Common.{ℕ, ◌≤◌, refl, sym, ◌∙◌, List, length
 use Rattle.std.specs.Prelude.{All}
 use Rattle.std.proofs.lemmas.List.{length-map, get_or-map, get_or_default}
 use Rattle.path_rows.specs.Problems.{DesignProblem, IsProblem}
-use Rattle.path_rows.specs.Boxes.{capped}
+use Rattle.path_rows.specs.Boxes.{IsBox, capped}
 use Rattle.path_rows.specs.Rows.{box_of, greatest_cost}
 use Rattle.path_rows.specs.Answers.{greatest_bound}
 use Rattle.path_rows.proofs.ProblemTrees.{le_greatest}
@@ -24,19 +24,27 @@ floor_below_ceiling p kept = greatest-le p.low (greatest_bound p) (λ k k_in.
     let most = le_greatest p.high k (omega (arith, kept.low_count)) in
     omega arith)
 
+-- the box at a cap that is below no lower bound
+pub capped_box : (p : DesignProblem) (cap : ℕ) → IsProblem p → All (λ low. low ≤ cap) p.low → IsBox (length p.low) (capped (box_of p) cap)
+capped_box p cap kept most = record {
+  low_count = refl;
+  high_count = length-map p.high (λ h. min h cap) ∙ sym kept.low_count;
+  ordered = λ k k_in.
+      let cut = get_or-map (λ h. min h cap) p.high k 0 0 (omega (arith, kept.low_count)) in
+      let low = most k 0 k_in in
+      let ordered = (kept.ordered k k_in).1 in
+      omega arith;
+}
+
+-- the box at the greatest upper bound
+pub bounds_box : (p : DesignProblem) → IsProblem p → IsBox (length p.low) (capped (box_of p) (greatest_bound p))
+bounds_box p kept = capped_box p (greatest_bound p) kept (no_low_above p.low (greatest_bound p) (floor_below_ceiling p kept))
+
 -- the box at a cap has bounds of costs
 pub cost_bounds : (p : DesignProblem) (cap : ℕ) → IsProblem p → greatest_cost p.low ≤ cap → cap ≤ 65535 → IsCostBounds (length p.low) (capped (box_of p) cap)
 cost_bounds p cap kept from small = record {
   few = kept.var_count;
-  is_box = record {
-    low_count = refl;
-    high_count = length-map p.high (λ h. min h cap) ∙ sym kept.low_count;
-    ordered = λ k k_in.
-        let cut = get_or-map (λ h. min h cap) p.high k 0 0 (omega (arith, kept.low_count)) in
-        let low = no_low_above p.low cap from k 0 k_in in
-        let ordered = (kept.ordered k k_in).1 in
-        omega arith;
-  };
+  is_box = capped_box p cap kept (no_low_above p.low cap from);
   most = λ k k_in.
       let cut = get_or-map (λ h. min h cap) p.high k 0 0 (omega (arith, length-map p.high (λ h. min h cap))) in
       omega arith;

@@ -1,4 +1,6 @@
 //! An advisor that tells how far a search is.
+ghost use Rattle.std.specs.Prelude.{◌≡◌, IfSome};
+
 use advisor_box::{Advisor, Candidate};
 use path_rows::Entry;
 use std::io::Eprint;
@@ -25,7 +27,11 @@ pub struct Progress<R> {
 impl<R: Clock + Eprint + Drop> Progress<R> {
     /// Begins now. The first line comes after `pause` seconds, and each further one at least so long after the one before
     /// it; `budget` is how many entries a tree may have. None where the clock can't be read.
-    pub fn begin(runtime: R, budget: u64, pause: u64) -> Option<Progress<R>> {
+    pub fn begin(runtime: R, budget: u64, pause: u64) -> Option<Progress<R>>
+        ensures told { IfSome result (λ begun. begun.entries ≡ 0) }
+        ensures due { IfSome result (λ begun. (begun.due ≡ pause) × (begun.pause ≡ pause)) }
+        ensures budget { IfSome result (λ begun. begun.budget ≡ budget) }
+    {
         let begun = Instant::now(&runtime).ok()?;
         Some(Progress {
             runtime,

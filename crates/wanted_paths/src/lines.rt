@@ -90,7 +90,8 @@ pub fn resolve_lines(
     items: &[Item],
 ) -> Result<Vec<Request>, ResolutionStop>
     requires { graph.now ≡ outline names.now }
-    ensures made { IfOk result (λ made. (line_faults names.now items.now ≡ []) × (made.items ≡ filter_map (λ item. request_of names.now (outline names.now) item.what) items.now)) }
+    ensures made { IfOk result (λ made. (line_faults names.now items.now ≡ []) ×
+        (made.items ≡ filter_map (λ item. request_of names.now (outline names.now) item.what) items.now)) }
     ensures refused { IfErr result (TellsResolution (first_of (line_faults names.now items.now))) }
 {
     let mut marks = match vec![in alloc; false; graph.edges().len()] {

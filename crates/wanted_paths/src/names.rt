@@ -120,7 +120,8 @@ impl<'a> Names<'a> {
     /// The number of the router of a name.
     fn find_router(&self, name: &[u8]) -> Option<u32>
         ensures base { IsDatabase self.now }
-        ensures found { MatchOption result (knows_router self.now name.now ≡ false) (λ r. (knows_router self.now name.now ≡ true) × (r ≡ router_number self.now name.now)) }
+        ensures found { MatchOption result (knows_router self.now name.now ≡ false)
+            (λ r. (knows_router self.now name.now ≡ true) × (r ≡ router_number self.now name.now)) }
     {
         match self.routers.get_index_of(name) {
             Some(place) => Some(place as u32),
@@ -130,7 +131,9 @@ impl<'a> Names<'a> {
 
     /// The number of the link of an interface, by the number of its router.
     fn find_link(&self, router: u32, interface: &[u8]) -> Option<u32>
-        ensures { (name : List ℕ) → knows_router self.now name ≡ true → router ≡ router_number self.now name → MatchOption result (knows_link self.now name interface.now ≡ false) (λ l. (knows_link self.now name interface.now ≡ true) × (l ≡ link_number self.now name interface.now)) }
+        ensures { (name : List ℕ) → knows_router self.now name ≡ true → router ≡ router_number self.now name →
+            MatchOption result (knows_link self.now name interface.now ≡ false)
+            (λ l. (knows_link self.now name interface.now ≡ true) × (l ≡ link_number self.now name interface.now)) }
     {
         match self.links.get_index_of(&(router, interface)) {
             Some(place) => Some(place as u32),
@@ -148,7 +151,8 @@ impl<'a> Names<'a> {
     /// The number of the link of an interface, by the name of its router.
     pub fn find_interface(&self, router: &[u8], interface: &[u8]) -> Option<u32>
         ensures base { IsDatabase self.now }
-        ensures found { MatchOption result (knows_link self.now router.now interface.now ≡ false) (λ l. (knows_link self.now router.now interface.now ≡ true) × (l ≡ link_number self.now router.now interface.now)) }
+        ensures found { MatchOption result (knows_link self.now router.now interface.now ≡ false)
+            (λ l. (knows_link self.now router.now interface.now ≡ true) × (l ≡ link_number self.now router.now interface.now)) }
     {
         match self.find_router(router) {
             Some(number) => self.find_link(number, interface),

@@ -20,7 +20,8 @@ use std::alloc::Global;
 
 /// Whether the start of a walk is taken away, or one of its edges is marked.
 fn is_gone(route: &Hops, walk: &Walk, parts: &[Part], marks: &[bool]) -> bool
-    ensures { result ≡ (list_any (is_router_part (next_name route.now.hops route.now.last)) parts.now || list_any (λ e. slice_index_or marks.now e false) walk.now.path.edges) }
+    ensures { result ≡ (list_any (is_router_part (next_name route.now.hops route.now.last)) parts.now ||
+        list_any (λ e. slice_index_or marks.now e false) walk.now.path.edges) }
 {
     let start = next_name(route.as_slice(), route.last().as_bytes());
     has_router(start, parts) || has_marked(marks, walk.path.edges.as_slice())
@@ -42,7 +43,8 @@ fn resolve_without(
     requires marks { length marks.old.items ≡ length graph.now.edges }
     requires walk { IsWalk names.now route.now walk.now }
     requires walks { walk_faults names.now line route.now ≡ [] }
-    ensures made { IfOk result (λ gone. (without_faults names.now line route.now parts.now ≡ []) × (gone.items ≡ gone_edges names.now (outline names.now) parts.now)) }
+    ensures made { IfOk result (λ gone. (without_faults names.now line route.now parts.now ≡ []) ×
+        (gone.items ≡ gone_edges names.now (outline names.now) parts.now)) }
     ensures refused { IfErr result (TellsResolution (first_of (without_faults names.now line route.now parts.now))) }
     ensures marks { length marks.new.items ≡ length graph.now.edges }
 {
@@ -69,7 +71,8 @@ pub fn resolve_path(
 ) -> Result<Request, ResolutionStop>
     requires graph { graph.now ≡ outline names.now }
     requires marks { length marks.old.items ≡ length graph.now.edges }
-    ensures made { IfOk result (λ request. (path_faults names.now line route.now parts.now ≡ []) × (request_of names.now (outline names.now) (WantedPath route.now parts.now) ≡ Some request)) }
+    ensures made { IfOk result (λ request. (path_faults names.now line route.now parts.now ≡ []) ×
+        (request_of names.now (outline names.now) (WantedPath route.now parts.now) ≡ Some request)) }
     ensures refused { IfErr result (TellsResolution (first_of (path_faults names.now line route.now parts.now))) }
     ensures marks { length marks.new.items ≡ length graph.now.edges }
 {

@@ -1,5 +1,6 @@
 //! Resolves the hops of a wanted path.
-ghost use Rattle.std.specs.Prelude.{◌≡◌, ◌↔◌, ◌+◌, ◌<◌, ◌==◌, ◌++◌, [], Some, false, Option, filter, length, slice_get, slice_index_or, IfOk, IfErr, OnOk, IsTrue};
+ghost use Rattle.std.specs.Prelude.{◌≡◌, ◌↔◌, ◌+◌, ◌<◌, ◌==◌, ◌++◌, [], Some, false, Option, filter, length, slice_get, slice_index_or, IfOk, IfErr, OnOk};
+ghost use Rattle.std.specs.Prelude.{IsTrue};
 ghost use Rattle.std.specs.List.{list_any};
 ghost use Rattle.cost_base.specs.Lists.{first_of};
 ghost use Rattle.area_graph.specs.Area.{edge_at};
@@ -180,7 +181,8 @@ fn push_hop(
     edges: &mut Vec<u32>,
 ) -> Result<(), OutOfMemory>
     requires { graph.now ≡ outline names.now }
-    ensures { OnOk result (edges.new.items ≡ edges.old.items ++ hop_edges names.now graph.now (link_number names.now hop.now.0 hop.now.1) (slice_get names.now.links (link_number names.now hop.now.0 hop.now.1)) (router_number names.now next.now)) }
+    ensures { OnOk result (edges.new.items ≡ edges.old.items ++ hop_edges names.now graph.now (link_number names.now hop.now.0 hop.now.1)
+        (slice_get names.now.links (link_number names.now hop.now.0 hop.now.1)) (router_number names.now next.now)) }
 {
     let number = names.link_number(hop.0.as_bytes(), hop.1.as_bytes());
     match names.links().get(number as usize) {

@@ -6,7 +6,7 @@ ghost use Rattle.input_files.specs.Outcomes.{outcome};
 ghost use Rattle.input_files.specs.Stops.{IsReadAs, files_named};
 ghost use Rattle.report_writer.specs.Reports.{Reports, bytes_in};
 ghost use Rattle.conflict_core.specs.Conflicts.{IsConflictFound};
-ghost use Rattle.form_search.specs.Advised.{AreLeft, IsCalled};
+ghost use Rattle.form_search.specs.Advised.{AreCalled};
 ghost use Rattle.wish_commands.specs.Conflicts.{MayConflict, conflict_text, status_of};
 
 use crate::conflict_text::text_of_conflict;
@@ -57,10 +57,10 @@ pub fn conflict_report<'a, S: Shelf>(
     advisors: &mut Vec<Box<dyn Advisor>>,
 ) -> Result<Report, Stop<'a>>
     requires itself { limits.now ≡ limits.now }
-    ensures read { Gave (S.gave shelf.old shelf.new) (λ came. IsReadAs (outcome View.AsRequested (files_named words.entry)) came (λ report d. MayConflict (bounds limits.now) d report.status (bytes_in report.text)) result) }
-    ensures advisors { AreLeft
-        (IsCalled (λ b c. c.vtable ≡ b.vtable) (λ b. state b) (λ b. (⟦<dyn Advisor as Advisor>⟧ b.vtable).left) (λ b. (⟦<dyn Advisor as Advisor>⟧ b.vtable).after))
-        advisors.old.items advisors.new.items }
+    ensures read { Gave (S.gave shelf.old shelf.new)
+        (λ came. IsReadAs (outcome View.AsRequested (files_named words.entry)) came
+        (λ report d. MayConflict (bounds limits.now) d report.status (bytes_in report.text)) result) }
+    ensures advisors { AreCalled ⟦<dyn Advisor as Advisor>⟧ (λ b. b.vtable) (λ b. state b) advisors.old.items advisors.new.items }
 {
     let problem = read_problem(alloc, View::AsRequested, words, shelf)?;
     let conflict = find_conflict(alloc, &problem, limits, advisors)?;

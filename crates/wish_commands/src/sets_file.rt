@@ -39,7 +39,8 @@ pub(crate) fn read_sets_file<'a, S: Shelf>(
     name: &'a str,
     problem: &Problem,
 ) -> Result<Sets, Stop<'a>>
-    ensures read { Gave (S.gave shelf.old shelf.new) (λ came. IsReadAs (sets_read name.now problem.now) came (λ sets sharing. (sharing.problem ≡ problem.now) × AreSetsIn sets sharing) result) }
+    ensures read { Gave (S.gave shelf.old shelf.new)
+        (λ came. IsReadAs (sets_read name.now problem.now) came (λ sets sharing. (sharing.problem ≡ problem.now) × AreSetsIn sets sharing) result) }
     ensures lawful { IfOk result (AreSetsOf problem.now) }
 {
     let bytes = read_file(alloc, shelf, name, LONGEST_SETS)?;

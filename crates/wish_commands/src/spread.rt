@@ -52,7 +52,8 @@ pub fn spread_report<'a, S: Shelf>(
     limits: &Limits,
     shelf: &mut S,
 ) -> Result<Report, Stop<'a>>
-    ensures { Gave (S.gave shelf.old shelf.new) (λ came. IsReadAs (spread_read (files_named words.entry) sets.now) came (λ report sharing. MaySpread (bounds limits.now) sharing report.status (bytes_in report.text)) result) }
+    ensures { Gave (S.gave shelf.old shelf.new) (λ came. IsReadAs (spread_read (files_named words.entry) sets.now) came
+        (λ report sharing. MaySpread (bounds limits.now) sharing report.status (bytes_in report.text)) result) }
 {
     let problem = read_problem(alloc, View::AsRequested, words, shelf)?;
     let sets = read_sets_file(alloc, shelf, sets, &problem)?;

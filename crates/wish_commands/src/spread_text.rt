@@ -100,7 +100,8 @@ fn push_trees(
 ) -> Result<(), OutOfMemory>
     requires proof { AreShort (tree_lines (codes "proof") (option_copied proof)) }
     requires unfinished { AreShort (tree_lines (codes "open") (option_copied unfinished)) }
-    ensures { OnOk result (text.new.items ≡ ((text.old.items ++ text_of (tree_lines (codes "proof") (option_copied proof.entry))) ++ text_of (tree_lines (codes "open") (option_copied unfinished.entry))) ++ text_of (codes "end" ∷ [])) }
+    ensures { OnOk result (text.new.items ≡ ((text.old.items ++ text_of (tree_lines (codes "proof") (option_copied proof.entry))) ++
+        text_of (tree_lines (codes "open") (option_copied unfinished.entry))) ++ text_of (codes "end" ∷ [])) }
 {
     push_tree(alloc, text, TreePart::Proof, proof)?;
     push_tree(alloc, text, TreePart::Unfinished, unfinished)?;
@@ -119,7 +120,8 @@ fn text_of_parts(
     requires costs { AreShort (costs_lines (option_copied costs)) }
     requires proof { AreShort (tree_lines (codes "proof") (option_copied proof)) }
     requires unfinished { AreShort (tree_lines (codes "open") (option_copied unfinished)) }
-    ensures { IfOk result (λ text. text.items ≡ text_of (spread_lines verdict.now (option_copied costs.entry) rows.now (option_copied proof.entry) (option_copied unfinished.entry))) }
+    ensures { IfOk result (λ text. text.items ≡
+        text_of (spread_lines verdict.now (option_copied costs.entry) rows.now (option_copied proof.entry) (option_copied unfinished.entry))) }
 {
     let mut text = head_of(alloc, verdict)?;
     push_costs(alloc, &mut text, costs)?;

@@ -1,5 +1,5 @@
 -- The problem was read, then the answer's file, and its bytes were judged.
-use Rattle.std.proofs.Common.{◌≡◌, ℕ, List, ◌++◌, ◌∙◌, sym, subst}
+use Rattle.std.proofs.Common.{◌≡◌, ℕ, List, ◌∙◌, sym, subst}
 use Rattle.std.proofs.lemmas.Result.{err_from_is_err_and}
 use Rattle.path_rows.specs.Problems.{DesignProblem}
 use Rattle.input_files.specs.declared.problem.View.TheVariants.{AsRequested}
@@ -11,7 +11,7 @@ use Rattle.input_files.specs.Stops.{files_named}
 use Rattle.input_files.proofs.Problems.{IsProblemOf}
 use Rattle.input_files.proofs.Stops.{gave_stop}
 use Rattle.answer_commands.specs.Checks.{Claim, IsJudged}
-use Rattle.answer_commands.proofs.AnswerFiles.{second_stops, pair_made}
+use Rattle.answer_commands.proofs.AnswerFiles.{both_came, second_stops, pair_made}
 use Rattle.answer_commands.proofs.check.check_files.Goals as goal
 
 abbrev claim_of : Input → List ℕ → Claim
@@ -47,7 +47,5 @@ returns-in_err-judge g c =
     let a = c.args.shelf.now in
     let b = c.read_problem.new.shelf in
     let d = c.read_answer_file.new.shelf in
-    let first = c.in_ok-problem.ensures.read in
-    let later = c.in_ok-bytes.ensures.read in
     let p = err_from_is_err_and c.from_residual-in_err-judge.result c.from_residual-in_err-judge.ensures.1 in
-    rw (p.1, p.2) (record { came = first.came ++ later.came; given = g.met.S.Shelf.gave_more a b d first.came later.came first.given later.given; so = tt })
+    rw (p.1, p.2) (both_came (g.S.Shelf.gave a b) (g.S.Shelf.gave b d) (g.S.Shelf.gave a d) (g.met.S.Shelf.gave_more a b d) c.in_ok-problem.ensures.read c.in_ok-bytes.ensures.read)

@@ -1,5 +1,5 @@
 -- The configuration was read, then the answer's file, and the configuration was rewritten.
-use Rattle.std.proofs.Common.{◌≡◌, ℕ, List, ◌++◌, ◌∙◌, subst}
+use Rattle.std.proofs.Common.{◌≡◌, ℕ, List, ◌∙◌, subst}
 use Rattle.std.proofs.lemmas.Result.{err_from_is_err_and}
 use Rattle.std.specs.Prelude.{Vec}
 use Rattle.std.specs.declared.alloc.Global.{Global}
@@ -7,7 +7,7 @@ use Rattle.input_files.specs.Readings.{Ready, ◌>>=◌}
 use Rattle.input_files.specs.Outcomes.{ConfigFile, config_read, file_read, longest_answer}
 use Rattle.input_files.proofs.Stops.{gave_stop}
 use Rattle.answer_commands.specs.Rewrites.{Revision, IsRevised}
-use Rattle.answer_commands.proofs.AnswerFiles.{second_stops, pair_made}
+use Rattle.answer_commands.proofs.AnswerFiles.{both_came, second_stops, pair_made}
 use Rattle.answer_commands.proofs.rewrite.rewrite_files.Goals as goal
 
 abbrev revision_of : ConfigFile → List ℕ → Revision
@@ -43,7 +43,5 @@ returns-in_err-revised_by_text g c =
     let a = c.args.shelf.now in
     let b = c.read_config_text.new.shelf in
     let d = c.read_answer_file.new.shelf in
-    let first = c.in_ok-text.ensures in
-    let later = c.in_ok-bytes.ensures.read in
     let p = err_from_is_err_and c.from_residual-in_err-revised_by_text.result c.from_residual-in_err-revised_by_text.ensures.1 in
-    rw (p.1, p.2) (record { came = first.came ++ later.came; given = g.met.S.Shelf.gave_more a b d first.came later.came first.given later.given; so = tt })
+    rw (p.1, p.2) (both_came (g.S.Shelf.gave a b) (g.S.Shelf.gave b d) (g.S.Shelf.gave a d) (g.met.S.Shelf.gave_more a b d) c.in_ok-text.ensures c.in_ok-bytes.ensures.read)

@@ -1,6 +1,5 @@
 -- What comes of leaving out the next member.
-use Rattle.std.proofs.Common.{◌≡◌, ◌∙◌, refl, sym, subst, ap, ℕ, List, length, arith}
-use Rattle.std.specs.List.{remove}
+use Rattle.std.proofs.Common.{◌≡◌, ◌∙◌, refl, sym, subst, ap, ℕ, List, length}
 use Rattle.path_rows.specs.Problems.{restricted}
 use Rattle.path_rows.specs.Rows.{IsFit}
 use Rattle.form_search.proofs.AdvisorLaws.{left_alike}
@@ -10,7 +9,7 @@ use Rattle.conflict_core.specs.declared.deciding.SetTree.{SetTree}
 use Rattle.conflict_core.specs.declared.shrinking.Shrunk.{Shrunk}
 use Rattle.conflict_core.specs.Conflicts.{IsRequestSet}
 use Rattle.conflict_core.specs.Deciding.{IsRefutedSet, IsSetDecided}
-use Rattle.conflict_core.proofs.Sets.{others_are, rest_set}
+use Rattle.conflict_core.proofs.Sets.{rest_set}
 use Rattle.conflict_core.proofs.ShrinkingLaws.{less_one, more_costs, smaller}
 use Rattle.conflict_core.proofs.shrinking.leave_out.Goals as goal
 
@@ -22,21 +21,15 @@ decide_set-requires g c =
     let p = c.args.problem.now in
     let members = c.args.shrunk.conflict.members.items in
     let count = length c.args.shrunk.without.items in
-    let place_is : c.len-place.result ≡ count = omega (arith, c.len-place.ensures, c.args.shrunk.without.ok.0) in
-    let rest : c.in_ok-others.others.items ≡ remove members count = others_are members _ _ c.len-place.result count c.as_slice.ensures.value place_is c.in_ok-others.ensures in
-    subst (IsRequestSet p) (sym rest) (rest_set p members count c.requires.left c.requires.shrunk.conflict.tree.set)
+    subst (IsRequestSet p) (sym c.in_ok-others.ensures) (rest_set p members count c.requires.left c.requires.shrunk.conflict.tree.set)
 
 pub returns-in_ok-with_costs-in-Costs-clause-turned : goal.returns-in_ok-with_costs-in-Costs-clause-turned
 returns-in_ok-with_costs-in-Costs-clause-turned g c =
     let p = c.args.problem.now in
     let top = c.args.limits.now.top in
     let nodes = c.args.limits.now.nodes in
-    let members = c.args.shrunk.conflict.members.items in
-    let count = length c.args.shrunk.without.items in
-    let place_is : c.len-place.result ≡ count = omega (arith, c.len-place.ensures, c.args.shrunk.without.ok.0) in
-    let rest : c.in_ok-others.others.items ≡ remove members count = others_are members _ _ c.len-place.result count c.as_slice.ensures.value place_is c.in_ok-others.ensures in
     let found : IsFit (restricted p c.in_ok-others.others.items) c.in-Costs.costs = subst (λ (d : Decided). IsSetDecided p top nodes c.in_ok-others.others.items d) c.in-Costs.is c.in_ok-costs.ensures.decided in
-    let fit = subst (λ (ms : List ℕ). IsFit (restricted p ms) c.in-Costs.costs) rest found in
+    let fit = subst (λ (ms : List ℕ). IsFit (restricted p ms) c.in-Costs.costs) c.in_ok-others.ensures found in
     let made = c.in_ok-with_costs-in-Costs in
     more_costs p top nodes c.args.shrunk made.field-0 c.in-Costs.costs c.requires.shrunk c.requires.left fit made.ensures.conflict made.ensures.without
 
@@ -46,16 +39,12 @@ returns-in-Refuted-clause-turned g c =
     let top = c.args.limits.now.top in
     let nodes = c.args.limits.now.nodes in
     let others = c.in_ok-others.others.items in
-    let members = c.args.shrunk.conflict.members.items in
-    let count = length c.args.shrunk.without.items in
-    let place_is : c.len-place.result ≡ count = omega (arith, c.len-place.ensures, c.args.shrunk.without.ok.0) in
-    let rest : others ≡ remove members count = others_are members _ _ c.len-place.result count c.as_slice.ensures.value place_is c.in_ok-others.ensures in
     let t = c.in-Refuted.conflict in
     let found : IsSetDecided p top nodes others (Refuted t) = subst (λ (d : Decided). IsSetDecided p top nodes others d) c.in-Refuted.is c.in_ok-costs.ensures.decided in
     let new = c.with_conflict.result in
     let conflict_is : new.conflict ≡ t = ap (λ (s : Shrunk). s.conflict) c.with_conflict.ensures in
     let refuted : IsRefutedSet p top nodes new.conflict = subst (IsRefutedSet p top nodes) (sym conflict_is) found.1 in
-    smaller p top nodes c.args.shrunk new c.requires.shrunk c.requires.left refuted (ap (λ (u : SetTree). u.members.items) conflict_is ∙ found.0 ∙ rest) (ap (λ (s : Shrunk). s.without.items) c.with_conflict.ensures)
+    smaller p top nodes c.args.shrunk new c.requires.shrunk c.requires.left refuted (ap (λ (u : SetTree). u.members.items) conflict_is ∙ found.0 ∙ c.in_ok-others.ensures) (ap (λ (s : Shrunk). s.without.items) c.with_conflict.ensures)
 
 pub returns-in-Spent-clause-turned : goal.returns-in-Spent-clause-turned
 returns-in-Spent-clause-turned g c =
@@ -63,10 +52,7 @@ returns-in-Spent-clause-turned g c =
     let top = c.args.limits.now.top in
     let nodes = c.args.limits.now.nodes in
     let others = c.in_ok-others.others.items in
-    let members = c.args.shrunk.conflict.members.items in
     let count = length c.args.shrunk.without.items in
-    let place_is : c.len-place.result ≡ count = omega (arith, c.len-place.ensures, c.args.shrunk.without.ok.0) in
-    let rest : others ≡ remove members count = others_are members _ _ c.len-place.result count c.as_slice.ensures.value place_is c.in_ok-others.ensures in
     let t = c.in-Spent.set in
     let found : IsSetDecided p top nodes others (Spent t) = subst (λ (d : Decided). IsSetDecided p top nodes others d) c.in-Spent.is c.in_ok-costs.ensures.decided in
-    (found.1, less_one p top nodes c.args.shrunk t.members.items count c.keeps_problem.ensures c.requires.shrunk c.requires.left (found.0 ∙ rest))
+    (found.1, less_one p top nodes c.args.shrunk t.members.items count c.keeps_problem.ensures c.requires.shrunk c.requires.left (found.0 ∙ c.in_ok-others.ensures))

@@ -1,5 +1,5 @@
 -- The problem was read, then the sets, and what was found of them is told.
-use Rattle.std.proofs.Common.{◌++◌, sym, subst, Ok, Err}
+use Rattle.std.proofs.Common.{sym, subst, Ok, Err}
 use Rattle.std.proofs.lemmas.Result.{err_from_is_err_and}
 use Rattle.path_rows.specs.Problems.{DesignProblem}
 use Rattle.command_words.specs.Jobs.{bounds}
@@ -11,6 +11,7 @@ use Rattle.input_files.proofs.Problems.{IsProblemOf}
 use Rattle.input_files.proofs.Stops.{gave_stop, gave_then}
 use Rattle.report_writer.specs.declared.report.Report.{Report}
 use Rattle.report_writer.specs.Reports.{bytes_in}
+use Rattle.answer_commands.proofs.AnswerFiles.{both_came}
 use Rattle.wish_commands.specs.SetFiles.{Sharing, sets_read}
 use Rattle.wish_commands.specs.Spreads.{MaySpread}
 use Rattle.wish_commands.proofs.SpreadRuns.{spread_found}
@@ -39,10 +40,8 @@ returns-in_err-spread g c =
     let a = c.args.shelf.now in
     let b = c.read_problem.new.shelf in
     let d = c.read_sets_file.new.shelf in
-    let first = c.in_ok-problem.ensures.read in
-    let later = c.in_ok-sets.ensures.read in
     let e = err_from_is_err_and c.from_residual-in_err-spread.result c.from_residual-in_err-spread.ensures.1 in
-    rw (e.1, e.2) (record { came = first.came ++ later.came; given = g.met.S.Shelf.gave_more a b d first.came later.came first.given later.given; so = tt })
+    rw (e.1, e.2) (both_came (g.S.Shelf.gave a b) (g.S.Shelf.gave b d) (g.S.Shelf.gave a d) (g.met.S.Shelf.gave_more a b d) c.in_ok-problem.ensures.read c.in_ok-sets.ensures.read)
 
 pub report_of_spread-requires : goal.report_of_spread-requires
 report_of_spread-requires g c =
@@ -54,10 +53,8 @@ returns-in_err-report_of_spread g c =
     let a = c.args.shelf.now in
     let b = c.read_problem.new.shelf in
     let d = c.read_sets_file.new.shelf in
-    let first = c.in_ok-problem.ensures.read in
-    let later = c.in_ok-sets.ensures.read in
     let e = err_from_is_err_and c.from_residual-in_err-report_of_spread.result c.from_residual-in_err-report_of_spread.ensures.1 in
-    rw (e.1, e.2) (record { came = first.came ++ later.came; given = g.met.S.Shelf.gave_more a b d first.came later.came first.given later.given; so = tt })
+    rw (e.1, e.2) (both_came (g.S.Shelf.gave a b) (g.S.Shelf.gave b d) (g.S.Shelf.gave a d) (g.met.S.Shelf.gave_more a b d) c.in_ok-problem.ensures.read c.in_ok-sets.ensures.read)
 
 pub returns : goal.returns
 returns g c =
