@@ -4,6 +4,7 @@ use Rattle.std.specs.declared.result.Result.TheVariants.{Ok, Err}
 use Rattle.std.specs.Prelude.{Result, IfOk, OnErr, OnOk, ◌^◌, ◌<◌, ◌≤◌, ℤ, pos, ◌≤ℤ◌, nat_abs, All}
 use Rattle.std.proofs.lemmas.List.{get_or_default, length-map}
 use Rattle.whole_numbers.specs.Fractions.{Fraction}
+use Rattle.whole_numbers.specs.Lists.{number_at}
 use Rattle.path_rows.specs.Basis.{IsBasis}
 use Rattle.path_rows.specs.Steps.{IsTooWide}
 use Rattle.wide_fraction.specs.declared.steps.Wide.{Wide}
@@ -18,7 +19,7 @@ use Rattle.fraction_table.specs.declared.table.Table.{Table}
 use Rattle.path_rows.specs.Basis.{entry, member_form}
 use Rattle.fraction_table.specs.Pivots.{AreHigh, KeepsForms, line_at, line_numbers, member_at}
 use Rattle.fraction_table.specs.Tableaus.{IsAmongForms, IsGoing, IsSolved, wide_at}
-use Rattle.fraction_table.specs.Wholes.{HasRoom, IsShown, IsSound, IsWhole, IsWholeTable, members_of, number_at}
+use Rattle.fraction_table.specs.Wholes.{HasRoom, IsShown, IsSound, IsWhole, IsWholeTable, members_of}
 use Rattle.fraction_table.proofs.Pivots.{line_long, whole_line}
 use Rattle.fraction_table.proofs.Solutions.{high_number, settled_among, settled_solves}
 use Rattle.fraction_table.proofs.WholeTurns.{stand_at}
@@ -27,7 +28,7 @@ use Rattle.fraction_table.proofs.Bases.{whole_basis}
 use Rattle.table_kernel.specs.declared.kernel.Kernel.{Kernel}
 use Rattle.table_kernel.specs.Kernels.{IsKernel, lines_of, lows_of, stated}
 use Rattle.table_kernel.specs.Numbers.{fraction_line}
-use Rattle.table_kernel.specs.declared.bounds.OutOfRange.{OutOfRange}
+use Rattle.table_kernel.specs.declared.kernel.OutOfRange.{OutOfRange}
 use Rattle.table_kernel.specs.Turnings.{IsHeldUp}
 use Rattle.table_kernel.specs.Turns.{HoldsNumbers}
 use Rattle.table_kernel.proofs.AtBasis.{stated_lines}
@@ -51,12 +52,15 @@ pub wide_enough : (top : ℕ) → 2 ^ 126 ≤ top → 2 ^ 39 ≤ top
 wide_enough top wide = omega (arith, wide)
 
 -- the table in fractions shows its answer where it is worked on
-pub shown_beside : (b : Bool) (k : Kernel) (found : Result Solved Wide) → b ≡ false → IfOk found (λ solved. IsShown k.table.basis.items k.table.lines.items (Ended solved)) → IfOk found (λ solved. IsShown k.table.basis.items (table_in b k).lines.items (Ended solved))
+pub shown_beside : (b : Bool) (k : Kernel) (found : Result Solved Wide) → b ≡ false →
+    IfOk found (λ solved. IsShown k.table.basis.items k.table.lines.items (Ended solved)) →
+    IfOk found (λ solved. IsShown k.table.basis.items (table_in b k).lines.items (Ended solved))
 shown_beside true k found is shown = absurd (clash (sym is))
 shown_beside false k found is shown = shown
 
 -- a kernel that stopped was held up
-pub was_held_up : (old new : Kernel) (found : Result Solved OutOfRange) (out : OutOfRange) → found ≡ Err out → IsKernel new → KeepsForms (stated old) (stated new) → OnErr found (IsHeldUp new) → WasHeldUp old.table
+pub was_held_up : (old new : Kernel) (found : Result Solved OutOfRange) (out : OutOfRange) → found ≡ Err out →
+    IsKernel new → KeepsForms (stated old) (stated new) → OnErr found (IsHeldUp new) → WasHeldUp old.table
 was_held_up old new found out is kernel keeps held =
     record {
       kernel = new;
@@ -66,14 +70,23 @@ was_held_up old new found out is kernel keeps held =
     }
 
 -- a kernel's answer is shown by the table that it stands for
-pub kernel_shown : (b : Bool) (k : Kernel) (solved : Solved) → b ≡ true → IsKernel k → IsShown k.table.basis.items (lines_of k) (Ended solved) → IsShown k.table.basis.items (table_in b k).lines.items (Ended solved)
+pub kernel_shown : (b : Bool) (k : Kernel) (solved : Solved) → b ≡ true → IsKernel k →
+    IsShown k.table.basis.items (lines_of k) (Ended solved) →
+    IsShown k.table.basis.items (table_in b k).lines.items (Ended solved)
 kernel_shown true k solved is kernel shown =
     subst (λ (lines : List (List Fraction)). IsShown k.table.basis.items lines (Ended solved)) (sym (stated_lines k kernel.shaped)) shown
 kernel_shown false k solved is kernel shown = absurd (clash is)
 
 line_of_place : (k : Kernel) → IsKernel k → (place : ℕ) → place < length k.constants.items → place < length (stated k).lines.items
 line_of_place k kernel place place_in =
-    omega (arith, ap length (stated_lines k kernel.shaped), length-map (members_of k.table.costs (length k.table.rows.items)) (fraction_line (nat_abs k.common) k.table.costs k.table.rows.items (lows_of k)), kernel.shaped.constants, place_in)
+    omega (
+      arith,
+      ap length (stated_lines k kernel.shaped),
+      length-map (members_of k.table.costs (length k.table.rows.items))
+          (fraction_line (nat_abs k.common) k.table.costs k.table.rows.items (lows_of k)),
+      kernel.shaped.constants,
+      place_in,
+    )
 
 -- the constants of a kernel that stands for a table without negative constants
 pub kernel_high : (b : Bool) (k : Kernel) → b ≡ true → IsKernel k → AreHigh (table_in b k) → All (λ z. pos 0 ≤ℤ z) k.constants.items
@@ -83,15 +96,29 @@ kernel_high true k is kernel high place d place_in =
     let line_in = line_of_place k kernel place place_in in
     let l = whole_line t w place line_in in
     let first = number_there t.top (line_at t place) 0 l.numbers (omega (arith, line_long t w place line_in)) in
-    let stands = stand_at w.unboxed.common (line_at t place) (line_numbers t w place) 0 l.stand (omega (arith, numbers_long (length t.costs.low) w.unboxed.common t.costs.low w.unboxed.lows (member_form (length t.costs.low) t.rows.items (member_at t place)))) in
+    let stands = stand_at w.unboxed.common (line_at t place) (line_numbers t w place) 0 l.stand
+    (omega (
+      arith,
+      numbers_long (length t.costs.low) w.unboxed.common t.costs.low w.unboxed.lows
+          (member_form (length t.costs.low) t.rows.items (member_at t place)),
+    )) in
     subst (λ z. pos 0 ≤ℤ z) (sym (kernel.numbers.constants place place_in) ∙ get_or_default k.constants.items place (pos 0) d place_in)
-    (high_number (entry (line_at t place) 0).numerator (number_at (line_numbers t w place) 0) (entry (line_at t place) 0).denominator w.unboxed.common first.lowest.positive w.unboxed.positive stands (high place [] line_in))
+    (high_number (entry (line_at t place) 0).numerator (number_at (line_numbers t w place) 0)
+    (entry (line_at t place) 0).denominator w.unboxed.common first.lowest.positive w.unboxed.positive stands
+    (high place [] line_in))
 kernel_high false k is kernel high place d place_in = absurd (clash is)
 
 -- how many lines there are
 pub kernel_many : (b : Bool) (k : Kernel) (line : ℕ) → b ≡ true → IsKernel k → line < length (table_in b k).lines.items → line < length k.constants.items
 kernel_many true k line is kernel line_in =
-    omega (arith, ap length (stated_lines k kernel.shaped), length-map (members_of k.table.costs (length k.table.rows.items)) (fraction_line (nat_abs k.common) k.table.costs k.table.rows.items (lows_of k)), kernel.shaped.constants, line_in)
+    omega (
+      arith,
+      ap length (stated_lines k kernel.shaped),
+      length-map (members_of k.table.costs (length k.table.rows.items))
+          (fraction_line (nat_abs k.common) k.table.costs k.table.rows.items (lows_of k)),
+      kernel.shaped.constants,
+      line_in,
+    )
 kernel_many false k line is kernel line_in = absurd (clash is)
 
 -- an active table has a basis, in either representation
@@ -103,46 +130,68 @@ pub opened : (a : ActiveTable) → IsActive a → IsSoundActive a Open
 opened a active =
     record { active = λ going. active; shown = tt; basis = active_basis a.in_kernel a.kernel active.whole; room = active.room }
 
-pub ended : (a : ActiveTable) (solved : Solved) → IsActive a → IsShown a.kernel.table.basis.items (table_of a).lines.items (Ended solved) → IsSoundActive a (Ended solved)
+pub ended : (a : ActiveTable) (solved : Solved) → IsActive a →
+    IsShown a.kernel.table.basis.items (table_of a).lines.items (Ended solved) → IsSoundActive a (Ended solved)
 ended a solved active shown =
     record { active = λ going. active; shown = shown; basis = active_basis a.in_kernel a.kernel active.whole; room = active.room }
 
-pub stopped : (a : ActiveTable) (wide : Wide) → IsTooWide a.kernel.table.top a.kernel.table.costs a.kernel.table.rows.items (wide_at wide a.kernel.table.basis.items) → HasRoom a.kernel.table → IsSoundActive a (Stopped wide)
+pub stopped : (a : ActiveTable) (wide : Wide) →
+    IsTooWide a.kernel.table.top a.kernel.table.costs a.kernel.table.rows.items
+    (wide_at wide a.kernel.table.basis.items) → HasRoom a.kernel.table → IsSoundActive a (Stopped wide)
 stopped a wide too_wide room =
     record { active = λ going. absurd going; shown = tt; basis = (too_wide.lows, too_wide.table); room = room }
 
-shown_same : (basis other : List Member) (table lines : List (List Fraction)) (stage : Stage) → other ≡ basis → lines ≡ table → IsShown basis table stage → IsShown other lines stage
+shown_same : (basis other : List Member) (table lines : List (List Fraction)) (stage : Stage) → other ≡ basis →
+    lines ≡ table → IsShown basis table stage → IsShown other lines stage
 shown_same basis other table lines stage basis_is lines_are shown = rw (basis_is, lines_are) shown
 
 whole_same : (old new : Table) → HoldsSame old new → IsWholeTable old → IsWholeTable new
-whole_same old new t w = same old.top new.top old.costs new.costs old.rows.items new.rows.items old.basis.items new.basis.items old.lines.items new.lines.items t.top t.costs t.rows t.basis t.lines w
+whole_same old new t w = same old.top new.top old.costs new.costs old.rows.items new.rows.items old.basis.items
+    new.basis.items old.lines.items new.lines.items t.top t.costs t.rows t.basis t.lines w
   where
-    same : (top atop : ℕ) (costs acosts : CostBox) (rows arows : List Form) (basis abasis : List Member) (table atable : List (List Fraction)) → atop ≡ top → acosts ≡ costs → arows ≡ rows → abasis ≡ basis → atable ≡ table → IsWhole top costs rows basis table → IsWhole atop acosts arows abasis atable
-    same top atop costs acosts rows arows basis abasis table atable top_is costs_are rows_are basis_is table_is w = rw (top_is, costs_are, rows_are, basis_is, table_is) w
+    same : (top atop : ℕ) (costs acosts : CostBox) (rows arows : List Form) (basis abasis : List Member)
+        (table atable : List (List Fraction)) → atop ≡ top → acosts ≡ costs → arows ≡ rows → abasis ≡ basis →
+        atable ≡ table → IsWhole top costs rows basis table → IsWhole atop acosts arows abasis atable
+    same top atop costs acosts rows arows basis abasis table atable top_is costs_are rows_are basis_is table_is w =
+        rw (top_is, costs_are, rows_are, basis_is, table_is) w
 
-shown_held : (old new : Kernel) → HoldsSame old.table new.table → HoldsNumbers old new → (stage : Stage) → (IsGoing stage → IsKernel old) → IsShown old.table.basis.items (stated old).lines.items stage → IsShown new.table.basis.items (stated new).lines.items stage
+shown_held : (old new : Kernel) → HoldsSame old.table new.table → HoldsNumbers old new → (stage : Stage) →
+    (IsGoing stage → IsKernel old) → IsShown old.table.basis.items (stated old).lines.items stage →
+    IsShown new.table.basis.items (stated new).lines.items stage
 shown_held old new t k Open kernel shown = tt
-shown_held old new t k (Ended solved) kernel shown = shown_same old.table.basis.items new.table.basis.items (stated old).lines.items (stated new).lines.items (Ended solved) t.basis (lines_same old new t k (kernel tt)) shown
+shown_held old new t k (Ended solved) kernel shown =
+    shown_same old.table.basis.items new.table.basis.items (stated old).lines.items (stated new).lines.items
+    (Ended solved) t.basis (lines_same old new t k (kernel tt)) shown
 shown_held old new t k (Stopped wide) kernel shown = tt
 
 -- a table for which room was made
-pub room_made : (b : Bool) (old new : Kernel) → HoldsSame old.table new.table → HoldsNumbers old new → (stage : Stage) → IsSoundActive (record { kernel = old; in_kernel = b }) stage → IsSoundActive (record { kernel = new; in_kernel = b }) stage
+pub room_made : (b : Bool) (old new : Kernel) → HoldsSame old.table new.table → HoldsNumbers old new → (stage : Stage) →
+    IsSoundActive (record { kernel = old; in_kernel = b }) stage →
+    IsSoundActive (record { kernel = new; in_kernel = b }) stage
 room_made true old new t k stage s =
     record {
-      active = λ going. (let a = s.active going in let kernel = kernel_same old new t k (a.kernel refl) in record { whole = kernel.whole; kernel = λ is. kernel; room = room_same old.table new.table t s.room });
+      active = λ going. (let a = s.active going in let kernel = kernel_same old new t k (a.kernel refl) in
+          record { whole = kernel.whole; kernel = λ is. kernel; room = room_same old.table new.table t s.room });
       shown = shown_held old new t k stage (λ going. (s.active going).kernel refl) s.shown;
       basis = rw (t.costs, t.rows, t.basis) s.basis;
       room = room_same old.table new.table t s.room;
     }
 room_made false old new t k stage s =
     record {
-      active = λ going. (let a = s.active going in record { whole = whole_same old.table new.table t a.whole; kernel = λ is. absurd (clash is); room = room_same old.table new.table t s.room });
+      active = λ going. (let a = s.active going in
+          record {
+            whole = whole_same old.table new.table t a.whole;
+            kernel = λ is. absurd (clash is);
+            room = room_same old.table new.table t s.room;
+          });
       shown = shown_same old.table.basis.items new.table.basis.items old.table.lines.items new.table.lines.items stage t.basis t.lines s.shown;
       basis = rw (t.costs, t.rows, t.basis) s.basis;
       room = room_same old.table new.table t s.room;
     }
 
-shown_in : (b : Bool) (k : Kernel) (solved : Solved) → IsShown k.table.basis.items (table_in b k).lines.items (Ended solved) → IsShown (table_in b k).basis.items (table_in b k).lines.items (Ended solved)
+shown_in : (b : Bool) (k : Kernel) (solved : Solved) →
+    IsShown k.table.basis.items (table_in b k).lines.items (Ended solved) →
+    IsShown (table_in b k).basis.items (table_in b k).lines.items (Ended solved)
 shown_in true k solved shown = shown
 shown_in false k solved shown = shown
 
@@ -152,12 +201,18 @@ forms_in true k old keeps = record { top = keeps.top; costs = keeps.costs; rows 
 forms_in false k old keeps = keeps
 
 -- what an active table shows is an answer
-pub settled_rightly : (old : Table) (a : ActiveTable) (found : Result Solved Wide) → KeepsForms old a.kernel.table → OnOk found (IsActive a) → IfOk found (λ solved. IsShown a.kernel.table.basis.items (table_of a).lines.items (Ended solved)) → IfOk found (λ solved. IsSolved old.costs old.rows.items solved)
+pub settled_rightly : (old : Table) (a : ActiveTable) (found : Result Solved Wide) → KeepsForms old a.kernel.table →
+    OnOk found (IsActive a) → IfOk found
+    (λ solved. IsShown a.kernel.table.basis.items (table_of a).lines.items (Ended solved)) →
+    IfOk found (λ solved. IsSolved old.costs old.rows.items solved)
 settled_rightly old a (Ok solved) keeps active shown =
     settled_solves old (table_of a) (Ok solved) (forms_in a.in_kernel a.kernel old keeps) active.whole (shown_in a.in_kernel a.kernel solved shown)
 settled_rightly old a (Err wide) keeps active shown = tt
 
-pub settled_among_forms : (old : Table) (a : ActiveTable) (found : Result Solved Wide) → KeepsForms old a.kernel.table → OnOk found (IsActive a) → IfOk found (λ solved. IsShown a.kernel.table.basis.items (table_of a).lines.items (Ended solved)) → IfOk found (IsAmongForms old.costs old.rows.items)
+pub settled_among_forms : (old : Table) (a : ActiveTable) (found : Result Solved Wide) → KeepsForms old a.kernel.table →
+    OnOk found (IsActive a) → IfOk found
+    (λ solved. IsShown a.kernel.table.basis.items (table_of a).lines.items (Ended solved)) →
+    IfOk found (IsAmongForms old.costs old.rows.items)
 settled_among_forms old a (Ok solved) keeps active shown =
     settled_among old (table_of a) (Ok solved) (forms_in a.in_kernel a.kernel old keeps) active.whole (shown_in a.in_kernel a.kernel solved shown)
 settled_among_forms old a (Err wide) keeps active shown = tt

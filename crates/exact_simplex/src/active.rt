@@ -5,13 +5,14 @@ ghost use Rattle.cost_base.specs.Lists.{numbers_from};
 ghost use Rattle.path_rows.specs.Boxes.{IsBox, Refutes};
 ghost use Rattle.path_rows.specs.Earnest.{IsLeast};
 ghost use Rattle.path_rows.specs.Steps.{IsStuck, IsTooWide};
+ghost use Rattle.path_rows.specs.Forms.{AreMet};
 ghost use Rattle.fraction_rows.specs.TableRows.{nothing};
 ghost use Rattle.fraction_table.specs.declared.stage.Stage.{Stage};
 ghost use Rattle.fraction_table.specs.declared.stage.Stage.TheVariants.{Ended, Open};
 ghost use Rattle.fraction_table.specs.Multipliers.{IsToldOf};
 ghost use Rattle.fraction_table.specs.Pivots.{AreHigh, KeepsForms, line_at};
 ghost use Rattle.fraction_table.specs.RowLines.{HasPlace};
-ghost use Rattle.fraction_table.specs.Tableaus.{FitsBox, IsRebased, MeetsRows, starting, wide_at};
+ghost use Rattle.fraction_table.specs.Tableaus.{FitsBox, IsRebased, starting, wide_at};
 ghost use Rattle.fraction_table.specs.Wholes.{HasRoom, IsShown, held_of};
 ghost use Rattle.table_kernel.specs.Turns.{HasRowPlace, IsCovered, MayMove, box_distance};
 ghost use Rattle.exact_simplex.specs.Actives.{IsActive, IsSoundActive, WasHeldUp, table_of};
@@ -49,7 +50,8 @@ impl ActiveTable {
     pub fn start(alloc: Global, costs: &CostBox, top: Top) -> Result<ActiveTable, OutOfMemory>
         requires ranges { IsBox (length costs.now.low) costs.now }
         requires few { length costs.now.low < 2 ^ 32 }
-        ensures held { IfOk result (λ table. held_of table.kernel.table Open ≡ record { top = top; costs = costs.now; rows = []; basis = starting costs.now; stage = Open }) }
+        ensures held { IfOk result (λ table. held_of table.kernel.table Open ≡
+            record { top = top; costs = costs.now; rows = []; basis = starting costs.now; stage = Open }) }
         ensures sound { IfOk result (λ table. IsSoundActive table Open) }
         ensures wide { IfOk result (λ table. 2 ^ 126 ≤ top → table.in_kernel ≡ true) }
     {
@@ -100,11 +102,18 @@ impl ActiveTable {
         requires place { HasRowPlace self.old.kernel }
         requires fits { FitsBox self.old.kernel.table.costs row.form }
         requires blank { row.line ≡ nothing ∷ map (λ column. nothing) (numbers_from 0 (length self.old.kernel.table.costs.low)) }
-        ensures held { held_of self.new.kernel.table Open ≡ record { top = self.old.kernel.table.top; costs = self.old.kernel.table.costs; rows = self.old.kernel.table.rows.items ++ row.form ∷ []; basis = self.old.kernel.table.basis.items; stage = Open } }
+        ensures held { held_of self.new.kernel.table Open ≡ record {
+          top = self.old.kernel.table.top;
+          costs = self.old.kernel.table.costs;
+          rows = self.old.kernel.table.rows.items ++ row.form ∷ [];
+          basis = self.old.kernel.table.basis.items;
+          stage = Open;
+        } }
         ensures active { OnOk result (IsActive self.new) }
         ensures stays { self.old.in_kernel ≡ true → IsCovered self.old.kernel row.form → self.new.in_kernel ≡ true }
         ensures room { HasRoom self.new.kernel.table }
-        ensures wide { IfErr result (λ wide. IsTooWide self.new.kernel.table.top self.new.kernel.table.costs self.new.kernel.table.rows.items (wide_at wide self.new.kernel.table.basis.items)) }
+        ensures wide { IfErr result (λ wide.
+            IsTooWide self.new.kernel.table.top self.new.kernel.table.costs self.new.kernel.table.rows.items (wide_at wide self.new.kernel.table.basis.items)) }
     {
         if self.in_kernel {
             if self.kernel.covers(&row.form) {
@@ -128,7 +137,8 @@ impl ActiveTable {
         ensures keeps { KeepsForms self.old.kernel.table self.new.kernel.table }
         ensures left { self.old.in_kernel ≡ true → self.new.in_kernel ≡ false → WasHeldUp self.old.kernel.table }
         ensures room { HasRoom self.new.kernel.table }
-        ensures wide { IfErr result (λ wide. IsTooWide self.new.kernel.table.top self.new.kernel.table.costs self.new.kernel.table.rows.items (wide_at wide self.new.kernel.table.basis.items)) }
+        ensures wide { IfErr result (λ wide.
+            IsTooWide self.new.kernel.table.top self.new.kernel.table.costs self.new.kernel.table.rows.items (wide_at wide self.new.kernel.table.basis.items)) }
     {
         if self.in_kernel {
             match self.kernel.settle() {
@@ -148,10 +158,11 @@ impl ActiveTable {
         requires active { IsActive self.now }
         requires high { AreHigh (table_of self.now) }
         requires places { length into.old.values ≡ length self.now.kernel.table.costs.low }
-        ensures least { OnOk result (IsLeast (MeetsRows self.now.kernel.table.rows.items) self.now.kernel.table.costs into.new) }
+        ensures least { OnOk result (IsLeast (AreMet self.now.kernel.table.rows.items) self.now.kernel.table.costs into.new) }
         ensures small { OnOk result (into.new.scale < 2 ^ 100) }
         ensures kept { OnErr result (into.new ≡ into.old) }
-        ensures wide { IfErr result (λ wide. IsTooWide self.now.kernel.table.top self.now.kernel.table.costs self.now.kernel.table.rows.items (wide_at wide self.now.kernel.table.basis.items)) }
+        ensures wide { IfErr result (λ wide.
+            IsTooWide self.now.kernel.table.top self.now.kernel.table.costs self.now.kernel.table.rows.items (wide_at wide self.now.kernel.table.basis.items)) }
     {
         if self.in_kernel {
             self.kernel.put_corner(into);

@@ -4,9 +4,10 @@ ghost use Rattle.path_rows.specs.Basis.{IsBasis};
 ghost use Rattle.path_rows.specs.Boxes.{IsBox, Refutes};
 ghost use Rattle.path_rows.specs.Earnest.{IsLeast};
 ghost use Rattle.path_rows.specs.Steps.{IsTooWide};
+ghost use Rattle.path_rows.specs.Forms.{AreMet};
 ghost use Rattle.fraction_table.specs.declared.stage.Solved.TheVariants.{Feasible, Refuted};
 ghost use Rattle.fraction_table.specs.declared.stage.Stage.TheVariants.{Ended, Stopped};
-ghost use Rattle.fraction_table.specs.Tableaus.{FitsBox, IsAmongForms, IsGoing, IsRebased, IsRefused, IsSolved, IsStop, IsTold, MeetsRows, starting, wide_at};
+ghost use Rattle.fraction_table.specs.Tableaus.{FitsBox, IsAmongForms, IsGoing, IsRebased, IsRefused, IsSolved, IsStop, IsTold, starting, wide_at};
 
 use crate::active::ActiveTable;
 use area_graph::Point;
@@ -70,11 +71,11 @@ impl Tableau {
         }
     }
 
-    /// Whether no step has stopped it.
+    /// Nothing, where the tableau can go on.
     ///
     /// # Errors
     ///
-    /// The step that did.
+    /// The step that stopped it, since a number was too wide.
     fn going(&self) -> Result<(), Wide>
         ensures going { OnOk result (IsGoing self.now.stage) }
         ensures stopped { IfErr result (λ wide. self.now.stage ≡ Stopped wide) }
@@ -118,7 +119,8 @@ impl Tableau {
     pub fn add_row(&mut self, alloc: Global, form: &Form) -> Result<(), SimplexStop>
         requires fits { FitsBox self.old.costs form.now }
         ensures going { OnOk result (IsGoing self.old.stage) }
-        ensures added { OnOk result (self.new ≡ record { top = self.old.top; costs = self.old.costs; rows = self.old.rows ++ form.now ∷ []; basis = self.old.basis; stage = Stage.Open }) }
+        ensures added { OnOk result (self.new ≡
+            record { top = self.old.top; costs = self.old.costs; rows = self.old.rows ++ form.now ∷ []; basis = self.old.basis; stage = Stage.Open }) }
         ensures refused { IfErr result (IsRefused self.old form.now self.new) }
     {
         self.going()?;
@@ -141,7 +143,8 @@ impl Tableau {
         ensures going { OnOk result (IsGoing self.old.stage) }
         ensures solved { IfOk result (λ solved. IsSolved self.old.costs self.old.rows solved) }
         ensures among { IfOk result (IsAmongForms self.old.costs self.old.rows) }
-        ensures left { IfOk result (λ solved. self.new ≡ record { top = self.old.top; costs = self.old.costs; rows = self.old.rows; basis = self.new.basis; stage = Ended solved }) }
+        ensures left { IfOk result (λ solved. self.new ≡
+            record { top = self.old.top; costs = self.old.costs; rows = self.old.rows; basis = self.new.basis; stage = Ended solved }) }
         ensures stop { IfErr result (λ wide. IsStop self.old self.old.rows self.new wide) }
     {
         self.going()?;
@@ -161,7 +164,7 @@ impl Tableau {
     pub fn point(&self, into: &mut Point) -> Result<(), Wide>
         requires solved { self.now.stage ≡ Ended Feasible }
         requires places { length into.old.values ≡ length self.now.costs.low }
-        ensures least { OnOk result (IsLeast (MeetsRows self.now.rows) self.now.costs into.new) }
+        ensures least { OnOk result (IsLeast (AreMet self.now.rows) self.now.costs into.new) }
         ensures small { OnOk result (into.new.scale < 2 ^ 100) }
         ensures kept { OnErr result (into.new ≡ into.old) }
         ensures wide { IfErr result (λ wide. IsTooWide self.now.top self.now.costs self.now.rows (wide_at wide self.now.basis)) }

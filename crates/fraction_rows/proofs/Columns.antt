@@ -6,7 +6,7 @@ use Rattle.std.proofs.lemmas.Bool.Decides.{nat_tests}
 use Rattle.whole_numbers.specs.Fractions.{Fraction, IsLowest}
 use Rattle.fraction_rows.specs.TableRows.{IsNumber, Rises, fraction_at, nothing}
 use Rattle.fraction_rows.specs.Entries.{AllNumbers, IsPut, head_column, head_fraction, after_column, replaced}
-use Rattle.fraction_rows.proofs.Numbers.{lowest_zero}
+use Rattle.fraction_rows.proofs.ZeroFractions.{lowest_zero}
 
 pub same_test : (a b : ℕ) → a ≡ b → (a == b) ≡ true
 same_test a b e = grind (arith, nat_tests)
@@ -46,7 +46,8 @@ pub rises_lower : (low less high : ℕ) (es : List (ℕ × Fraction)) → Rises 
 rises_lower low less high [] rises least = tt
 rises_lower low less high (e ∷ es) rises least = (omega (arith, rises.0), rises.1, rises.2, rises.3)
 
-pub rises_push : (low mid c : ℕ) (q : Fraction) (es : List (ℕ × Fraction)) → Rises low mid es → mid ≤ c → low ≤ c → q.numerator ≢ pos 0 → Rises low (suc c) (es ++ (c, q) ∷ [])
+pub rises_push : (low mid c : ℕ) (q : Fraction) (es : List (ℕ × Fraction)) → Rises low mid es → mid ≤ c → low ≤ c →
+    q.numerator ≢ pos 0 → Rises low (suc c) (es ++ (c, q) ∷ [])
 rises_push low mid c q [] rises after low_before not_zero = (low_before, omega arith, not_zero, tt)
 rises_push low mid c q (e ∷ es) rises after low_before not_zero =
     (rises.0, omega (arith, rises.1), rises.2, rises_push (suc e.0) mid c q es rises.3 after (omega (arith, rises.1)) not_zero)
@@ -205,29 +206,36 @@ single_at (e ∷ []) column short = refl
 single_at (e ∷ f ∷ es) column short = absurd (omega arith)
 
 -- after another fraction was put at a column
-pub replaced_rises : (low high column : ℕ) (value : Fraction) (es : List (ℕ × Fraction)) → value.numerator ≢ pos 0 → Rises low high es → Rises low high (map (replaced column value) es)
+pub replaced_rises : (low high column : ℕ) (value : Fraction) (es : List (ℕ × Fraction)) → value.numerator ≢ pos 0 →
+    Rises low high es → Rises low high (map (replaced column value) es)
 replaced_rises low high column value [] not_zero rises = tt
 replaced_rises low high column value (e ∷ es) not_zero rises =
     test_cases (λ f. Rises low high (f ∷ map (replaced column value) es)) e.0 column (e.0, value) e
     (λ same. (rises.0, rises.1, not_zero, replaced_rises (suc e.0) high column value es not_zero rises.3))
     (λ other. (rises.0, rises.1, rises.2, replaced_rises (suc e.0) high column value es not_zero rises.3))
 
-pub replaced_other : (column k : ℕ) (value : Fraction) (es : List (ℕ × Fraction)) → column ≢ k → fraction_at (map (replaced column value) es) k ≡ fraction_at es k
+pub replaced_other : (column k : ℕ) (value : Fraction) (es : List (ℕ × Fraction)) → column ≢ k →
+    fraction_at (map (replaced column value) es) k ≡ fraction_at es k
 replaced_other column k value [] apart = refl
 replaced_other column k value (e ∷ es) apart =
     test_cases (λ f. fraction_at (f ∷ map (replaced column value) es) k ≡ fraction_at (e ∷ es) k) e.0 column (e.0, value) e
-    (λ same. fraction_there (e.0, value) (map (replaced column value) es) k (subst (λ (n : ℕ). n ≢ k) (sym same) apart) ∙ replaced_other column k value es apart ∙ sym (fraction_there e es k (subst (λ (n : ℕ). n ≢ k) (sym same) apart)))
+    (λ same. fraction_there (e.0, value) (map (replaced column value) es) k (subst (λ (n : ℕ). n ≢ k) (sym same) apart)
+    ∙ replaced_other column k value es apart
+    ∙ sym (fraction_there e es k (subst (λ (n : ℕ). n ≢ k) (sym same) apart)))
     (λ other. ap (λ f. cond (e.0 == k) e.1 f) (replaced_other column k value es apart))
 
-pub replaced_here : (column : ℕ) (value : Fraction) (es : List (ℕ × Fraction)) → (fraction_at es column ≡ nothing → ⊥) → fraction_at (map (replaced column value) es) column ≡ value
+pub replaced_here : (column : ℕ) (value : Fraction) (es : List (ℕ × Fraction)) → (fraction_at es column ≡ nothing → ⊥) →
+    fraction_at (map (replaced column value) es) column ≡ value
 replaced_here column value [] some = absurd (some refl)
 replaced_here column value (e ∷ es) some =
     test_cases (λ f. fraction_at (f ∷ map (replaced column value) es) column ≡ value) e.0 column (e.0, value) e
     (λ same. fraction_here (e.0, value) (map (replaced column value) es) column same)
-    (λ other. fraction_there e (map (replaced column value) es) column other ∙ replaced_here column value es (λ none. some (fraction_there e es column other ∙ none)))
+    (λ other. fraction_there e (map (replaced column value) es) column other
+    ∙ replaced_here column value es (λ none. some (fraction_there e es column other ∙ none)))
 
 -- a list that has nothing from a column on rises up to there
-pub rises_until : (low high column : ℕ) (es : List (ℕ × Fraction)) → Rises low high es → ((k : ℕ) → column ≤ k → k < high → fraction_at es k ≡ nothing) → Rises low column es
+pub rises_until : (low high column : ℕ) (es : List (ℕ × Fraction)) → Rises low high es →
+    ((k : ℕ) → column ≤ k → k < high → fraction_at es k ≡ nothing) → Rises low column es
 rises_until low high column [] rises none = tt
 rises_until low high column (e ∷ es) rises none =
     (rises.0, before, rises.2, rises_until (suc e.0) high column es rises.3 later)

@@ -20,7 +20,8 @@ pub record Crossing (width : ℕ) (target : ℕ → Fraction → Fraction → Fr
   pub olds_left : (k : ℕ) → frontier ≤ k → fraction_at first k ≡ fraction_at olds k
   pub quotients_left : (k : ℕ) → frontier ≤ k → fraction_at second k ≡ fraction_at quotients k
 
-pub crossing_begins : (width : ℕ) (target : ℕ → Fraction → Fraction → Fraction) (first second : Entries) → Rises 0 width first → Rises 0 width second → Crossing width target first second first second []
+pub crossing_begins : (width : ℕ) (target : ℕ → Fraction → Fraction → Fraction) (first second : Entries) →
+    Rises 0 width first → Rises 0 width second → Crossing width target first second first second []
 crossing_begins width target first second first_rises second_rises =
     record {
       frontier = 0;
@@ -34,16 +35,28 @@ crossing_begins width target first second first_rises second_rises =
     }
 
 -- a column at which both have nothing stays nothing
-nothing_made : (target : Fraction → Fraction → Fraction) (p q r : Fraction) → target nothing nothing ≡ nothing → p ≡ nothing → q ≡ nothing → r ≡ nothing → r ≡ target p q
+nothing_made : (target : Fraction → Fraction → Fraction) (p q r : Fraction) → target nothing nothing ≡ nothing →
+    p ≡ nothing → q ≡ nothing → r ≡ nothing → r ≡ target p q
 nothing_made target p q r keeps p_is q_is r_is =
     r_is ∙ sym (ap (λ (t : Fraction). target t q) p_is ∙ ap (λ (t : Fraction). target nothing t) q_is ∙ keeps)
 
 -- One turn, at the lesser of the two next columns.
-pub crossing_turns : (width : ℕ) (target : ℕ → Fraction → Fraction → Fraction) (first second olds quotients made new_made : Entries) (c : ℕ) (value : Fraction) → ((k : ℕ) → target k nothing nothing ≡ nothing) → IsLowest value → Crossing width target first second olds quotients made → c ≡ min (head_column olds width) (head_column quotients width) → c < width → value ≡ target c (head_fraction olds c) (head_fraction quotients c) → IsPut made c value new_made → Crossing width target first second (after_column olds c) (after_column quotients c) new_made
+pub crossing_turns : (width : ℕ) (target : ℕ → Fraction → Fraction → Fraction)
+    (first second olds quotients made new_made : Entries) (c : ℕ) (value : Fraction) →
+    ((k : ℕ) → target k nothing nothing ≡ nothing) → IsLowest value →
+    Crossing width target first second olds quotients made →
+    c ≡ min (head_column olds width) (head_column quotients width) → c < width →
+    value ≡ target c (head_fraction olds c) (head_fraction quotients c) → IsPut made c value new_made →
+    Crossing width target first second (after_column olds c) (after_column quotients c) new_made
 crossing_turns width target first second olds quotients made new_made c value keeps value_lowest crossing c_is c_in value_is put =
     let olds_first : c ≤ head_column olds width = omega arith in
     let quotients_first : c ≤ head_column quotients width = omega arith in
-    let from : crossing.frontier ≤ c = omega (arith, head_from crossing.frontier width olds crossing.olds_rise crossing.within, head_from crossing.frontier width quotients crossing.quotients_rise crossing.within) in
+    let from : crossing.frontier ≤ c =
+    omega (
+      arith,
+      head_from crossing.frontier width olds crossing.olds_rise crossing.within,
+      head_from crossing.frontier width quotients crossing.quotients_rise crossing.within,
+    ) in
     record {
       frontier = suc c;
       within = omega arith;
@@ -55,17 +68,21 @@ crossing_turns width target first second olds quotients made new_made c value ke
       quotients_left = λ k behind. crossing.quotients_left k (omega arith) ∙ after_at quotients c k (omega arith);
     }
   where
-    at_column : c ≤ head_column olds width → c ≤ head_column quotients width → crossing.frontier ≤ c → fraction_at new_made c ≡ target c (fraction_at first c) (fraction_at second c)
+    at_column : c ≤ head_column olds width → c ≤ head_column quotients width → crossing.frontier ≤ c →
+        fraction_at new_made c ≡ target c (fraction_at first c) (fraction_at second c)
     at_column olds_first quotients_first from =
         put_here crossing.frontier c value made new_made value_lowest crossing.made_rises from put
         ∙ value_is
-        ∙ sym (ap (λ (t : Fraction). target c t (fraction_at second c)) (crossing.olds_left c from ∙ head_at crossing.frontier width width olds c crossing.olds_rise olds_first)
-        ∙ ap (λ (t : Fraction). target c (head_fraction olds c) t) (crossing.quotients_left c from ∙ head_at crossing.frontier width width quotients c crossing.quotients_rise quotients_first))
+        ∙ sym (ap (λ (t : Fraction). target c t (fraction_at second c)) (crossing.olds_left c from
+        ∙ head_at crossing.frontier width width olds c crossing.olds_rise olds_first)
+        ∙ ap (λ (t : Fraction). target c (head_fraction olds c) t) (crossing.quotients_left c from
+        ∙ head_at crossing.frontier width width quotients c crossing.quotients_rise quotients_first))
 
     apart : (k : ℕ) → k < c → c ≢ k
     apart k before = omega arith
 
-    before_column : c ≤ head_column olds width → c ≤ head_column quotients width → (k : ℕ) → k < c → fraction_at new_made k ≡ target k (fraction_at first k) (fraction_at second k)
+    before_column : c ≤ head_column olds width → c ≤ head_column quotients width → (k : ℕ) → k < c →
+        fraction_at new_made k ≡ target k (fraction_at first k) (fraction_at second k)
     before_column olds_first quotients_first k before =
         elim (cases_lt k crossing.frontier) [
           | inl early ↦ put_other c k value made new_made (apart k before) put ∙ crossing.done k early
@@ -76,7 +93,8 @@ crossing_turns width target first second olds quotients made new_made c value ke
               (put_other c k value made new_made (apart k before) put ∙ at_above 0 crossing.frontier made k crossing.made_rises late)
         ]
 
-    by_place : c ≤ head_column olds width → c ≤ head_column quotients width → crossing.frontier ≤ c → (k : ℕ) → k < suc c → fraction_at new_made k ≡ target k (fraction_at first k) (fraction_at second k)
+    by_place : c ≤ head_column olds width → c ≤ head_column quotients width → crossing.frontier ≤ c → (k : ℕ) →
+        k < suc c → fraction_at new_made k ≡ target k (fraction_at first k) (fraction_at second k)
     by_place olds_first quotients_first from k below =
         elim (cases_lt k c) [
           | inl before ↦ before_column olds_first quotients_first k before
@@ -86,14 +104,24 @@ crossing_turns width target first second olds quotients made new_made c value ke
         ]
 
 -- at the next column the heads are what the two lists have there
-pub heads_at : (width : ℕ) (target : ℕ → Fraction → Fraction → Fraction) (first second olds quotients made : Entries) (c : ℕ) → Crossing width target first second olds quotients made → c ≡ min (head_column olds width) (head_column quotients width) → (head_fraction olds c ≡ fraction_at first c) × (head_fraction quotients c ≡ fraction_at second c)
+pub heads_at : (width : ℕ) (target : ℕ → Fraction → Fraction → Fraction) (first second olds quotients made : Entries)
+    (c : ℕ) → Crossing width target first second olds quotients made →
+    c ≡ min (head_column olds width) (head_column quotients width) → (head_fraction olds c ≡ fraction_at first c)
+    × (head_fraction quotients c ≡ fraction_at second c)
 heads_at width target first second olds quotients made c crossing c_is =
-    let from : crossing.frontier ≤ c = omega (arith, head_from crossing.frontier width olds crossing.olds_rise crossing.within, head_from crossing.frontier width quotients crossing.quotients_rise crossing.within) in (
+    let from : crossing.frontier ≤ c =
+    omega (
+      arith,
+      head_from crossing.frontier width olds crossing.olds_rise crossing.within,
+      head_from crossing.frontier width quotients crossing.quotients_rise crossing.within,
+    ) in (
       sym (crossing.olds_left c from ∙ head_at crossing.frontier width width olds c crossing.olds_rise (omega arith)),
       sym (crossing.quotients_left c from ∙ head_at crossing.frontier width width quotients c crossing.quotients_rise (omega arith)),
     )
 
-all_made : (width : ℕ) (target : ℕ → Fraction → Fraction → Fraction) (first second made : Entries) → ((k : ℕ) → target k nothing nothing ≡ nothing) → Crossing width target first second [] [] made → IsMade width target first second made
+all_made : (width : ℕ) (target : ℕ → Fraction → Fraction → Fraction) (first second made : Entries) →
+    ((k : ℕ) → target k nothing nothing ≡ nothing) → Crossing width target first second [] [] made →
+    IsMade width target first second made
 all_made width target first second made keeps crossing k k_in =
     elim (cases_lt k crossing.frontier) [
       | inl early ↦ crossing.done k early
@@ -104,7 +132,10 @@ all_made width target first second made keeps crossing k k_in =
     ]
 
 -- With no next column every column is done.
-pub crossing_ends : (width : ℕ) (target : ℕ → Fraction → Fraction → Fraction) (first second olds quotients made : Entries) (c : ℕ) → ((k : ℕ) → target k nothing nothing ≡ nothing) → Crossing width target first second olds quotients made → c ≡ min (head_column olds width) (head_column quotients width) → width ≤ c → IsMade width target first second made
+pub crossing_ends : (width : ℕ) (target : ℕ → Fraction → Fraction → Fraction)
+    (first second olds quotients made : Entries) (c : ℕ) → ((k : ℕ) → target k nothing nothing ≡ nothing) →
+    Crossing width target first second olds quotients made →
+    c ≡ min (head_column olds width) (head_column quotients width) → width ≤ c → IsMade width target first second made
 crossing_ends width target first second olds quotients made c keeps crossing c_is ended =
     let olds_none = ends_empty crossing.frontier width olds crossing.olds_rise (omega arith) in
     let quotients_none = ends_empty crossing.frontier width quotients crossing.quotients_rise (omega arith) in
@@ -112,18 +143,28 @@ crossing_ends width target first second olds quotients made c keeps crossing c_i
     (subst (λ (es : Entries). Crossing width target first second es [] made) olds_none
     (subst (λ (es : Entries). Crossing width target first second olds es made) quotients_none crossing))
 
-pub made_rise : (width : ℕ) (target : ℕ → Fraction → Fraction → Fraction) (first second olds quotients made : Entries) → Crossing width target first second olds quotients made → Rises 0 width made
+pub made_rise : (width : ℕ) (target : ℕ → Fraction → Fraction → Fraction) (first second olds quotients made : Entries) →
+    Crossing width target first second olds quotients made → Rises 0 width made
 made_rise width target first second olds quotients made crossing = rises_widen 0 crossing.frontier width made crossing.made_rises crossing.within
 
 -- there is room for one more column
-pub made_short : (width : ℕ) (target : ℕ → Fraction → Fraction → Fraction) (first second olds quotients made : Entries) (c : ℕ) → Crossing width target first second olds quotients made → c ≡ min (head_column olds width) (head_column quotients width) → c < width → length made < width
+pub made_short : (width : ℕ) (target : ℕ → Fraction → Fraction → Fraction) (first second olds quotients made : Entries)
+    (c : ℕ) → Crossing width target first second olds quotients made →
+    c ≡ min (head_column olds width) (head_column quotients width) → c < width → length made < width
 made_short width target first second olds quotients made c crossing c_is c_in =
     let short = rises_length 0 crossing.frontier made crossing.made_rises (omega arith) in
-    let from : crossing.frontier ≤ c = omega (arith, head_from crossing.frontier width olds crossing.olds_rise crossing.within, head_from crossing.frontier width quotients crossing.quotients_rise crossing.within) in
+    let from : crossing.frontier ≤ c =
+    omega (
+      arith,
+      head_from crossing.frontier width olds crossing.olds_rise crossing.within,
+      head_from crossing.frontier width quotients crossing.quotients_rise crossing.within,
+    ) in
     omega arith
 
 -- and fewer are left after it
-pub left_shorter : (width : ℕ) (olds quotients : Entries) (c : ℕ) → c ≡ min (head_column olds width) (head_column quotients width) → c < width → length (after_column olds c) + length (after_column quotients c) < length olds + length quotients
+pub left_shorter : (width : ℕ) (olds quotients : Entries) (c : ℕ) →
+    c ≡ min (head_column olds width) (head_column quotients width) → c < width →
+    length (after_column olds c) + length (after_column quotients c) < length olds + length quotients
 left_shorter width olds quotients c c_is c_in =
     elim (cases_lt (head_column olds width) (head_column quotients width)) [
       | inl first ↦

@@ -27,14 +27,17 @@ pub more_marks : (marks more : Marks) (es : List (ℕ × Fraction)) → ((k : �
 more_marks marks more es kept marked = All-weaker (HasMark marks) (HasMark more) (λ e here. kept e.0 here) es marked
 
 -- a column that is put
-pub put_marked : (marks more : Marks) (column : ℕ) (value : Fraction) (old new : List (ℕ × Fraction)) → ((k : ℕ) → IsMarked marks k → IsMarked more k) → IsMarked more column → AllMarked marks old → IsPut old column value new → AllMarked more new
+pub put_marked : (marks more : Marks) (column : ℕ) (value : Fraction) (old new : List (ℕ × Fraction)) →
+    ((k : ℕ) → IsMarked marks k → IsMarked more k) → IsMarked more column → AllMarked marks old →
+    IsPut old column value new → AllMarked more new
 put_marked marks more column value old new kept here marked (inl same) =
     subst (AllMarked more) (sym same.1) (more_marks marks more old kept marked)
 put_marked marks more column value old new kept here marked (inr put) =
     subst (AllMarked more) (sym put.1) (All-push (HasMark more) old (column, value) (more_marks marks more old kept marked) here)
 
 -- a fraction that is replaced
-pub replaced_marked : (marks : Marks) (column : ℕ) (value : Fraction) (es : List (ℕ × Fraction)) → AllMarked marks es → AllMarked marks (map (replaced column value) es)
+pub replaced_marked : (marks : Marks) (column : ℕ) (value : Fraction) (es : List (ℕ × Fraction)) → AllMarked marks es →
+    AllMarked marks (map (replaced column value) es)
 replaced_marked marks column value [] marked = All-nil (HasMark marks)
 replaced_marked marks column value (e ∷ es) marked =
     All-cons (HasMark marks) (replaced column value e) (map (replaced column value) es)

@@ -34,10 +34,15 @@ product_most top x d g h g_is h_is positive one_in =
 pub no_product : (top : ℕ) (p : Fraction) → IsNumber top p → Any (λ n. top < n) (listed Mul p nothing) → ⊥
 no_product top p is any =
     none_passes top (listed Mul p nothing)
-    (product_most top (nat_abs p.numerator) p.denominator (gcd (nat_abs p.numerator) 1) (gcd 0 p.denominator) (gcd-one (nat_abs p.numerator)) (zero-gcd p.denominator) is.lowest.positive (omega (arith, is.lowest.positive, is.within.denominator)))
+    (product_most top (nat_abs p.numerator) p.denominator (gcd (nat_abs p.numerator) 1) (gcd 0 p.denominator)
+    (gcd-one (nat_abs p.numerator)) (zero-gcd p.denominator) is.lowest.positive
+    (omega (arith, is.lowest.positive, is.within.denominator)))
     any
 
-sum_most : (top d g : ℕ) (a : ℤ) → g ≡ 1 → nat_abs a ≤ top → d ≤ top → AllMost top (nat_abs (a *ℤ pos (1 / g)) ∷ nat_abs (pos 0 *ℤ pos (d / g)) ∷ nat_abs ((a *ℤ pos (1 / g)) +ℤ (pos 0 *ℤ pos (d / g))) ∷ ((d / g) * (1 / gcd (nat_abs ((a *ℤ pos (1 / g)) +ℤ (pos 0 *ℤ pos (d / g)))) g)) ∷ [])
+sum_most : (top d g : ℕ) (a : ℤ) → g ≡ 1 → nat_abs a ≤ top → d ≤ top →
+    AllMost top (nat_abs (a *ℤ pos (1 / g)) ∷ nat_abs (pos 0 *ℤ pos (d / g))
+    ∷ nat_abs ((a *ℤ pos (1 / g)) +ℤ (pos 0 *ℤ pos (d / g)))
+    ∷ ((d / g) * (1 / gcd (nat_abs ((a *ℤ pos (1 / g)) +ℤ (pos 0 *ℤ pos (d / g)))) g)) ∷ [])
 sum_most top d g a g_is a_in d_in =
     let u = a *ℤ pos (1 / g) in
     let v = pos 0 *ℤ pos (d / g) in

@@ -18,7 +18,7 @@ use Rattle.fraction_rows.specs.Turns.{IsQuotientStepOf, IsTurnStep}
 use Rattle.fraction_rows.specs.Turns.IsQuotientStepOf.{dividing, inverting}
 use Rattle.fraction_rows.specs.Turns.IsTurnStep.{crossing, entering}
 use Rattle.fraction_rows.proofs.Columns.{same_test, other_test}
-use Rattle.fraction_rows.proofs.Numbers.{times_nothing}
+use Rattle.fraction_rows.proofs.ZeroFractions.{times_nothing}
 use Rattle.fraction_rows.proofs.RowLaws.{number_at}
 use Rattle.fraction_rows.proofs.NoStep.{no_difference, no_product}
 
@@ -30,7 +30,10 @@ pub record IsFormLine (top : ℕ) (costs : CostBox) (rows : List Form) (basis : 
   pub numbers : AreNumbers top line
 
 -- a division of the pivot's line
-pub quotient_is_step : (top : ℕ) (costs : CostBox) (rows : List Form) (basis : List Member) (lows : List (List Fraction)) (r : Member) (es : List Fraction) (j : ℕ) → IsFormLine top costs rows basis r es → IsPivot basis es j → (step : StepName) (left right : Fraction) → IsQuotientStepOf es j step left right → IsStep costs rows basis lows step left right
+pub quotient_is_step : (top : ℕ) (costs : CostBox) (rows : List Form) (basis : List Member)
+    (lows : List (List Fraction)) (r : Member) (es : List Fraction) (j : ℕ) → IsFormLine top costs rows basis r es →
+    IsPivot basis es j → (step : StepName) (left right : Fraction) → IsQuotientStepOf es j step left right →
+    IsStep costs rows basis lows step left right
 quotient_is_step top costs rows basis lows r es j l p Div left right inverting = pivot_inverse r es j l.form l.entries p
 quotient_is_step top costs rows basis lows r es j l p step left right (dividing s a b is) = divide_is s a b is
   where
@@ -38,7 +41,9 @@ quotient_is_step top costs rows basis lows r es j l p step left right (dividing 
     divide_is made p' q' (quotient place place_in) = pivot_quotient r es j place l.form l.entries p (omega (arith, l.count, place_in))
 
 -- the quotients at a place
-quotient_at : (left_out place start : ℕ) (q : Fraction) (es : List Fraction) → place < length es → entry (divided_without left_out q es start) place ≡ cond ((start + place) == left_out) nothing (divided (entry es place) q)
+quotient_at : (left_out place start : ℕ) (q : Fraction) (es : List Fraction) → place < length es →
+    entry (divided_without left_out q es start) place ≡ cond ((start + place) == left_out) nothing
+    (divided (entry es place) q)
 quotient_at left_out place start q [] place_in = absurd (omega arith)
 quotient_at left_out zero start q (e ∷ es) place_in = ap (λ n. cond (n == left_out) nothing (divided e q)) (omega arith)
 quotient_at left_out (suc place) start q (e ∷ es) place_in =
@@ -49,13 +54,20 @@ pub quotient_own : (j : ℕ) (q : Fraction) (es : List Fraction) → j < length 
 quotient_own j q es j_in =
     quotient_at j j 0 q es j_in ∙ ap (λ b. cond b nothing (divided (entry es j) q)) (same_test (0 + j) j (zero-add j))
 
-quotient_other : (j place : ℕ) (q : Fraction) (es : List Fraction) → place ≢ j → place < length es → entry (divided_without j q es 0) place ≡ divided (entry es place) q
+quotient_other : (j place : ℕ) (q : Fraction) (es : List Fraction) → place ≢ j → place < length es →
+    entry (divided_without j q es 0) place ≡ divided (entry es place) q
 quotient_other j place q es other place_in =
-    quotient_at j place 0 q es place_in ∙ ap (λ b. cond b nothing (divided (entry es place) q)) (other_test (0 + place) j (λ same. other (sym (zero-add place) ∙ same)))
+    quotient_at j place 0 q es place_in
+    ∙ ap (λ b. cond b nothing (divided (entry es place) q))
+    (other_test (0 + place) j (λ same. other (sym (zero-add place) ∙ same)))
 
 -- A crossing of a line with the quotients: a step with a quotient that isn't 0 is one of the basis, and one with 0 makes
 -- no number that passes the top.
-crossing_is_step : (top : ℕ) (costs : CostBox) (rows : List Form) (basis : List Member) (lows : List (List Fraction)) (r f : Member) (es fs : List Fraction) (j : ℕ) → IsFormLine top costs rows basis r es → IsPivot basis es j → IsFormLine top costs rows basis f fs → (step : StepName) (left right : Fraction) → IsCrossStep (entry fs j) fs (divided_without j (entry es j) es 0) step left right → Any (λ n. top < n) (listed step left right) → IsStep costs rows basis lows step left right
+crossing_is_step : (top : ℕ) (costs : CostBox) (rows : List Form) (basis : List Member) (lows : List (List Fraction))
+    (r f : Member) (es fs : List Fraction) (j : ℕ) → IsFormLine top costs rows basis r es → IsPivot basis es j →
+    IsFormLine top costs rows basis f fs → (step : StepName) (left right : Fraction) →
+    IsCrossStep (entry fs j) fs (divided_without j (entry es j) es 0) step left right →
+    Any (λ n. top < n) (listed step left right) → IsStep costs rows basis lows step left right
 crossing_is_step top costs rows basis lows r f es fs j l p m step left right (product place place_in) passes =
     elim (cases_eq place j) [
       | inl same ↦
@@ -72,7 +84,8 @@ crossing_is_step top costs rows basis lows r f es fs j l p m step left right (di
       | inl same ↦
           absurd (no_difference top (entry fs place) (number_at top fs place m.numbers place_in)
           (subst (λ (q : Fraction). Any (λ n. top < n) (listed Sub (entry fs place) q))
-          (ap (λ (q : Fraction). times (entry fs j) q) (ap (entry (divided_without j (entry es j) es 0)) same ∙ quotient_own j (entry es j) es (omega (arith, l.count, p.column)))
+          (ap (λ (q : Fraction). times (entry fs j) q) (ap (entry (divided_without j (entry es j) es 0)) same
+          ∙ quotient_own j (entry es j) es (omega (arith, l.count, p.column)))
           ∙ times_nothing (entry fs j) (number_at top fs j m.numbers (omega (arith, m.count, p.column))).lowest.positive) passes))
       | inr other ↦
           subst (λ (q : Fraction). IsStep costs rows basis lows Sub (entry fs place) (times (entry fs j) q))
@@ -80,6 +93,11 @@ crossing_is_step top costs rows basis lows r f es fs j l p m step left right (di
           (pivot_difference r f es fs j place l.form l.entries p m.form m.entries (omega (arith, m.count, place_in)))
     ]
 
-pub turn_is_step : (top : ℕ) (costs : CostBox) (rows : List Form) (basis : List Member) (lows : List (List Fraction)) (r f : Member) (es fs : List Fraction) (j : ℕ) → IsFormLine top costs rows basis r es → IsPivot basis es j → IsFormLine top costs rows basis f fs → (step : StepName) (left right : Fraction) → IsTurnStep fs (divided_without j (entry es j) es 0) j (divided (whole (pos 1)) (entry es j)) step left right → Any (λ n. top < n) (listed step left right) → IsStep costs rows basis lows step left right
+pub turn_is_step : (top : ℕ) (costs : CostBox) (rows : List Form) (basis : List Member) (lows : List (List Fraction))
+    (r f : Member) (es fs : List Fraction) (j : ℕ) → IsFormLine top costs rows basis r es → IsPivot basis es j →
+    IsFormLine top costs rows basis f fs → (step : StepName) (left right : Fraction) →
+    IsTurnStep fs (divided_without j (entry es j) es 0) j (divided (whole (pos 1)) (entry es j)) step left right →
+    Any (λ n. top < n) (listed step left right) → IsStep costs rows basis lows step left right
 turn_is_step top costs rows basis lows r f es fs j l p m step left right entering passes = pivot_inverse_product r f es fs j l.form l.entries p m.form m.entries
-turn_is_step top costs rows basis lows r f es fs j l p m step left right (crossing s a b is) passes = crossing_is_step top costs rows basis lows r f es fs j l p m s a b is passes
+turn_is_step top costs rows basis lows r f es fs j l p m step left right (crossing s a b is) passes =
+    crossing_is_step top costs rows basis lows r f es fs j l p m s a b is passes

@@ -13,8 +13,8 @@ use Rattle.path_rows.specs.Basis.{entry}
 use Rattle.fraction_rows.specs.TableRows.{AreNumbers, IsNumber, crossed_by, nothing}
 use Rattle.fraction_rows.specs.Sums.{ArePut}
 use Rattle.fraction_rows.specs.Turns.{AreRows}
-use Rattle.fraction_rows.proofs.Numbers.{times_lowest, crossed_nothing}
-use Rattle.fraction_rows.proofs.Tops.{whole_number}
+use Rattle.fraction_rows.proofs.ZeroFractions.{times_lowest, crossed_nothing}
+use Rattle.fraction_rows.proofs.SmallNumbers.{whole_number}
 
 pub number_at : (top : ℕ) (qs : List Fraction) (k : ℕ) → AreNumbers top qs → k < length qs → IsNumber top (entry qs k)
 number_at top [] k numbers k_in = absurd (omega arith)
@@ -26,14 +26,17 @@ written_numbers top [] k q numbers q_is = tt
 written_numbers top (p ∷ qs) zero q numbers q_is = (q_is, numbers.1)
 written_numbers top (p ∷ qs) (suc k) q numbers q_is = (numbers.0, written_numbers top qs k q numbers.1 q_is)
 
-pub crossed_entry : (factor : Fraction) (fs ts : List Fraction) (k : ℕ) → length ts ≡ length fs → k < length fs → entry (crossed_by factor fs ts) k ≡ minus (entry fs k) (times factor (entry ts k))
+pub crossed_entry : (factor : Fraction) (fs ts : List Fraction) (k : ℕ) → length ts ≡ length fs → k < length fs →
+    entry (crossed_by factor fs ts) k ≡ minus (entry fs k) (times factor (entry ts k))
 crossed_entry factor [] ts k same k_in = absurd (omega arith)
 crossed_entry factor (f ∷ fs) [] k same k_in = absurd (omega arith)
 crossed_entry factor (f ∷ fs) (t ∷ ts) zero same k_in = refl
 crossed_entry factor (f ∷ fs) (t ∷ ts) (suc k) same k_in = crossed_entry factor fs ts k (omega arith) (omega arith)
 
 -- where the quotient is 0 a row keeps its fraction
-pub crossed_keeps : (factor : Fraction) (fs ts : List Fraction) (k : ℕ) (top : ℕ) → length ts ≡ length fs → k < length fs → IsNumber top (entry fs k) → 0 < factor.denominator → entry ts k ≡ nothing → entry (crossed_by factor fs ts) k ≡ entry fs k
+pub crossed_keeps : (factor : Fraction) (fs ts : List Fraction) (k : ℕ) (top : ℕ) → length ts ≡ length fs →
+    k < length fs → IsNumber top (entry fs k) → 0 < factor.denominator → entry ts k ≡ nothing →
+    entry (crossed_by factor fs ts) k ≡ entry fs k
 crossed_keeps factor fs ts k top same k_in own positive none =
     crossed_entry factor fs ts k same k_in
     ∙ ap (λ (q : Fraction). minus (entry fs k) (times factor q)) none
@@ -52,7 +55,9 @@ product_zero a (negsuc n) not_zero e =
 pub times_not_zero : (p q : Fraction) → 0 < p.denominator → 0 < q.denominator → p.numerator ≢ pos 0 → q.numerator ≢ pos 0 → (times p q).numerator ≢ pos 0
 times_not_zero p q p_positive q_positive p_not q_not e =
     let stands = times_stands p q p.numerator q.numerator p.denominator q.denominator p_positive q_positive refl refl in
-    let zeros = zero_stands (times p q) (p.numerator *ℤ q.numerator) (p.denominator * q.denominator) (times_lowest p q p_positive q_positive).positive (positive p.denominator q.denominator p_positive q_positive) stands in
+    let zeros = zero_stands (times p q) (p.numerator *ℤ q.numerator) (p.denominator * q.denominator)
+    (times_lowest p q p_positive q_positive).positive
+    (positive p.denominator q.denominator p_positive q_positive) stands in
     p_not (product_zero p.numerator q.numerator q_not (zeros.0 e))
   where
     positive : (a b : ℕ) → 0 < a → 0 < b → 0 < a * b
@@ -65,25 +70,34 @@ times_number top p q r p_positive q_positive r_is r_within =
 -- 1 is a number of the table, wherever there is one
 pub one_within : (top : ℕ) (q : Fraction) → IsNumber top q → IsWithin top (whole (pos 1))
 one_within top q q_is =
-    record { numerator = omega (arith, q_is.lowest.positive, q_is.within.denominator); denominator = omega (arith, q_is.lowest.positive, q_is.within.denominator) }
+    record {
+      numerator = omega (arith, q_is.lowest.positive, q_is.within.denominator);
+      denominator = omega (arith, q_is.lowest.positive, q_is.within.denominator);
+    }
 
 -- each of the rows has their length, and numbers of the table
-pub rows_at : (top count : ℕ) (rows : List (List Fraction)) (k : ℕ) (d : List Fraction) → AreRows top count rows → k < length rows → (length (slice_index_or rows k d) ≡ count) × AreNumbers top (slice_index_or rows k d)
+pub rows_at : (top count : ℕ) (rows : List (List Fraction)) (k : ℕ) (d : List Fraction) → AreRows top count rows →
+    k < length rows → (length (slice_index_or rows k d) ≡ count) × AreNumbers top (slice_index_or rows k d)
 rows_at top count [] k d are k_in = absurd (omega arith)
 rows_at top count (fs ∷ rows) zero d are k_in = (are.0, are.1)
 rows_at top count (fs ∷ rows) (suc k) d are k_in = rows_at top count rows k d are.2 (omega arith)
 
-pub rows_set : (top count : ℕ) (rows : List (List Fraction)) (k : ℕ) (line : List Fraction) → AreRows top count rows → length line ≡ count → AreNumbers top line → AreRows top count (slice_set rows k line)
+pub rows_set : (top count : ℕ) (rows : List (List Fraction)) (k : ℕ) (line : List Fraction) → AreRows top count rows →
+    length line ≡ count → AreNumbers top line → AreRows top count (slice_set rows k line)
 rows_set top count [] k line fit counted numbers = tt
 rows_set top count (fs ∷ rows) zero line fit counted numbers = (counted, numbers, fit.2)
 rows_set top count (fs ∷ rows) (suc k) line fit counted numbers = (fit.0, fit.1, rows_set top count rows k line fit.2 counted numbers)
 
 -- where only the rows before an index were changed, the row at the index is as before
-pub later_same : (f : List Fraction → List Fraction) (rows : List (List Fraction)) (k : ℕ) (d : List Fraction) → slice_index_or (map f (take k rows) ++ drop k rows) k d ≡ slice_index_or rows k d
-later_same f [] zero d = refl
-later_same f [] (suc k) d = refl
-later_same f (fs ∷ rows) zero d = refl
-later_same f (fs ∷ rows) (suc k) d = later_same f rows k d
+pub later_same : (f : List Fraction → List Fraction) (rows now : List (List Fraction)) (k : ℕ) (d : List Fraction) →
+    now ≡ map f (take k rows) ++ drop k rows → slice_index_or now k d ≡ slice_index_or rows k d
+later_same f rows now k d now_is = ap (λ (l : List (List Fraction)). slice_index_or l k d) now_is ∙ before rows k
+  where
+    before : (rows : List (List Fraction)) (k : ℕ) → slice_index_or (map f (take k rows) ++ drop k rows) k d ≡ slice_index_or rows k d
+    before [] zero = refl
+    before [] (suc k) = refl
+    before (fs ∷ rows) zero = refl
+    before (fs ∷ rows) (suc k) = before rows k
 
 -- a difference with the negated multiple is a sum
 reduced_negated : (m : ℤ) (d : ℕ) → negated (reduced (neg_ℤ m) d) ≡ reduced m d
@@ -101,7 +115,8 @@ minus_negated p q c =
     ap (λ (t : Fraction). plus p t)
     (ap (λ (z : ℤ). negated (reduced z (1 * q.denominator))) (neg-mul c q.numerator) ∙ reduced_negated (c *ℤ q.numerator) (1 * q.denominator))
 
-pub crossed_put : (factor : Fraction) (c : ℤ) (fs ts new : List Fraction) → factor ≡ whole (neg_ℤ c) → length ts ≡ length fs → new ≡ crossed_by factor fs ts → ArePut (whole c) ts fs new
+pub crossed_put : (factor : Fraction) (c : ℤ) (fs ts new : List Fraction) → factor ≡ whole (neg_ℤ c) →
+    length ts ≡ length fs → new ≡ crossed_by factor fs ts → ArePut (whole c) ts fs new
 crossed_put factor c fs ts new factor_is same new_is place place_in =
     ap (λ (l : List Fraction). entry l place) new_is
     ∙ crossed_entry factor fs ts place same place_in

@@ -17,8 +17,15 @@ sum_from start cs lines place = fold plus start (terms cs lines place)
 
 -- the steps by which the whole sum is made
 pub data IsSumStep (start : Fraction) (cs : List ℤ) (lines : List (List Fraction)) (place : ℕ) (wide : Wide) : Type 0 where
-  product : (var : ℕ) → var < length cs → wide ≡ record { step = Mul; left = whole (slice_index_or cs var (pos 0)); right = entry (slice_index_or lines var []) place } → IsSumStep start cs lines place wide
-  sum : (k : ℕ) (next : Fraction) → slice_get (terms cs lines place) k ≡ Some next → wide ≡ record { step = Add; left = fold plus start (take k (terms cs lines place)); right = next } → IsSumStep start cs lines place wide
+  product : (var : ℕ) → var < length cs →
+      wide ≡ record {
+        step = Mul;
+        left = whole (slice_index_or cs var (pos 0));
+        right = entry (slice_index_or lines var []) place;
+      } → IsSumStep start cs lines place wide
+  sum : (k : ℕ) (next : Fraction) → slice_get (terms cs lines place) k ≡ Some next →
+      wide ≡ record { step = Add; left = fold plus start (take k (terms cs lines place)); right = next } →
+      IsSumStep start cs lines place wide
 
 -- a multiple of a line is put to a row, place by place
 abbrev pub ArePut : Fraction → List Fraction → List Fraction → List Fraction → Type 0

@@ -33,7 +33,8 @@ AreRows top count [] = Unit {0}
 AreRows top count (fs ∷ rows) = (length fs ≡ count) × AreNumbers top fs × AreRows top count rows
 
 -- a step by which some row is turned makes a whole number that passes the top
-pub record TurnsWide (top : ℕ) (rows : List (List Fraction)) (ts : List Fraction) (place : ℕ) (inverse : Fraction) (step : StepName) (left right : Fraction) : Type 0 where
+pub record TurnsWide (top : ℕ) (rows : List (List Fraction)) (ts : List Fraction) (place : ℕ) (inverse : Fraction)
+    (step : StepName) (left right : Fraction) : Type 0 where
   pub row : ℕ
   pub row_in : row < length rows
   pub wide : IsWideStep top (IsTurnStep (slice_index_or rows row []) ts place inverse) step left right

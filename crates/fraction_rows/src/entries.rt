@@ -51,22 +51,6 @@ fn next_of(first: &[(u32, Frac)], second: &[(u32, Frac)], past: u32) -> u32
     next_column(first, past).min(next_column(second, past))
 }
 
-/// A fraction less the factor times another one.
-pub fn crossed(old: Frac, factor: Frac, quotient: Frac, top: Top) -> Result<Frac, Wide>
-    requires old { IsNumber top old }
-    requires factor { IsNumber top factor }
-    requires quotient { IsNumber top quotient }
-    ensures exact { IfOk result (λ q. q ≡ minus old (times factor quotient)) }
-    ensures number { IfOk result (λ q. IsNumber top q) }
-    ensures step { IfErr result (λ wide. IsTermStep old factor quotient wide) }
-    ensures passes { IfErr result (λ wide. IsPassing top wide) }
-{
-    if quotient.is_zero() {
-        return Ok(old);
-    }
-    sub(old, mul(factor, quotient, top)?, top)
-}
-
 /// The number of a whole fraction, where it is a word.
 #[inline]
 fn word_of(value: Frac) -> Option<i64>
@@ -138,7 +122,7 @@ fn short_crossed(old: Frac, factor: Frac, quotient: Frac, top: Top) -> Option<Fr
 }
 
 /// A fraction less the factor times another one, by the short way where there is one.
-fn crossed_entry(old: Frac, factor: Frac, quotient: Frac, top: Top) -> Result<Frac, Wide>
+pub fn crossed(old: Frac, factor: Frac, quotient: Frac, top: Top) -> Result<Frac, Wide>
     requires old { IsNumber top old }
     requires factor { IsNumber top factor }
     requires quotient { IsNumber top quotient }
@@ -147,10 +131,13 @@ fn crossed_entry(old: Frac, factor: Frac, quotient: Frac, top: Top) -> Result<Fr
     ensures step { IfErr result (λ wide. IsTermStep old factor quotient wide) }
     ensures passes { IfErr result (λ wide. IsPassing top wide) }
 {
-    match short_crossed(old, factor, quotient, top) {
-        Some(value) => Ok(value),
-        None => crossed(old, factor, quotient, top),
+    if let Some(value) = short_crossed(old, factor, quotient, top) {
+        return Ok(value);
     }
+    if quotient.is_zero() {
+        return Ok(old);
+    }
+    sub(old, mul(factor, quotient, top)?, top)
 }
 
 /// Makes the list that has at each column the fraction of `olds` less the factor times that of `quotients`. A fraction of
@@ -191,7 +178,7 @@ pub fn cross_entries(
             olds_left = olds_rest;
         } else {
             let (quotient, quotients_rest) = take_at(quotients_left, column);
-            let value = crossed_entry(old, factor, quotient, top)?;
+            let value = crossed(old, factor, quotient, top)?;
             put_entry(made, column, value);
             olds_left = olds_rest;
             quotients_left = quotients_rest;

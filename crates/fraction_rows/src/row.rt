@@ -1,4 +1,4 @@
-//! A row of the table: a constant beside a list of columns that rise, with no zero.
+//! A row of the table: a constant, and the columns in which it has another number than 0, in rising order.
 ghost use Rattle.std.specs.Prelude.{◌≡◌, ◌≢◌, ℕ, suc, true, ◌<◌, ◌≤◌, ◌-◌, ◌∷◌, length, map, pos, slice_set, IfOk, IfErr, OnOk};
 ghost use Rattle.cost_base.specs.Lists.{numbers_from};
 ghost use Rattle.whole_numbers.specs.Fractions.{IsLowest};

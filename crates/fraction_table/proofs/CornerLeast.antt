@@ -5,14 +5,14 @@ use Rattle.std.proofs.lemmas.Int.{ints}
 use Rattle.std.proofs.lemmas.List.{length-map}
 use Rattle.whole_numbers.proofs.Ring.{var, num, ◌⊕◌, ◌⊗◌, ring}
 use Rattle.area_graph.specs.declared.Point.{Point}
+use Rattle.whole_numbers.specs.Lists.{number_at}
 use Rattle.path_rows.specs.declared.form.Form.{Form}
 use Rattle.path_rows.specs.declared.tree.Member.TheVariants.{Low}
-use Rattle.path_rows.specs.Forms.{value_at}
+use Rattle.path_rows.specs.Forms.{value_at, AreMet}
 use Rattle.path_rows.specs.Earnest.{IsLeast}
 use Rattle.path_rows.specs.Basis.{forms_of, member_form, one_form}
 use Rattle.fraction_table.specs.declared.table.Table.{Table}
-use Rattle.fraction_table.specs.Tableaus.{MeetsRows}
-use Rattle.fraction_table.specs.Wholes.{AreMixtures, IsWholeTable, low_forms, number_at}
+use Rattle.fraction_table.specs.Wholes.{AreMixtures, IsWholeTable, low_forms}
 use Rattle.fraction_table.specs.Pivots.{AreHigh}
 use Rattle.fraction_table.proofs.theory.Points.{equation_at, mixed_at}
 use Rattle.fraction_table.proofs.theory.Corner.{MetAt, one_value, rest_of, row_sum}
@@ -39,14 +39,19 @@ met_sum (t ∷ ts) (f ∷ fs) p met =
     ap (λ z. (t *ℤ value_at f p) +ℤ z) (met_sum ts fs p met.1)
     ∙ ap (λ z. z +ℤ row_sum ts (values_of fs p)) (turned t (value_at f p) met.0)
 
-mixed_sum : (ts : List ℤ) (basis : List Form) (p : Point) → MetAt basis p → mixed_at ts (one_form ∷ basis) p ≡ ((number_at ts 0 *ℤ pos p.scale) +ℤ row_sum (rest_of ts) (values_of basis p))
+mixed_sum : (ts : List ℤ) (basis : List Form) (p : Point) → MetAt basis p →
+    mixed_at ts (one_form ∷ basis) p ≡ ((number_at ts 0 *ℤ pos p.scale) +ℤ row_sum (rest_of ts) (values_of basis p))
 mixed_sum [] basis p met = ring (pos p.scale ∷ []) (num (pos 0)) (num (pos 0) ⊗ var 0 ⊕ num (pos 0)) refl
 mixed_sum (t ∷ ts) basis p met =
     ap (λ z. (t *ℤ value_at one_form p) +ℤ z) (met_sum ts basis p met)
     ∙ ap (λ z. (t *ℤ z) +ℤ row_sum ts (values_of basis p)) (one_value p)
 
 -- the equations of x - low at a point at which the basis isn't negative
-resolves : (n a D : ℕ) (basis : List Form) (p : Point) (low : List ℕ) (rows : List (List ℤ)) (ys : List ℕ) → MetAt basis p → AreMixtures D basis (low_forms n a low) rows → length ys ≡ length low → ((u v l : ℕ) → u ≡ a + v → v < length ys → value_at (member_form n [] (Low u l)) p ≡ (pos (slice_index ys v) -ℤ pos (l * p.scale))) → Resolves D p.scale (values_of basis p) low rows ys
+resolves : (n a D : ℕ) (basis : List Form) (p : Point) (low : List ℕ) (rows : List (List ℤ)) (ys : List ℕ) →
+    MetAt basis p → AreMixtures D basis (low_forms n a low) rows → length ys ≡ length low →
+    ((u v l : ℕ) → u ≡ a + v → v < length ys →
+    value_at (member_form n [] (Low u l)) p ≡ (pos (slice_index ys v) -ℤ pos (l * p.scale))) →
+    Resolves D p.scale (values_of basis p) low rows ys
 resolves n a D basis p [] [] [] met are same there = tt
 resolves n a D basis p [] [] (y ∷ ys) met are same there = absurd (omega arith)
 resolves n a D basis p [] (ts ∷ rows) ys met are same there = absurd are
@@ -59,7 +64,7 @@ resolves n a D basis p (l ∷ low) (ts ∷ rows) (y ∷ ys) met are same there =
   resolves n (a + 1) D basis p low rows ys met are.1 (omega arith) (λ u v m u_is v_in. there u (suc v) m (omega arith) (omega arith)),
 )
 
-pub corner_is_least : (t : Table) (w : IsWholeTable t) → AreHigh t → IsLeast (MeetsRows t.rows.items) t.costs (corner_point t w)
+pub corner_is_least : (t : Table) (w : IsWholeTable t) → AreHigh t → IsLeast (AreMet t.rows.items) t.costs (corner_point t w)
 corner_is_least t w high =
     let n = length t.costs.low in
     let p = corner_point t w in
@@ -70,10 +75,13 @@ corner_is_least t w high =
       accepted = fits.1;
       least = λ other inside meets before.
           (let met = basis_met t.costs t.rows.items other t.basis.items inside meets w.unboxed.members in
-          let there : (u v l : ℕ) → u ≡ 0 + v → v < length other.values → value_at (member_form n [] (Low u l)) other ≡ (pos (slice_index other.values v) -ℤ pos (l * other.scale)) =
+          let there : (u v l : ℕ) → u ≡ 0 + v → v < length other.values →
+          value_at (member_form n [] (Low u l)) other
+          ≡ (pos (slice_index other.values v) -ℤ pos (l * other.scale)) =
           λ u v l u_is v_in. (
           subst (λ (m : ℕ). value_at (member_form m [] (Low u l)) other ≡ (pos (slice_index other.values v) -ℤ pos (l * other.scale))) (sym inside.low_count)
-          (subst (λ (k : ℕ). value_at (member_form (length other.values) [] (Low k l)) other ≡ (pos (slice_index other.values v) -ℤ pos (l * other.scale))) (sym (u_is ∙ zero-add v))
+          (subst (λ (k : ℕ). value_at (member_form (length other.values) [] (Low k l)) other
+          ≡ (pos (slice_index other.values v) -ℤ pos (l * other.scale))) (sym (u_is ∙ zero-add v))
           (low_value_at [] v l other v_in))
           ) in
           corner_least w.unboxed.common other.scale (values_of bs other) t.costs.low w.unboxed.lows p.values other.values (at_corner t w high)

@@ -7,9 +7,8 @@ use Rattle.whole_numbers.proofs.Ring.{var, num, ◌⊕◌, ◌⊗◌, ring, ring
 use Rattle.area_graph.specs.declared.Point.{Point}
 use Rattle.path_rows.specs.declared.form.Form.{Form}
 use Rattle.path_rows.specs.declared.form.CostBox.{CostBox}
-use Rattle.path_rows.specs.Forms.{dot, value_at}
+use Rattle.path_rows.specs.Forms.{dot, value_at, AreMet}
 use Rattle.path_rows.specs.Earnest.{IsLeast, LexLess}
-use Rattle.fraction_table.specs.Tableaus.{MeetsRows}
 use Rattle.fraction_table.proofs.Solutions.{high_number}
 use Rattle.fraction_table.proofs.theory.Zips.{zip_at, zip_long}
 
@@ -43,7 +42,7 @@ same_value f p q same =
     ((var 0 ⊗ var 2 ⊕ var 4) ⊗ var 1) ((var 0 ⊗ var 1 ⊕ var 3) ⊗ var 2)
     (using (num (negsuc 0)) (var 3 ⊗ var 2) (var 4 ⊗ var 1) (same_dot q.scale p.scale f.coefficients p.values q.values same) nothing) refl
 
-same_meets : (rows : List Form) (p q : Point) → 0 < p.scale → 0 < q.scale → IsSamePoint p q → MeetsRows rows q → MeetsRows rows p
+same_meets : (rows : List Form) (p q : Point) → 0 < p.scale → 0 < q.scale → IsSamePoint p q → AreMet rows q → AreMet rows p
 same_meets rows p q p_positive q_positive same meets k d k_in =
     let f = slice_index_or rows k d in
     high_number (value_at f q) (value_at f p) q.scale p.scale q_positive p_positive (same_value f p q same) (meets k d k_in)
@@ -56,11 +55,13 @@ lower_scaled x y z e d o d_positive same lower =
 
 level_scaled : (x y z e d o : ℕ) → 0 < e → y * d ≡ z * e → x * e ≡ y * o → x * d ≡ z * o
 level_scaled x y z e d o e_positive same level =
-    let scaled : x * d * e ≡ z * o * e = mul_right_comm x d e ∙ ap (λ (n : ℕ). n * d) level ∙ mul_right_comm y o d ∙ ap (λ (n : ℕ). n * o) same ∙ mul_right_comm z e o in
+    let scaled : x * d * e ≡ z * o * e = mul_right_comm x d e ∙ ap (λ (n : ℕ). n * d) level ∙ mul_right_comm y o d
+    ∙ ap (λ (n : ℕ). n * o) same ∙ mul_right_comm z e o in
     le_antisymm (le_of_mul-le-mul_right {k = e} (le_of_eq scaled) e_positive) (le_of_mul-le-mul_right {k = e} (le_of_eq (sym scaled)) e_positive)
 
 -- what comes before the one comes before the other
-same_before : (e d o : ℕ) (xs ys zs : List ℕ) → 0 < e → 0 < d → AllZip (λ y z. y * d ≡ z * e) ys zs → LexLess (map (λ x. x * e) xs) (map (λ y. y * o) ys) → LexLess (map (λ x. x * d) xs) (map (λ z. z * o) zs)
+same_before : (e d o : ℕ) (xs ys zs : List ℕ) → 0 < e → 0 < d → AllZip (λ y z. y * d ≡ z * e) ys zs →
+    LexLess (map (λ x. x * e) xs) (map (λ y. y * o) ys) → LexLess (map (λ x. x * d) xs) (map (λ z. z * o) zs)
 same_before e d o [] ys zs e_positive d_positive same before = absurd before
 same_before e d o (x ∷ xs) [] zs e_positive d_positive same before = absurd before
 same_before e d o (x ∷ xs) (y ∷ ys) [] e_positive d_positive same before = absurd same
@@ -70,7 +71,8 @@ same_before e d o (x ∷ xs) (y ∷ ys) (z ∷ zs) e_positive d_positive same be
       | inr level ↦ inr (level_scaled x y z e d o e_positive same.0 level.0, same_before e d o xs ys zs e_positive d_positive same.1 level.1)
     ]
 
-pub same_point : (costs : CostBox) (rows : List Form) (p q : Point) → 0 < p.scale → IsSamePoint p q → IsLeast (MeetsRows rows) costs q → IsLeast (MeetsRows rows) costs p
+pub same_point : (costs : CostBox) (rows : List Form) (p q : Point) → 0 < p.scale → IsSamePoint p q →
+    IsLeast (AreMet rows) costs q → IsLeast (AreMet rows) costs p
 same_point costs rows p q positive same least =
     let long = zip_long (λ y z. y * q.scale ≡ z * p.scale) p.values q.values same in
     let q_positive = least.inside.scale in
@@ -81,9 +83,13 @@ same_point costs rows p q positive same least =
         scale = positive;
         low_count = least.inside.low_count ∙ sym long;
         high_count = least.inside.high_count ∙ sym long;
-        above = λ k k_in. less_scaled (slice_index costs.low k) (slice_index p.values k) (slice_index q.values k) p.scale q.scale q_positive (there k k_in) (least.inside.above k (omega (arith, long, k_in)));
-        below = λ k k_in. scaled_less (slice_index costs.high k) (slice_index p.values k) (slice_index q.values k) p.scale q.scale q_positive (there k k_in) (least.inside.below k (omega (arith, long, k_in)));
+        above = λ k k_in. less_scaled (slice_index costs.low k) (slice_index p.values k) (slice_index q.values k)
+            p.scale q.scale q_positive (there k k_in) (least.inside.above k (omega (arith, long, k_in)));
+        below = λ k k_in. scaled_less (slice_index costs.high k) (slice_index p.values k) (slice_index q.values k)
+            p.scale q.scale q_positive (there k k_in) (least.inside.below k (omega (arith, long, k_in)));
       };
       accepted = same_meets rows p q positive q_positive same least.accepted;
-      least = λ other inside meets before. least.least other inside meets (same_before p.scale q.scale other.scale other.values p.values q.values positive q_positive same before);
+      least = λ other inside meets before.
+          least.least other inside meets
+          (same_before p.scale q.scale other.scale other.values p.values q.values positive q_positive same before);
     }

@@ -1,16 +1,16 @@
 pub mod theory
-pub mod Standing
+pub mod StandingRows
 pub mod WholeTurns
 pub mod Bases
-pub mod Starts
+pub mod StartingTables
 pub mod StartLines
-pub mod Sounds
+pub mod SoundTables
 pub mod Pivots
 pub mod Solutions
 pub mod ColumnOrders
 pub mod Choices
 pub mod Transitive
-pub mod Bests
+pub mod BestColumns
 pub mod Ranks
 pub mod MoreRows
 pub mod CornerPoints
@@ -29,5 +29,5 @@ pub mod MoveLines
 pub mod MovedTables
 pub mod MovedWholes
 pub mod Shifts
-pub mod Between
+pub mod BetweenBoxes
 pub mod Restarts

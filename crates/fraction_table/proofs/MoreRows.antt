@@ -7,7 +7,7 @@ use Rattle.std.proofs.lemmas.List.{append_assoc, get_or_append_left, length-appe
 use Rattle.std.proofs.lemmas.List.Elements.{All-append}
 use Rattle.cost_base.specs.Lists.{numbers_from}
 use Rattle.whole_numbers.specs.Fractions.{Fraction}
-use Rattle.cost_base.proofs.ListLemmas.{numbers_from-push}
+use Rattle.cost_base.proofs.ListLemmas.{numbers_from-push, zip_push}
 use Rattle.path_rows.specs.declared.form.Form.{Form}
 use Rattle.path_rows.specs.declared.form.CostBox.{CostBox}
 use Rattle.path_rows.specs.declared.tree.Member.{Member}
@@ -17,14 +17,15 @@ use Rattle.path_rows.specs.Basis.{IsFormOf, forms_of, low_member, member_form}
 use Rattle.fraction_rows.specs.TableRows.{AreNumbers}
 use Rattle.fraction_table.specs.Tableaus.{FitsBox}
 use Rattle.fraction_table.specs.Wholes.{AreMixtures, IsLine, IsWhole, Stand, high_member, low_forms, members_of, number_of, numbers_of}
-use Rattle.fraction_table.proofs.Starts.{members_are}
+use Rattle.fraction_table.proofs.StartingTables.{members_are}
 
 pub one_all : {X : Type 0} (P : X → Type 0) (x : X) → P x → All P (x ∷ [])
 one_all P x p zero d k_in = p
 one_all P x p (suc k) d k_in = absurd (omega arith)
 
 -- a form of the box stays the same one
-pub form_kept : (n : ℕ) (costs : CostBox) (rows : List Form) (f : Form) (member : Member) → IsFormOf costs rows member → member_form n (rows ++ f ∷ []) member ≡ member_form n rows member
+pub form_kept : (n : ℕ) (costs : CostBox) (rows : List Form) (f : Form) (member : Member) → IsFormOf costs rows member →
+    member_form n (rows ++ f ∷ []) member ≡ member_form n rows member
 form_kept n costs rows f (Low var bound) is = refl
 form_kept n costs rows f (High var bound) is = refl
 form_kept n costs rows f (Row row) is = get_or_append_left rows (f ∷ []) no_form row is
@@ -34,19 +35,29 @@ member_kept costs rows f (Low var bound) is = is
 member_kept costs rows f (High var bound) is = is
 member_kept costs rows f (Row row) is = omega (arith, length-append rows (f ∷ []), is)
 
-pub forms_kept : (costs : CostBox) (rows : List Form) (f : Form) (basis : List Member) → All (IsFormOf costs rows) basis → forms_of costs (rows ++ f ∷ []) basis ≡ forms_of costs rows basis
+pub forms_kept : (costs : CostBox) (rows : List Form) (f : Form) (basis : List Member) →
+    All (IsFormOf costs rows) basis → forms_of costs (rows ++ f ∷ []) basis ≡ forms_of costs rows basis
 forms_kept costs rows f [] are = refl
 forms_kept costs rows f (member ∷ members) are =
-    cc (form_kept (length costs.low) costs rows f member (are 0 member (omega arith)), forms_kept costs rows f members (λ k d k_in. are (suc k) d (omega (arith, k_in))))
+    cc (
+      form_kept (length costs.low) costs rows f member (are 0 member (omega arith)),
+      forms_kept costs rows f members (λ k d k_in. are (suc k) d (omega (arith, k_in))),
+    )
 
-line_kept : (top D : ℕ) (costs : CostBox) (rows : List Form) (f : Form) (lows : List (List ℤ)) (member : Member) (line : List Fraction) → IsFormOf costs rows member → IsLine top D costs rows lows member line → IsLine top D costs (rows ++ f ∷ []) lows member line
+line_kept : (top D : ℕ) (costs : CostBox) (rows : List Form) (f : Form) (lows : List (List ℤ)) (member : Member)
+    (line : List Fraction) → IsFormOf costs rows member → IsLine top D costs rows lows member line →
+    IsLine top D costs (rows ++ f ∷ []) lows member line
 line_kept top D costs rows f lows member line is l =
     record {
       numbers = l.numbers;
-      stand = subst (λ (g : Form). Stand D line (numbers_of (length costs.low) D costs.low lows g)) (sym (form_kept (length costs.low) costs rows f member is)) l.stand;
+      stand = subst (λ (g : Form). Stand D line (numbers_of (length costs.low) D costs.low lows g))
+          (sym (form_kept (length costs.low) costs rows f member is)) l.stand;
     }
 
-lines_kept : (top D : ℕ) (costs : CostBox) (rows : List Form) (f : Form) (lows : List (List ℤ)) (members : List Member) (table : List (List Fraction)) → All (IsFormOf costs rows) members → AllZip (IsLine top D costs rows lows) members table → AllZip (IsLine top D costs (rows ++ f ∷ []) lows) members table
+lines_kept : (top D : ℕ) (costs : CostBox) (rows : List Form) (f : Form) (lows : List (List ℤ)) (members : List Member)
+    (table : List (List Fraction)) → All (IsFormOf costs rows) members →
+    AllZip (IsLine top D costs rows lows) members table →
+    AllZip (IsLine top D costs (rows ++ f ∷ []) lows) members table
 lines_kept top D costs rows f lows [] [] are all = tt
 lines_kept top D costs rows f lows [] (line ∷ table) are all = absurd all
 lines_kept top D costs rows f lows (member ∷ members) [] are all = absurd all
@@ -54,12 +65,6 @@ lines_kept top D costs rows f lows (member ∷ members) (line ∷ table) are all
   line_kept top D costs rows f lows member line (are 0 member (omega arith)) all.0,
   lines_kept top D costs rows f lows members table (λ k d k_in. are (suc k) d (omega (arith, k_in))) all.1,
 )
-
-zip_more : {A B : Type 0} (R : A → B → Type 0) (xs : List A) (ys : List B) (x : A) (y : B) → AllZip R xs ys → R x y → AllZip R (xs ++ x ∷ []) (ys ++ y ∷ [])
-zip_more R [] [] x y all last = (last, tt)
-zip_more R [] (b ∷ ys) x y all last = absurd all
-zip_more R (a ∷ xs) [] x y all last = absurd all
-zip_more R (a ∷ xs) (b ∷ ys) x y all last = (all.0, zip_more R xs ys x y all.1 last)
 
 -- the row's member comes last
 pub members_more : (costs : CostBox) (rows : ℕ) → members_of costs (rows + 1) ≡ members_of costs rows ++ Row rows ∷ []
@@ -76,20 +81,29 @@ pub last_form : (rows : List Form) (f : Form) → form_at (rows ++ f ∷ []) (le
 last_form rows f = get_or-append_seam rows f [] no_form
 
 -- With a form that fits, and with its line, the table is whole.
-pub whole_more : (top : ℕ) (costs : CostBox) (rows : List Form) (basis : List Member) (table : List (List Fraction)) (f : Form) (line : List Fraction) (w : IsWhole top costs rows basis table) → FitsBox costs f → AreNumbers top line → Stand w.unboxed.common line (numbers_of (length costs.low) w.unboxed.common costs.low w.unboxed.lows f) → IsWhole top costs (rows ++ f ∷ []) basis (table ++ line ∷ [])
+pub whole_more : (top : ℕ) (costs : CostBox) (rows : List Form) (basis : List Member) (table : List (List Fraction))
+    (f : Form) (line : List Fraction) (w : IsWhole top costs rows basis table) → FitsBox costs f → AreNumbers top line →
+    Stand w.unboxed.common line (numbers_of (length costs.low) w.unboxed.common costs.low w.unboxed.lows f) →
+    IsWhole top costs (rows ++ f ∷ []) basis (table ++ line ∷ [])
 whole_more top costs rows basis table f line w fits numbers stand =
     let n = length costs.low in
     let more = rows ++ f ∷ [] in
     let same = sym (forms_kept costs rows f basis w.unboxed.members) in
     let counted : length rows + 1 ≡ length more = omega (arith, length-append rows (f ∷ [])) in
     let last : IsLine top w.unboxed.common costs more w.unboxed.lows (Row (length rows)) line =
-    record { numbers = numbers; stand = subst (λ (g : Form). Stand w.unboxed.common line (numbers_of n w.unboxed.common costs.low w.unboxed.lows g)) (sym (last_form rows f)) stand } in
+    record {
+      numbers = numbers;
+      stand = subst
+          (λ (g : Form). Stand w.unboxed.common line (numbers_of n w.unboxed.common costs.low w.unboxed.lows g))
+          (sym (last_form rows f)) stand;
+    } in
     record {
       box = w.box;
       fit = All-append (FitsBox costs) rows (f ∷ []) w.fit (one_all (FitsBox costs) f fits);
       unboxed = record {
         high_count = w.unboxed.high_count;
-        counts = All-append (λ (row : Form). length row.coefficients ≡ n) rows (f ∷ []) w.unboxed.counts (one_all (λ (row : Form). length row.coefficients ≡ n) f fits.count);
+        counts = All-append (λ (row : Form). length row.coefficients ≡ n) rows (f ∷ []) w.unboxed.counts
+            (one_all (λ (row : Form). length row.coefficients ≡ n) f fits.count);
         count = w.unboxed.count;
         members = λ k d k_in. member_kept costs rows f _ (w.unboxed.members k d k_in);
         common = w.unboxed.common;
@@ -97,12 +111,17 @@ whole_more top costs rows basis table f line w fits numbers stand =
         lows = w.unboxed.lows;
         long = w.unboxed.long;
         mixtures = subst (λ (bs : List Form). AreMixtures w.unboxed.common bs (low_forms n 0 costs.low) w.unboxed.lows) same w.unboxed.mixtures;
-        own = subst (λ (bs : List Form). (k : ℕ) → k < n → number_of w.unboxed.common costs.low w.unboxed.lows (slice_index_or bs k no_form) (suc k) ≡ pos w.unboxed.common) same w.unboxed.own;
-        elsewhere = subst (λ (bs : List Form). (k place : ℕ) → k < n → place ≤ n → place ≢ suc k → number_of w.unboxed.common costs.low w.unboxed.lows (slice_index_or bs k no_form) place ≡ pos 0) same w.unboxed.elsewhere;
+        own = subst (λ (bs : List Form). (k : ℕ) → k < n →
+            number_of w.unboxed.common costs.low w.unboxed.lows (slice_index_or bs k no_form) (suc k)
+            ≡ pos w.unboxed.common) same w.unboxed.own;
+        elsewhere = subst (λ (bs : List Form). (k place : ℕ) → k < n → place ≤ n → place ≢ suc k →
+            number_of w.unboxed.common costs.low w.unboxed.lows (slice_index_or bs k no_form) place ≡ pos 0) same
+            w.unboxed.elsewhere;
         lead = w.unboxed.lead;
         lines =
-            subst (λ (members : List Member). AllZip (IsLine top w.unboxed.common costs more w.unboxed.lows) members (table ++ line ∷ [])) (sym (members_more costs (length rows)) ∙ ap (members_of costs) counted)
-            (zip_more (IsLine top w.unboxed.common costs more w.unboxed.lows) (members_of costs (length rows)) table (Row (length rows)) line
+            subst (λ (members : List Member). AllZip (IsLine top w.unboxed.common costs more w.unboxed.lows) members
+            (table ++ line ∷ [])) (sym (members_more costs (length rows)) ∙ ap (members_of costs) counted)
+            (zip_push (IsLine top w.unboxed.common costs more w.unboxed.lows) (members_of costs (length rows)) table (Row (length rows)) line
             (lines_kept top w.unboxed.common costs rows f w.unboxed.lows (members_of costs (length rows)) table (members_are costs rows) w.unboxed.lines) last);
       };
     }

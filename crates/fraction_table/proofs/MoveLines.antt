@@ -13,7 +13,7 @@ use Rattle.fraction_rows.specs.TableRows.{AreNumbers, IsNumber, nothing}
 use Rattle.fraction_rows.specs.Turns.{AreRows}
 use Rattle.path_rows.specs.declared.tree.Member.{Member}
 use Rattle.fraction_table.specs.Moves.{IsColumnOf, put_at, raised_line}
-use Rattle.fraction_rows.proofs.Numbers.{lowest_zero, nothing_number, nothing_times, times_lowest}
+use Rattle.fraction_rows.proofs.ZeroFractions.{lowest_zero, nothing_number, nothing_times, times_lowest}
 use Rattle.fraction_rows.proofs.RowLaws.{number_at, rows_at, rows_set, written_numbers}
 
 pub plus_lowest : (p q : Fraction) → 0 < p.denominator → 0 < q.denominator → IsLowest (plus p q)
@@ -35,31 +35,46 @@ first_put [] some = absurd (omega arith)
 first_put (q ∷ line) some = refl
 
 -- where the entry is 0 the line stays as it is
-pub none_raised : (top : ℕ) (line : List Fraction) (column : ℕ) (fall value : Fraction) → suc column < length line → AreNumbers top line → IsNumber top fall → value ≡ entry line (suc column) → value.numerator ≡ pos 0 → line ≡ raised_line column fall line
+pub none_raised : (top : ℕ) (line : List Fraction) (column : ℕ) (fall value : Fraction) → suc column < length line →
+    AreNumbers top line → IsNumber top fall → value ≡ entry line (suc column) → value.numerator ≡ pos 0 →
+    line ≡ raised_line column fall line
 none_raised top line column fall value column_in numbers fall_is value_is none =
     let here = number_at top line (suc column) numbers column_in in
     let first = number_at top line 0 numbers (omega (arith, column_in)) in
-    let entry_is : entry line (suc column) ≡ nothing = lowest_zero (entry line (suc column)) here.lowest (ap (λ (q : Fraction). q.numerator) (sym value_is) ∙ none) in
+    let entry_is : entry line (suc column) ≡ nothing =
+    lowest_zero (entry line (suc column)) here.lowest (ap (λ (q : Fraction). q.numerator) (sym value_is) ∙ none) in
     sym (ap (λ (q : Fraction). slice_set line 0 (plus (entry line 0) (times q fall))) entry_is
     ∙ ap (λ (q : Fraction). slice_set line 0 (plus (entry line 0) q)) (nothing_times fall fall_is.lowest.positive)
     ∙ ap (λ (q : Fraction). slice_set line 0 q) (plus_nothing (entry line 0) first.lowest)
     ∙ first_put line (omega (arith, column_in)))
 
 -- the line with the constant that was made
-pub raised_is : (line now : List Fraction) (column : ℕ) (fall value first product constant : Fraction) → value ≡ entry line (suc column) → first ≡ entry line 0 → product ≡ times value fall → constant ≡ plus first product → now ≡ slice_set line 0 constant → now ≡ raised_line column fall line
+pub raised_is : (line now : List Fraction) (column : ℕ) (fall value first product constant : Fraction) →
+    value ≡ entry line (suc column) → first ≡ entry line 0 → product ≡ times value fall →
+    constant ≡ plus first product → now ≡ slice_set line 0 constant → now ≡ raised_line column fall line
 raised_is line now column fall value first product constant value_is first_is product_is constant_is now_is =
     now_is
-    ∙ ap (λ (q : Fraction). slice_set line 0 q) (constant_is ∙ ap (λ (q : Fraction). plus q product) first_is ∙ ap (λ (q : Fraction). plus (entry line 0) q) (product_is ∙ ap (λ (q : Fraction). times q fall) value_is))
+    ∙ ap (λ (q : Fraction). slice_set line 0 q) (constant_is ∙ ap (λ (q : Fraction). plus q product) first_is
+    ∙ ap (λ (q : Fraction). plus (entry line 0) q) (product_is ∙ ap (λ (q : Fraction). times q fall) value_is))
 
 -- its numbers are ones of the table
-pub raised_numbers : (top : ℕ) (line now : List Fraction) (fall value first product constant : Fraction) → AreNumbers top line → IsNumber top first → IsNumber top value → IsNumber top fall → product ≡ times value fall → constant ≡ plus first product → IsWithin top constant → now ≡ slice_set line 0 constant → AreNumbers top now
+pub raised_numbers : (top : ℕ) (line now : List Fraction) (fall value first product constant : Fraction) →
+    AreNumbers top line → IsNumber top first → IsNumber top value → IsNumber top fall → product ≡ times value fall →
+    constant ≡ plus first product → IsWithin top constant → now ≡ slice_set line 0 constant → AreNumbers top now
 raised_numbers top line now fall value first product constant numbers first_is value_is fall_is product_is constant_is within now_is =
     let product_lowest : IsLowest product = subst IsLowest (sym product_is) (times_lowest value fall value_is.lowest.positive fall_is.lowest.positive) in
-    let constant_number : IsNumber top constant = record { lowest = subst IsLowest (sym constant_is) (plus_lowest first product first_is.lowest.positive product_lowest.positive); within = within } in
+    let constant_number : IsNumber top constant =
+    record {
+      lowest = subst IsLowest (sym constant_is)
+          (plus_lowest first product first_is.lowest.positive product_lowest.positive);
+      within = within;
+    } in
     subst (AreNumbers top) (sym now_is) (written_numbers top line 0 constant numbers constant_number)
 
 -- a line whose constant is made 0
-pub zeroed : (top count : ℕ) (lines : List (List Fraction)) (own : ℕ) (d now : List Fraction) (value : Fraction) → AreRows top count lines → own < length lines → value ≡ nothing → now ≡ slice_set (slice_index_or lines own d) 0 value → AreRows top count (slice_set lines own now)
+pub zeroed : (top count : ℕ) (lines : List (List Fraction)) (own : ℕ) (d now : List Fraction) (value : Fraction) →
+    AreRows top count lines → own < length lines → value ≡ nothing →
+    now ≡ slice_set (slice_index_or lines own d) 0 value → AreRows top count (slice_set lines own now)
 zeroed top count lines own d now value rows own_in value_is now_is =
     let here = rows_at top count lines own d rows own_in in
     let line = slice_index_or lines own d in
@@ -76,7 +91,8 @@ pub column_there : (basis : List Member) (member : Member) (column : Option ℕ)
 column_there basis member None found = tt
 column_there basis member (Some k) found = found.0
 
-pub column_in : (basis : List Member) (member : Member) (column : Option ℕ) (n : ℕ) → IsColumnOf basis member column → length basis ≡ n → IfSome column (λ k. suc k < suc n)
+pub column_in : (basis : List Member) (member : Member) (column : Option ℕ) (n : ℕ) → IsColumnOf basis member column →
+    length basis ≡ n → IfSome column (λ k. suc k < suc n)
 column_in basis member None n found counted = tt
 column_in basis member (Some k) n found counted = omega (arith, found.0, counted)
 

@@ -19,9 +19,9 @@ use Rattle.fraction_rows.specs.TableRows.{AreNumbers, nothing}
 use Rattle.fraction_table.specs.Tableaus.{moved_member}
 use Rattle.fraction_table.specs.Wholes.{Stand, number_of, numbers_of}
 use Rattle.fraction_table.specs.Moves.{fallen, raised_line}
-use Rattle.fraction_rows.proofs.Filled.{mapped_same}
+use Rattle.fraction_rows.proofs.FilledRows.{mapped_same}
 use Rattle.fraction_table.proofs.theory.MovedNumbers.{IsNumbered, fallen_constant, high_falls, low_falls, lowered_number, lowered_numbered, lowered_rows, raised, raised_constant, raised_numbered, raised_other}
-use Rattle.fraction_rows.proofs.Numbers.{times_lowest}
+use Rattle.fraction_rows.proofs.ZeroFractions.{times_lowest}
 use Rattle.fraction_rows.proofs.RowLaws.{number_at as number_there}
 use Rattle.fraction_table.proofs.theory.TurnedNumbers.{numbers_at, numbers_long}
 use Rattle.fraction_table.proofs.WholeTurns.{stand_at}
@@ -32,7 +32,8 @@ map_none f [] d same = refl
 map_none f (x ∷ xs) d same =
     ap (λ z. z ∷ map f xs) (same 0 (omega arith)) ∙ ap (λ zs. x ∷ zs) (map_none f xs d (λ k k_in. same (suc k) (omega (arith, k_in))))
 
-pub map_one : {X : Type 0} (f : X → X) (xs : List X) (j : ℕ) (y d : X) → j < length xs → f (slice_index_or xs j d) ≡ y → ((k : ℕ) → k < length xs → k ≢ j → f (slice_index_or xs k d) ≡ slice_index_or xs k d) → map f xs ≡ slice_set xs j y
+pub map_one : {X : Type 0} (f : X → X) (xs : List X) (j : ℕ) (y d : X) → j < length xs → f (slice_index_or xs j d) ≡ y →
+    ((k : ℕ) → k < length xs → k ≢ j → f (slice_index_or xs k d) ≡ slice_index_or xs k d) → map f xs ≡ slice_set xs j y
 map_one f [] j y d j_in here others = absurd (omega arith)
 map_one f (x ∷ xs) zero y d j_in here others =
     ap (λ z. z ∷ map f xs) here ∙ ap (λ zs. y ∷ zs) (map_none f xs d (λ k k_in. others (suc k) (omega (arith, k_in)) (λ h. omega (arith, h))))
@@ -49,7 +50,9 @@ pub record IsFall (costs next : CostBox) (rows : List Form) (before after : Memb
   pub own : moved_member next before ≡ after
   pub others : (m : Member) → IsFormOf costs rows m → m ≢ before → moved_member next m ≡ m
 
-pub low_fall : (costs : CostBox) (rows : List Form) (v bound : ℕ) → length costs.high ≡ length costs.low → v < length costs.low → IsFall costs (with_low costs v bound) rows (Low v (slice_index costs.low v)) (Low v bound) (pos bound -ℤ pos (slice_index costs.low v))
+pub low_fall : (costs : CostBox) (rows : List Form) (v bound : ℕ) → length costs.high ≡ length costs.low →
+    v < length costs.low → IsFall costs (with_low costs v bound) rows (Low v (slice_index costs.low v)) (Low v bound)
+    (pos bound -ℤ pos (slice_index costs.low v))
 low_fall costs rows v bound height v_in =
     record {
       width = length-set costs.low v bound;
@@ -69,7 +72,9 @@ low_fall costs rows v bound height v_in =
     other (High u b) is apart = ap (High u) (sym is.1)
     other (Row r) is apart = refl
 
-pub high_fall : (costs : CostBox) (rows : List Form) (v bound : ℕ) → length costs.high ≡ length costs.low → v < length costs.low → IsFall costs (with_high costs v bound) rows (High v (slice_index costs.high v)) (High v bound) (pos (slice_index costs.high v) -ℤ pos bound)
+pub high_fall : (costs : CostBox) (rows : List Form) (v bound : ℕ) → length costs.high ≡ length costs.low →
+    v < length costs.low → IsFall costs (with_high costs v bound) rows (High v (slice_index costs.high v))
+    (High v bound) (pos (slice_index costs.high v) -ℤ pos bound)
 high_fall costs rows v bound height v_in =
     record {
       width = refl;
@@ -115,7 +120,9 @@ IsInside None n = Unit {0}
 IsInside (Some j) n = j < n
 
 -- an upper bound moves
-pub high_moved : (D : ℕ) (low : List ℕ) (lows : List (List ℤ)) (bs : List Form) (column : Option ℕ) (fall : ℤ) → IsInside column (length bs) → IsNumbered D (length low) low bs lows → AreMoved D low low lows (raised_rows column fall lows) bs column fall
+pub high_moved : (D : ℕ) (low : List ℕ) (lows : List (List ℤ)) (bs : List Form) (column : Option ℕ) (fall : ℤ) →
+    IsInside column (length bs) → IsNumbered D (length low) low bs lows →
+    AreMoved D low low lows (raised_rows column fall lows) bs column fall
 high_moved D low lows bs None fall inside is =
     record {
       numbered = is;
@@ -130,10 +137,17 @@ high_moved D low lows bs (Some j) fall inside is =
     }
 
 -- a lower bound moves
-pub low_moved : (D : ℕ) (low : List ℕ) (lows : List (List ℤ)) (bs : List Form) (column : Option ℕ) (fall : ℤ) (v bound : ℕ) → IsInside column (length bs) → v < length low → v < length (raised_rows column fall lows) → IsNumbered D (length low) low bs lows → AreMoved D low (slice_set low v bound) lows (lowered_rows v (pos D *ℤ (pos bound -ℤ pos (slice_index low v))) (raised_rows column fall lows)) bs column fall
+pub low_moved : (D : ℕ) (low : List ℕ) (lows : List (List ℤ)) (bs : List Form) (column : Option ℕ) (fall : ℤ)
+    (v bound : ℕ) → IsInside column (length bs) → v < length low → v < length (raised_rows column fall lows) →
+    IsNumbered D (length low) low bs lows →
+    AreMoved D low (slice_set low v bound) lows
+    (lowered_rows v (pos D *ℤ (pos bound -ℤ pos (slice_index low v))) (raised_rows column fall lows)) bs column fall
 low_moved D low lows bs column fall v bound inside v_in row_in is =
     let m = high_moved D low lows bs column fall inside is in
-    let same : (f : Form) (place : ℕ) → number_of D (slice_set low v bound) (lowered_rows v (pos D *ℤ (pos bound -ℤ pos (slice_index low v))) (raised_rows column fall lows)) f place ≡ number_of D low (raised_rows column fall lows) f place =
+    let same : (f : Form) (place : ℕ) →
+    number_of D (slice_set low v bound)
+    (lowered_rows v (pos D *ℤ (pos bound -ℤ pos (slice_index low v))) (raised_rows column fall lows)) f place
+    ≡ number_of D low (raised_rows column fall lows) f place =
     λ f place. lowered_number D (length low) low (raised_rows column fall lows) f v bound m.numbered.long v_in row_in place in
     record {
       numbered = lowered_numbered D (length low) low (fallen_basis column fall bs) (raised_rows column fall lows) v bound v_in m.numbered;
@@ -142,11 +156,15 @@ low_moved D low lows bs column fall v bound inside v_in row_in is =
     }
 
 -- a line with another constant
-put_first : (D : ℕ) (line : List Fraction) (q : Fraction) (m next : ℤ) (ms : List ℤ) → Stand D line (m ∷ ms) → StandsFor q next D → Stand D (slice_set line 0 q) (next ∷ ms)
+put_first : (D : ℕ) (line : List Fraction) (q : Fraction) (m next : ℤ) (ms : List ℤ) → Stand D line (m ∷ ms) →
+    StandsFor q next D → Stand D (slice_set line 0 q) (next ∷ ms)
 put_first D [] q m next ms stand first = absurd stand
 put_first D (p ∷ line) q m next ms stand first = (first, stand.1)
 
-line_put : (n D : ℕ) (low next : List ℕ) (lows news : List (List ℤ)) (f g : Form) (line : List Fraction) (q : Fraction) → ((k : ℕ) → number_of D next news f (suc k) ≡ number_of D low lows g (suc k)) → Stand D line (numbers_of n D low lows g) → StandsFor q (number_of D next news f 0) D → Stand D (slice_set line 0 q) (numbers_of n D next news f)
+line_put : (n D : ℕ) (low next : List ℕ) (lows news : List (List ℤ)) (f g : Form) (line : List Fraction)
+    (q : Fraction) → ((k : ℕ) → number_of D next news f (suc k) ≡ number_of D low lows g (suc k)) →
+    Stand D line (numbers_of n D low lows g) → StandsFor q (number_of D next news f 0) D →
+    Stand D (slice_set line 0 q) (numbers_of n D next news f)
 line_put n D low next lows news f g line q same stand first =
     subst (λ (ms : List ℤ). Stand D (slice_set line 0 q) (number_of D next news f 0 ∷ ms))
     (mapped_same (number_of D low lows g) (number_of D next news f) 1 n (λ k from k_in. later k from))
@@ -166,15 +184,20 @@ pub record IsLong (top n D : ℕ) (low : List ℕ) (lows : List (List ℤ)) (f :
   pub count : length line ≡ suc n
   pub stand : Stand D line (numbers_of n D low lows f)
 
-entry_is : (top n D : ℕ) (low : List ℕ) (lows : List (List ℤ)) (f : Form) (line : List Fraction) (k : ℕ) → IsLong top n D low lows f line → k < suc n → (0 < (entry line k).denominator) × StandsFor (entry line k) (number_of D low lows f k) D
+entry_is : (top n D : ℕ) (low : List ℕ) (lows : List (List ℤ)) (f : Form) (line : List Fraction) (k : ℕ) →
+    IsLong top n D low lows f line → k < suc n → (0 < (entry line k).denominator)
+    × StandsFor (entry line k) (number_of D low lows f k) D
 entry_is top n D low lows f line k l k_in =
     let here = number_there top line k l.numbers (omega (arith, l.count, k_in)) in (
       here.lowest.positive,
-      subst (λ z. StandsFor (entry line k) z D) (numbers_at n D low lows f k k_in) (stand_at D line (numbers_of n D low lows f) k l.stand (omega (arith, numbers_long n D low lows f, k_in))),
+      subst (λ z. StandsFor (entry line k) z D) (numbers_at n D low lows f k k_in)
+          (stand_at D line (numbers_of n D low lows f) k l.stand (omega (arith, numbers_long n D low lows f, k_in))),
     )
 
 -- its line where the form isn't in the basis
-pub own_lowered : (top n D : ℕ) (low next : List ℕ) (lows news : List (List ℤ)) (bs : List Form) (g : Form) (line : List Fraction) (fall : ℤ) → AreMoved D low next lows news bs None fall → IsLong top n D low lows g line → Stand D (slice_set line 0 (minus (entry line 0) (whole fall))) (numbers_of n D next news (fallen g fall))
+pub own_lowered : (top n D : ℕ) (low next : List ℕ) (lows news : List (List ℤ)) (bs : List Form) (g : Form)
+    (line : List Fraction) (fall : ℤ) → AreMoved D low next lows news bs None fall → IsLong top n D low lows g line →
+    Stand D (slice_set line 0 (minus (entry line 0) (whole fall))) (numbers_of n D next news (fallen g fall))
 own_lowered top n D low next lows news bs g line fall m l =
     let e = entry_is top n D low lows g line 0 l (omega arith) in
     line_put n D low next lows news (fallen g fall) g line (minus (entry line 0) (whole fall)) (λ k. m.others (fallen g fall) k) l.stand
@@ -184,7 +207,10 @@ own_lowered top n D low next lows news bs g line fall m l =
     (minus_stands_over (entry line 0) (whole fall) (number_of D low lows g 0) (pos D *ℤ fall) D e.0 (omega arith) l.positive e.1 (whole_stands D fall)))
 
 -- and where it is
-pub own_zeroed : (top n D : ℕ) (low next : List ℕ) (lows news : List (List ℤ)) (bs : List Form) (g : Form) (line : List Fraction) (j : ℕ) (fall : ℤ) → AreMoved D low next lows news bs (Some j) fall → IsLong top n D low lows g line → number_of D low lows g 0 ≡ pos 0 → number_of D low lows g (suc j) ≡ pos D → Stand D (slice_set line 0 nothing) (numbers_of n D next news (fallen g fall))
+pub own_zeroed : (top n D : ℕ) (low next : List ℕ) (lows news : List (List ℤ)) (bs : List Form) (g : Form)
+    (line : List Fraction) (j : ℕ) (fall : ℤ) → AreMoved D low next lows news bs (Some j) fall →
+    IsLong top n D low lows g line → number_of D low lows g 0 ≡ pos 0 → number_of D low lows g (suc j) ≡ pos D →
+    Stand D (slice_set line 0 nothing) (numbers_of n D next news (fallen g fall))
 own_zeroed top n D low next lows news bs g line j fall m l none own =
     line_put n D low next lows news (fallen g fall) g line nothing (λ k. m.others (fallen g fall) k) l.stand
     (subst (λ z. StandsFor nothing z D)
@@ -195,7 +221,9 @@ own_zeroed top n D low next lows news bs g line j fall m l none own =
     (lib.IntN.zero-*ℤ (pos D)))
 
 -- other lines
-pub other_kept : (n D : ℕ) (low next : List ℕ) (lows news : List (List ℤ)) (bs : List Form) (f : Form) (line : List Fraction) (fall : ℤ) → AreMoved D low next lows news bs None fall → Stand D line (numbers_of n D low lows f) → Stand D line (numbers_of n D next news f)
+pub other_kept : (n D : ℕ) (low next : List ℕ) (lows news : List (List ℤ)) (bs : List Form) (f : Form)
+    (line : List Fraction) (fall : ℤ) → AreMoved D low next lows news bs None fall →
+    Stand D line (numbers_of n D low lows f) → Stand D line (numbers_of n D next news f)
 other_kept n D low next lows news bs f line fall m stand =
     subst (λ (ms : List ℤ). Stand D line ms) (mapped_same (number_of D low lows f) (number_of D next news f) 0 (suc n) (λ k from k_in. each k)) stand
   where
@@ -203,13 +231,19 @@ other_kept n D low next lows news bs f line fall m stand =
     each zero = sym (m.constants f ∙ ring (number_of D low lows f 0 ∷ fall ∷ []) (var 0 ⊕ num (pos 0) ⊗ var 1) (var 0) refl)
     each (suc k) = sym (m.others f k)
 
-pub other_raised : (top n D : ℕ) (low next : List ℕ) (lows news : List (List ℤ)) (bs : List Form) (f : Form) (line : List Fraction) (j : ℕ) (fall : ℤ) → j < n → AreMoved D low next lows news bs (Some j) fall → IsLong top n D low lows f line → Stand D (raised_line j (whole fall) line) (numbers_of n D next news f)
+pub other_raised : (top n D : ℕ) (low next : List ℕ) (lows news : List (List ℤ)) (bs : List Form) (f : Form)
+    (line : List Fraction) (j : ℕ) (fall : ℤ) → j < n → AreMoved D low next lows news bs (Some j) fall →
+    IsLong top n D low lows f line → Stand D (raised_line j (whole fall) line) (numbers_of n D next news f)
 other_raised top n D low next lows news bs f line j fall j_in m l =
     let first = entry_is top n D low lows f line 0 l (omega arith) in
     let there = entry_is top n D low lows f line (suc j) l (omega (arith, j_in)) in
     let product = times (entry line (suc j)) (whole fall) in
     let product_stands : StandsFor product (number_of D low lows f (suc j) *ℤ fall) D =
-    subst (λ (d : ℕ). StandsFor product (number_of D low lows f (suc j) *ℤ fall) d) (omega arith) (times_stands (entry line (suc j)) (whole fall) (number_of D low lows f (suc j)) fall D 1 there.0 (omega arith) there.1 refl) in
+    subst (λ (d : ℕ). StandsFor product (number_of D low lows f (suc j) *ℤ fall) d) (omega arith)
+    (times_stands (entry line (suc j)) (whole fall) (number_of D low lows f (suc j)) fall D 1 there.0
+    (omega arith) there.1 refl) in
     line_put n D low next lows news f f line (plus (entry line 0) product) (λ k. m.others f k) l.stand
     (subst (λ z. StandsFor (plus (entry line 0) product) z D) (sym (m.constants f))
-    (plus_stands_over (entry line 0) product (number_of D low lows f 0) (number_of D low lows f (suc j) *ℤ fall) D first.0 (times_lowest (entry line (suc j)) (whole fall) there.0 (omega arith)).positive l.positive first.1 product_stands))
+    (plus_stands_over (entry line 0) product (number_of D low lows f 0) (number_of D low lows f (suc j) *ℤ fall) D
+    first.0 (times_lowest (entry line (suc j)) (whole fall) there.0 (omega arith)).positive l.positive first.1
+    product_stands))

@@ -26,11 +26,13 @@ use Rattle.fraction_table.proofs.Pivots.{high_place, members_long, row_place}
 use Rattle.fraction_rows.proofs.RowLaws.{rows_at}
 use Rattle.fraction_table.proofs.theory.Resolved.{stand_length}
 use Rattle.fraction_table.proofs.theory.TurnedNumbers.{numbers_long}
-use Rattle.fraction_table.proofs.Starts.{members_are}
+use Rattle.fraction_table.proofs.StartingTables.{members_are}
 use Rattle.fraction_table.proofs.theory.Zips.{zip_at, zip_from, zip_long}
 
 -- the form of a column
-column_form : (costs : CostBox) (rows : List Form) (basis : List Member) (k : ℕ) (member : Member) → k < length basis → slice_index_or basis k (Low 0 0) ≡ member → slice_index_or (forms_of costs rows basis) k no_form ≡ member_form (length costs.low) rows member
+column_form : (costs : CostBox) (rows : List Form) (basis : List Member) (k : ℕ) (member : Member) → k < length basis →
+    slice_index_or basis k (Low 0 0) ≡ member → slice_index_or (forms_of costs rows basis) k no_form
+    ≡ member_form (length costs.low) rows member
 column_form costs rows basis k member k_in here =
     get_or-map (member_form (length costs.low) rows) basis k (Low 0 0) no_form k_in ∙ ap (member_form (length costs.low) rows) here
 
@@ -38,7 +40,10 @@ none_is : (D : ℕ) → 0 < D → pos 0 ≡ pos D → ⊥
 none_is D positive e = let same : 0 ≡ D = ap nat_abs e in omega (arith, same, positive)
 
 -- a member has one column at most
-only_column : (top : ℕ) (costs : CostBox) (rows : List Form) (basis : List Member) (table : List (List Fraction)) (u : IsUnboxed top costs rows basis table) (before : Member) (j : ℕ) → j < length basis → slice_index_or basis j (Low 0 0) ≡ before → (k : ℕ) → k < length basis → k ≢ j → slice_index_or basis k (Low 0 0) ≢ before
+only_column : (top : ℕ) (costs : CostBox) (rows : List Form) (basis : List Member) (table : List (List Fraction))
+    (u : IsUnboxed top costs rows basis table) (before : Member) (j : ℕ) → j < length basis →
+    slice_index_or basis j (Low 0 0) ≡ before → (k : ℕ) → k < length basis → k ≢ j →
+    slice_index_or basis k (Low 0 0) ≢ before
 only_column top costs rows basis table u before j j_in here k k_in apart same =
     let number : Form → ℤ = λ f. number_of u.common costs.low u.lows f (suc j) in
     none_is u.common u.positive
@@ -48,28 +53,39 @@ only_column top costs rows basis table u before j j_in here k k_in apart same =
     ∙ u.own j (omega (arith, j_in, u.count)))
 
 -- the members of the basis with the bounds of the next box
-pub moved_put : (top : ℕ) (costs next : CostBox) (rows : List Form) (basis : List Member) (table : List (List Fraction)) (u : IsUnboxed top costs rows basis table) (before after : Member) (fall : ℤ) (column : Option ℕ) → IsFall costs next rows before after fall → IsColumnOf basis before column → moved next basis ≡ put_at column after basis
+pub moved_put : (top : ℕ) (costs next : CostBox) (rows : List Form) (basis : List Member) (table : List (List Fraction))
+    (u : IsUnboxed top costs rows basis table) (before after : Member) (fall : ℤ) (column : Option ℕ) →
+    IsFall costs next rows before after fall → IsColumnOf basis before column →
+    moved next basis ≡ put_at column after basis
 moved_put top costs next rows basis table u before after fall None m found =
     map_none (moved_member next) basis (Low 0 0) (λ k k_in. m.others (slice_index_or basis k (Low 0 0)) (u.members k (Low 0 0) k_in) (found k k_in))
 moved_put top costs next rows basis table u before after fall (Some j) m found =
     map_one (moved_member next) basis j after (Low 0 0) found.0 (ap (moved_member next) found.1 ∙ m.own)
-    (λ k k_in apart. m.others (slice_index_or basis k (Low 0 0)) (u.members k (Low 0 0) k_in) (only_column top costs rows basis table u before j found.0 found.1 k k_in apart))
+    (λ k k_in apart. m.others (slice_index_or basis k (Low 0 0)) (u.members k (Low 0 0) k_in)
+    (only_column top costs rows basis table u before j found.0 found.1 k k_in apart))
 
 -- and their forms
-pub forms_fallen : (top : ℕ) (costs next : CostBox) (rows : List Form) (basis : List Member) (table : List (List Fraction)) (u : IsUnboxed top costs rows basis table) (before after : Member) (fall : ℤ) (column : Option ℕ) → IsFall costs next rows before after fall → IsColumnOf basis before column → forms_of next rows (moved next basis) ≡ fallen_basis column fall (forms_of costs rows basis)
+pub forms_fallen : (top : ℕ) (costs next : CostBox) (rows : List Form) (basis : List Member)
+    (table : List (List Fraction)) (u : IsUnboxed top costs rows basis table) (before after : Member) (fall : ℤ)
+    (column : Option ℕ) → IsFall costs next rows before after fall → IsColumnOf basis before column →
+    forms_of next rows (moved next basis) ≡ fallen_basis column fall (forms_of costs rows basis)
 forms_fallen top costs next rows basis table u before after fall column m found =
     ap (λ (w : ℕ). map (member_form w rows) (moved next basis)) m.width
     ∙ ap (map (member_form (length costs.low) rows)) (moved_put top costs next rows basis table u before after fall column m found)
     ∙ put_forms column found
   where
-    put_forms : (column : Option ℕ) → IsColumnOf basis before column → map (member_form (length costs.low) rows) (put_at column after basis) ≡ fallen_basis column fall (forms_of costs rows basis)
+    put_forms : (column : Option ℕ) → IsColumnOf basis before column →
+        map (member_form (length costs.low) rows) (put_at column after basis)
+        ≡ fallen_basis column fall (forms_of costs rows basis)
     put_forms None found = refl
     put_forms (Some j) found =
         map-set (member_form (length costs.low) rows) basis j after
-        ∙ ap (λ (f : Form). slice_set (forms_of costs rows basis) j f) (m.form ∙ ap (λ (f : Form). fallen f fall) (sym (column_form costs rows basis j before found.0 found.1)))
+        ∙ ap (λ (f : Form). slice_set (forms_of costs rows basis) j f)
+        (m.form ∙ ap (λ (f : Form). fallen f fall) (sym (column_form costs rows basis j before found.0 found.1)))
 
 -- the members of the next box
-pub members_moved : (costs next : CostBox) (rows : ℕ) → length next.low ≡ length costs.low → members_of next rows ≡ map (moved_member next) (members_of costs rows)
+pub members_moved : (costs next : CostBox) (rows : ℕ) → length next.low ≡ length costs.low →
+    members_of next rows ≡ map (moved_member next) (members_of costs rows)
 members_moved costs next rows width =
     let f = moved_member next in
     let ks = numbers_from 0 (length costs.low) in
@@ -89,7 +105,8 @@ place_of n (Low v bound) = v
 place_of n (High v bound) = n + v
 place_of n (Row row) = n + n + row
 
-pub place_there : (costs : CostBox) (rows i : ℕ) → i < length (members_of costs rows) → place_of (length costs.low) (slice_index_or (members_of costs rows) i (Low 0 0)) ≡ i
+pub place_there : (costs : CostBox) (rows i : ℕ) → i < length (members_of costs rows) →
+    place_of (length costs.low) (slice_index_or (members_of costs rows) i (Low 0 0)) ≡ i
 place_there costs rows i i_in =
     elim (cases_lt i (length costs.low)) [
       | inl low ↦ ap (place_of (length costs.low)) (members_begin costs rows i (Low 0 0) low)
@@ -103,27 +120,38 @@ place_there costs rows i i_in =
           | inl high ↦
               let k = i - n in
               let there : n + k ≡ i = omega (arith, past) in
-              subst (λ (p : ℕ). place_of n (slice_index_or (members_of costs rows) p (Low 0 0)) ≡ p) there (ap (place_of n) (high_place costs rows k (Low 0 0) (omega (arith, high, past))))
+              subst (λ (p : ℕ). place_of n (slice_index_or (members_of costs rows) p (Low 0 0)) ≡ p) there
+              (ap (place_of n) (high_place costs rows k (Low 0 0) (omega (arith, high, past))))
           | inr late ↦
               let k = i - (n + n) in
               let there : n + n + k ≡ i = omega (arith, late) in
-              subst (λ (p : ℕ). place_of n (slice_index_or (members_of costs rows) p (Low 0 0)) ≡ p) there (ap (place_of n) (row_place costs rows k (Low 0 0) (omega (arith, late, i_in, members_long costs rows))))
+              subst (λ (p : ℕ). place_of n (slice_index_or (members_of costs rows) p (Low 0 0)) ≡ p) there
+              (ap (place_of n) (row_place costs rows k (Low 0 0)
+              (omega (arith, late, i_in, members_long costs rows))))
         ]
 
 -- a form that fell keeps its numbers in the columns
-pub kept_columns : (D : ℕ) (low : List ℕ) (lows : List (List ℤ)) (bs : List Form) (column : Option ℕ) (fall : ℤ) (k p : ℕ) → k < length bs → number_of D low lows (slice_index_or (fallen_basis column fall bs) k no_form) (suc p) ≡ number_of D low lows (slice_index_or bs k no_form) (suc p)
+pub kept_columns : (D : ℕ) (low : List ℕ) (lows : List (List ℤ)) (bs : List Form) (column : Option ℕ) (fall : ℤ)
+    (k p : ℕ) → k < length bs → number_of D low lows (slice_index_or (fallen_basis column fall bs) k no_form) (suc p)
+    ≡ number_of D low lows (slice_index_or bs k no_form) (suc p)
 kept_columns D low lows bs None fall k p k_in = refl
 kept_columns D low lows bs (Some j) fall k p k_in =
     elim (cases_eq k j) [
       | inl same ↦
           ap (λ (i : ℕ). number_of D low lows (slice_index_or (slice_set bs j (fallen (slice_index_or bs j no_form) fall)) i no_form) (suc p)) same
-          ∙ ap (λ (f : Form). number_of D low lows f (suc p)) (get_or-set_same bs j (fallen (slice_index_or bs j no_form) fall) no_form (omega (arith, same, k_in)))
+          ∙ ap (λ (f : Form). number_of D low lows f (suc p))
+          (get_or-set_same bs j (fallen (slice_index_or bs j no_form) fall) no_form (omega (arith, same, k_in)))
           ∙ ap (λ (i : ℕ). number_of D low lows (slice_index_or bs i no_form) (suc p)) (sym same)
       | inr other ↦ ap (λ (f : Form). number_of D low lows f (suc p)) (get_or-set_other bs j k (fallen (slice_index_or bs j no_form) fall) no_form other)
     ]
 
 -- the constants of the basis' forms stay 0
-pub kept_constants : (D n : ℕ) (low next : List ℕ) (lows news : List (List ℤ)) (bs : List Form) (column : Option ℕ) (fall : ℤ) → IsInside column n → AreMoved D low next lows news bs column fall → ((k : ℕ) → k < n → number_of D low lows (slice_index_or bs k no_form) (suc k) ≡ pos D) → ((k place : ℕ) → k < n → place ≤ n → place ≢ suc k → number_of D low lows (slice_index_or bs k no_form) place ≡ pos 0) → length bs ≡ n → (k : ℕ) → k < n → number_of D next news (slice_index_or (fallen_basis column fall bs) k no_form) 0 ≡ pos 0
+pub kept_constants : (D n : ℕ) (low next : List ℕ) (lows news : List (List ℤ)) (bs : List Form) (column : Option ℕ)
+    (fall : ℤ) → IsInside column n → AreMoved D low next lows news bs column fall →
+    ((k : ℕ) → k < n → number_of D low lows (slice_index_or bs k no_form) (suc k) ≡ pos D) →
+    ((k place : ℕ) → k < n → place ≤ n → place ≢ suc k → number_of D low lows (slice_index_or bs k no_form) place
+    ≡ pos 0) → length bs ≡ n → (k : ℕ) → k < n →
+    number_of D next news (slice_index_or (fallen_basis column fall bs) k no_form) 0 ≡ pos 0
 kept_constants D n low next lows news bs None fall inside m own elsewhere counted k k_in =
     m.constants (slice_index_or bs k no_form)
     ∙ ap (λ z. z +ℤ (pos 0 *ℤ fall)) (elsewhere k 0 k_in (omega arith) (λ h. omega (arith, h)))
@@ -153,7 +181,11 @@ length_shifted : (column : Option ℕ) (own : ℕ) (fall : Fraction) (table : Li
 length_shifted None own fall table = length-set table own _
 length_shifted (Some j) own fall table = length-set (map (raised_line j fall) table) own _ ∙ length-map table (raised_line j fall)
 
-long_line : (top : ℕ) (costs : CostBox) (rows : List Form) (basis : List Member) (table : List (List Fraction)) (u : IsUnboxed top costs rows basis table) (i : ℕ) → i < length (members_of costs (length rows)) → IsLong top (length costs.low) u.common costs.low u.lows (member_form (length costs.low) rows (slice_index_or (members_of costs (length rows)) i (Low 0 0))) (slice_index_or table i [])
+long_line : (top : ℕ) (costs : CostBox) (rows : List Form) (basis : List Member) (table : List (List Fraction))
+    (u : IsUnboxed top costs rows basis table) (i : ℕ) → i < length (members_of costs (length rows)) →
+    IsLong top (length costs.low) u.common costs.low u.lows
+    (member_form (length costs.low) rows (slice_index_or (members_of costs (length rows)) i (Low 0 0)))
+    (slice_index_or table i [])
 long_line top costs rows basis table u i i_in =
     let n = length costs.low in
     let member = slice_index_or (members_of costs (length rows)) i (Low 0 0) in
@@ -162,7 +194,8 @@ long_line top costs rows basis table u i i_in =
     record {
       positive = u.positive;
       numbers = l.numbers;
-      count = stand_length u.common line (numbers_of n u.common costs.low u.lows (member_form n rows member)) l.stand ∙ numbers_long n u.common costs.low u.lows (member_form n rows member);
+      count = stand_length u.common line (numbers_of n u.common costs.low u.lows (member_form n rows member)) l.stand
+          ∙ numbers_long n u.common costs.low u.lows (member_form n rows member);
       stand = l.stand;
     }
 
@@ -171,7 +204,9 @@ set_twice [] p q = refl
 set_twice (x ∷ line) p q = refl
 
 -- What moves a table: the bound, its line, its column, and the numbers of the next box.
-pub record IsMoveOf (top : ℕ) (costs next : CostBox) (rows : List Form) (basis : List Member) (table : List (List Fraction)) (u : IsUnboxed top costs rows basis table) (news : List (List ℤ)) (before after : Member) (fall : ℤ) (column : Option ℕ) (own : ℕ) : Type 0 where
+pub record IsMoveOf (top : ℕ) (costs next : CostBox) (rows : List Form) (basis : List Member)
+    (table : List (List Fraction)) (u : IsUnboxed top costs rows basis table) (news : List (List ℤ))
+    (before after : Member) (fall : ℤ) (column : Option ℕ) (own : ℕ) : Type 0 where
   pub falls : IsFall costs next rows before after fall
   pub found : IsColumnOf basis before column
   pub numbers : AreMoved u.common costs.low next.low u.lows news (forms_of costs rows basis) column fall
@@ -180,7 +215,11 @@ pub record IsMoveOf (top : ℕ) (costs next : CostBox) (rows : List Form) (basis
   pub rows_are : AreRows top (suc (length costs.low)) (shifted_lines column own (whole fall) table)
 
 -- the numbers of the form of a column
-pub column_own : (top : ℕ) (costs : CostBox) (rows : List Form) (basis : List Member) (table : List (List Fraction)) (u : IsUnboxed top costs rows basis table) (before : Member) (j : ℕ) → j < length basis → slice_index_or basis j (Low 0 0) ≡ before → (number_of u.common costs.low u.lows (member_form (length costs.low) rows before) 0 ≡ pos 0) × (number_of u.common costs.low u.lows (member_form (length costs.low) rows before) (suc j) ≡ pos u.common)
+pub column_own : (top : ℕ) (costs : CostBox) (rows : List Form) (basis : List Member) (table : List (List Fraction))
+    (u : IsUnboxed top costs rows basis table) (before : Member) (j : ℕ) → j < length basis →
+    slice_index_or basis j (Low 0 0) ≡ before →
+    (number_of u.common costs.low u.lows (member_form (length costs.low) rows before) 0 ≡ pos 0)
+    × (number_of u.common costs.low u.lows (member_form (length costs.low) rows before) (suc j) ≡ pos u.common)
 column_own top costs rows basis table u before j j_in here =
     let form_is = sym (column_form costs rows basis j before j_in here) in (
       ap (λ (f : Form). number_of u.common costs.low u.lows f 0) form_is ∙ u.elsewhere j 0 (omega (arith, j_in, u.count)) (omega arith) (λ h. omega (arith, h)),
@@ -188,11 +227,17 @@ column_own top costs rows basis table u before j j_in here =
     )
 
 -- the bound's own line stands for the numbers of its form in the next box
-own_stands : (top : ℕ) (costs next : CostBox) (rows : List Form) (basis : List Member) (table : List (List Fraction)) (u : IsUnboxed top costs rows basis table) (news : List (List ℤ)) (before after : Member) (fall : ℤ) (column : Option ℕ) (own : ℕ) → own < length table → IsMoveOf top costs next rows basis table u news before after fall column own → Stand u.common (slice_index_or (shifted_lines column own (whole fall) table) own []) (numbers_of (length costs.low) u.common next.low news (fallen (member_form (length costs.low) rows before) fall))
+own_stands : (top : ℕ) (costs next : CostBox) (rows : List Form) (basis : List Member) (table : List (List Fraction))
+    (u : IsUnboxed top costs rows basis table) (news : List (List ℤ)) (before after : Member) (fall : ℤ)
+    (column : Option ℕ) (own : ℕ) → own < length table →
+    IsMoveOf top costs next rows basis table u news before after fall column own →
+    Stand u.common (slice_index_or (shifted_lines column own (whole fall) table) own [])
+    (numbers_of (length costs.low) u.common next.low news (fallen (member_form (length costs.low) rows before) fall))
 own_stands top costs next rows basis table u news before after fall None own own_there m =
     let n = length costs.low in
     let line = slice_index_or table own [] in
-    let l = subst (λ (b : Member). IsLong top n u.common costs.low u.lows (member_form n rows b) line) m.own_is (long_line top costs rows basis table u own m.own_in) in
+    let l = subst (λ (b : Member). IsLong top n u.common costs.low u.lows (member_form n rows b) line) m.own_is
+    (long_line top costs rows basis table u own m.own_in) in
     subst (λ (fs : List Fraction). Stand u.common fs (numbers_of n u.common next.low news (fallen (member_form n rows before) fall)))
     (sym (get_or-set_same table own _ [] own_there))
     (own_lowered top n u.common costs.low next.low u.lows news (forms_of costs rows basis) (member_form n rows before) line fall m.numbers l)
@@ -200,16 +245,25 @@ own_stands top costs next rows basis table u news before after fall (Some j) own
     let n = length costs.low in
     let line = slice_index_or table own [] in
     let raise = raised_line j (whole fall) in
-    let l = subst (λ (b : Member). IsLong top n u.common costs.low u.lows (member_form n rows b) line) m.own_is (long_line top costs rows basis table u own m.own_in) in
+    let l = subst (λ (b : Member). IsLong top n u.common costs.low u.lows (member_form n rows b) line) m.own_is
+    (long_line top costs rows basis table u own m.own_in) in
     let numbers = column_own top costs rows basis table u before j m.found.0 m.found.1 in
     subst (λ (fs : List Fraction). Stand u.common fs (numbers_of n u.common next.low news (fallen (member_form n rows before) fall)))
-    (sym (get_or-set_same (map raise table) own (slice_set (slice_index_or (map raise table) own []) 0 nothing) [] (omega (arith, length-map table raise, own_there))
+    (sym (get_or-set_same (map raise table) own (slice_set (slice_index_or (map raise table) own []) 0 nothing) []
+    (omega (arith, length-map table raise, own_there))
     ∙ ap (λ (fs : List Fraction). slice_set fs 0 nothing) (get_or-map raise table own [] [] own_there)
     ∙ set_twice line _ nothing))
-    (own_zeroed top n u.common costs.low next.low u.lows news (forms_of costs rows basis) (member_form n rows before) line j fall m.numbers l numbers.0 numbers.1)
+    (own_zeroed top n u.common costs.low next.low u.lows news (forms_of costs rows basis) (member_form n rows before)
+    line j fall m.numbers l numbers.0 numbers.1)
 
 -- and each other line for those of its own, which is the same form as before
-other_stands : (top : ℕ) (costs next : CostBox) (rows : List Form) (basis : List Member) (table : List (List Fraction)) (u : IsUnboxed top costs rows basis table) (news : List (List ℤ)) (before after : Member) (fall : ℤ) (column : Option ℕ) (own i : ℕ) → i ≢ own → i < length table → i < length (members_of costs (length rows)) → IsMoveOf top costs next rows basis table u news before after fall column own → Stand u.common (slice_index_or (shifted_lines column own (whole fall) table) i []) (numbers_of (length costs.low) u.common next.low news (member_form (length costs.low) rows (slice_index_or (members_of costs (length rows)) i (Low 0 0))))
+other_stands : (top : ℕ) (costs next : CostBox) (rows : List Form) (basis : List Member) (table : List (List Fraction))
+    (u : IsUnboxed top costs rows basis table) (news : List (List ℤ)) (before after : Member) (fall : ℤ)
+    (column : Option ℕ) (own i : ℕ) → i ≢ own → i < length table → i < length (members_of costs (length rows)) →
+    IsMoveOf top costs next rows basis table u news before after fall column own →
+    Stand u.common (slice_index_or (shifted_lines column own (whole fall) table) i [])
+    (numbers_of (length costs.low) u.common next.low news
+    (member_form (length costs.low) rows (slice_index_or (members_of costs (length rows)) i (Low 0 0))))
 other_stands top costs next rows basis table u news before after fall None own i apart i_there i_in m =
     let n = length costs.low in
     let f = member_form n rows (slice_index_or (members_of costs (length rows)) i (Low 0 0)) in
@@ -224,18 +278,25 @@ other_stands top costs next rows basis table u news before after fall (Some j) o
     let l = long_line top costs rows basis table u i i_in in
     subst (λ (fs : List Fraction). Stand u.common fs (numbers_of n u.common next.low news f))
     (sym (get_or-set_other (map raise table) own i _ [] apart ∙ get_or-map raise table i [] [] i_there))
-    (other_raised top n u.common costs.low next.low u.lows news (forms_of costs rows basis) f (slice_index_or table i []) j fall (omega (arith, m.found.0, u.count)) m.numbers l)
+    (other_raised top n u.common costs.low next.low u.lows news (forms_of costs rows basis) f
+    (slice_index_or table i []) j fall (omega (arith, m.found.0, u.count)) m.numbers l)
 
 -- the lines of the next box
-lines_moved : (top : ℕ) (costs next : CostBox) (rows : List Form) (basis : List Member) (table : List (List Fraction)) (u : IsUnboxed top costs rows basis table) (news : List (List ℤ)) (before after : Member) (fall : ℤ) (column : Option ℕ) (own : ℕ) → IsMoveOf top costs next rows basis table u news before after fall column own → AllZip (IsLine top u.common next rows news) (members_of next (length rows)) (shifted_lines column own (whole fall) table)
+lines_moved : (top : ℕ) (costs next : CostBox) (rows : List Form) (basis : List Member) (table : List (List Fraction))
+    (u : IsUnboxed top costs rows basis table) (news : List (List ℤ)) (before after : Member) (fall : ℤ)
+    (column : Option ℕ) (own : ℕ) → IsMoveOf top costs next rows basis table u news before after fall column own →
+    AllZip (IsLine top u.common next rows news) (members_of next (length rows))
+    (shifted_lines column own (whole fall) table)
 lines_moved top costs next rows basis table u news before after fall column own m =
     let ms = members_of costs (length rows) in
     let now = shifted_lines column own (whole fall) table in
     let as_many : length ms ≡ length table = zip_long (IsLine top u.common costs rows u.lows) ms table u.lines in
     let mapped : length (map (moved_member next) ms) ≡ length ms = length-map ms (moved_member next) in
     subst (λ (members : List Member). AllZip (IsLine top u.common next rows news) members now) (sym (members_moved costs next (length rows) m.falls.width))
-    (zip_from (IsLine top u.common next rows news) (map (moved_member next) ms) now (Low 0 0) [] (mapped ∙ as_many ∙ sym (length_shifted column own (whole fall) table))
-    (λ i i_in. subst (λ (b : Member). IsLine top u.common next rows news b (slice_index_or now i [])) (sym (get_or-map (moved_member next) ms i (Low 0 0) (Low 0 0) (omega (arith, i_in, mapped))))
+    (zip_from (IsLine top u.common next rows news) (map (moved_member next) ms) now (Low 0 0) [] (mapped ∙ as_many
+    ∙ sym (length_shifted column own (whole fall) table))
+    (λ i i_in. subst (λ (b : Member). IsLine top u.common next rows news b (slice_index_or now i []))
+    (sym (get_or-map (moved_member next) ms i (Low 0 0) (Low 0 0) (omega (arith, i_in, mapped))))
     (line i (omega (arith, i_in, mapped)))))
   where
     as_long : length (members_of costs (length rows)) ≡ length table
@@ -243,43 +304,59 @@ lines_moved top costs next rows basis table u news before after fall column own 
 
     other_member : (i : ℕ) → i < length (members_of costs (length rows)) → i ≢ own → slice_index_or (members_of costs (length rows)) i (Low 0 0) ≢ before
     other_member i i_in apart same =
-        apart (sym (place_there costs (length rows) i i_in) ∙ ap (place_of (length costs.low)) (same ∙ sym m.own_is) ∙ place_there costs (length rows) own m.own_in)
+        apart (sym (place_there costs (length rows) i i_in) ∙ ap (place_of (length costs.low)) (same ∙ sym m.own_is)
+        ∙ place_there costs (length rows) own m.own_in)
 
-    stand : (i : ℕ) → i < length (members_of costs (length rows)) → Stand u.common (slice_index_or (shifted_lines column own (whole fall) table) i []) (numbers_of (length costs.low) u.common next.low news (member_form (length costs.low) rows (moved_member next (slice_index_or (members_of costs (length rows)) i (Low 0 0)))))
+    stand : (i : ℕ) → i < length (members_of costs (length rows)) →
+        Stand u.common (slice_index_or (shifted_lines column own (whole fall) table) i [])
+        (numbers_of (length costs.low) u.common next.low news
+        (member_form (length costs.low) rows
+        (moved_member next (slice_index_or (members_of costs (length rows)) i (Low 0 0)))))
     stand i i_in =
         let n = length costs.low in
         let ms = members_of costs (length rows) in
         elim (cases_eq i own) [
           | inl same ↦
-              subst (λ (k : ℕ). Stand u.common (slice_index_or (shifted_lines column own (whole fall) table) k []) (numbers_of n u.common next.low news (member_form n rows (moved_member next (slice_index_or ms k (Low 0 0)))))) (sym same)
-              (subst (λ (f : Form). Stand u.common (slice_index_or (shifted_lines column own (whole fall) table) own []) (numbers_of n u.common next.low news f))
+              subst (λ (k : ℕ). Stand u.common (slice_index_or (shifted_lines column own (whole fall) table) k [])
+              (numbers_of n u.common next.low news
+              (member_form n rows (moved_member next (slice_index_or ms k (Low 0 0)))))) (sym same)
+              (subst (λ (f : Form). Stand u.common (slice_index_or (shifted_lines column own (whole fall) table) own [])
+              (numbers_of n u.common next.low news f))
               (sym (ap (λ (b : Member). member_form n rows (moved_member next b)) m.own_is ∙ ap (member_form n rows) m.falls.own ∙ m.falls.form))
               (own_stands top costs next rows basis table u news before after fall column own (omega (arith, m.own_in, as_long)) m))
           | inr other ↦
-              subst (λ (b : Member). Stand u.common (slice_index_or (shifted_lines column own (whole fall) table) i []) (numbers_of n u.common next.low news (member_form n rows b)))
+              subst (λ (b : Member). Stand u.common (slice_index_or (shifted_lines column own (whole fall) table) i [])
+              (numbers_of n u.common next.low news (member_form n rows b)))
               (sym (m.falls.others (slice_index_or ms i (Low 0 0)) (members_are costs rows i (Low 0 0) i_in) (other_member i i_in other)))
               (other_stands top costs next rows basis table u news before after fall column own i other (omega (arith, i_in, as_long)) i_in m)
         ]
 
-    line : (i : ℕ) → i < length (members_of costs (length rows)) → IsLine top u.common next rows news (moved_member next (slice_index_or (members_of costs (length rows)) i (Low 0 0))) (slice_index_or (shifted_lines column own (whole fall) table) i [])
+    line : (i : ℕ) → i < length (members_of costs (length rows)) →
+        IsLine top u.common next rows news
+        (moved_member next (slice_index_or (members_of costs (length rows)) i (Low 0 0)))
+        (slice_index_or (shifted_lines column own (whole fall) table) i [])
     line i i_in =
         let member = moved_member next (slice_index_or (members_of costs (length rows)) i (Low 0 0)) in
         let now = slice_index_or (shifted_lines column own (whole fall) table) i [] in
-        let here = rows_at top (suc (length costs.low)) (shifted_lines column own (whole fall) table) i [] m.rows_are (omega (arith, length_shifted column own (whole fall) table, as_long, i_in)) in
+        let here = rows_at top (suc (length costs.low)) (shifted_lines column own (whole fall) table) i [] m.rows_are
+        (omega (arith, length_shifted column own (whole fall) table, as_long, i_in)) in
         record {
           numbers = here.1;
           stand = subst (λ (w : ℕ). Stand u.common now (numbers_of w u.common next.low news (member_form w rows member))) (sym m.falls.width) (stand i i_in);
         }
 
-moved_is : (costs next : CostBox) (rows : List Form) (m : Member) → length next.low ≡ length costs.low → IsFormOf costs rows m → IsFormOf next rows (moved_member next m)
+moved_is : (costs next : CostBox) (rows : List Form) (m : Member) → length next.low ≡ length costs.low →
+    IsFormOf costs rows m → IsFormOf next rows (moved_member next m)
 moved_is costs next rows (Low v bound) width is = (omega (arith, width, is.0), refl)
 moved_is costs next rows (High v bound) width is = (omega (arith, width, is.0), refl)
 moved_is costs next rows (Row row) width is = is
 
-pub all_moved : (costs next : CostBox) (rows : List Form) (basis : List Member) → length next.low ≡ length costs.low → All (IsFormOf costs rows) basis → All (IsFormOf next rows) (moved next basis)
+pub all_moved : (costs next : CostBox) (rows : List Form) (basis : List Member) → length next.low ≡ length costs.low →
+    All (IsFormOf costs rows) basis → All (IsFormOf next rows) (moved next basis)
 all_moved costs next rows [] width are k d k_in = absurd (omega arith)
 all_moved costs next rows (b ∷ basis) width are zero d k_in = moved_is costs next rows b width (are 0 b (omega arith))
-all_moved costs next rows (b ∷ basis) width are (suc k) d k_in = all_moved costs next rows basis width (λ i e i_in. are (suc i) e (omega (arith, i_in))) k d (omega (arith, k_in))
+all_moved costs next rows (b ∷ basis) width are (suc k) d k_in =
+    all_moved costs next rows basis width (λ i e i_in. are (suc i) e (omega (arith, i_in))) k d (omega (arith, k_in))
 
 -- the column of a member is inside the basis
 pub column_inside : (basis : List Member) (member : Member) (column : Option ℕ) (n : ℕ) → length basis ≡ n → IsColumnOf basis member column → IsInside column n
@@ -287,7 +364,11 @@ column_inside basis member None n counted found = tt
 column_inside basis member (Some j) n counted found = omega (arith, counted, found.0)
 
 -- The table after the bound moved.
-pub unboxed_moved : (top : ℕ) (costs next : CostBox) (rows : List Form) (basis : List Member) (table : List (List Fraction)) (u : IsUnboxed top costs rows basis table) (news : List (List ℤ)) (before after : Member) (fall : ℤ) (column : Option ℕ) (own : ℕ) → IsMoveOf top costs next rows basis table u news before after fall column own → IsUnboxed top next rows (moved next basis) (shifted_lines column own (whole fall) table)
+pub unboxed_moved : (top : ℕ) (costs next : CostBox) (rows : List Form) (basis : List Member)
+    (table : List (List Fraction)) (u : IsUnboxed top costs rows basis table) (news : List (List ℤ))
+    (before after : Member) (fall : ℤ) (column : Option ℕ) (own : ℕ) →
+    IsMoveOf top costs next rows basis table u news before after fall column own →
+    IsUnboxed top next rows (moved next basis) (shifted_lines column own (whole fall) table)
 unboxed_moved top costs next rows basis table u news before after fall column own m =
     let n = length costs.low in
     let bs = forms_of costs rows basis in
@@ -319,10 +400,15 @@ unboxed_moved top costs next rows basis table u news before after fall column ow
       lines = lines_moved top costs next rows basis table u news before after fall column own m;
     }
   where
-    none : (k place : ℕ) → k < length costs.low → place ≤ length costs.low → place ≢ suc k → number_of u.common next.low news (slice_index_or (fallen_basis column fall (forms_of costs rows basis)) k no_form) place ≡ pos 0
+    none : (k place : ℕ) → k < length costs.low → place ≤ length costs.low → place ≢ suc k →
+        number_of u.common next.low news
+        (slice_index_or (fallen_basis column fall (forms_of costs rows basis)) k no_form) place ≡ pos 0
     none k zero k_in place_in apart =
-        kept_constants u.common (length costs.low) costs.low next.low u.lows news (forms_of costs rows basis) column fall (column_inside basis before column (length costs.low) u.count m.found) m.numbers u.own u.elsewhere (length-map basis (member_form (length costs.low) rows) ∙ u.count) k k_in
+        kept_constants u.common (length costs.low) costs.low next.low u.lows news (forms_of costs rows basis) column
+        fall (column_inside basis before column (length costs.low) u.count m.found) m.numbers u.own u.elsewhere
+        (length-map basis (member_form (length costs.low) rows) ∙ u.count) k k_in
     none k (suc p) k_in place_in apart =
         m.numbers.others (slice_index_or (fallen_basis column fall (forms_of costs rows basis)) k no_form) p
-        ∙ kept_columns u.common costs.low u.lows (forms_of costs rows basis) column fall k p (omega (arith, length-map basis (member_form (length costs.low) rows), u.count, k_in))
+        ∙ kept_columns u.common costs.low u.lows (forms_of costs rows basis) column fall k p
+        (omega (arith, length-map basis (member_form (length costs.low) rows), u.count, k_in))
         ∙ u.elsewhere k (suc p) k_in place_in apart

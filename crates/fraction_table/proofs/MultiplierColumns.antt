@@ -23,7 +23,7 @@ use Rattle.fraction_rows.specs.Entries.{AllNumbers}
 use Rattle.fraction_rows.specs.TableRows.{AreNumbers, IsNumber}
 use Rattle.fraction_table.specs.Wholes.{Stand}
 use Rattle.fraction_table.specs.Multipliers.{Each, IsPart, columns_numbered, common_of, fractions, fractions_of, numbered, whole_part, whole_parts, wholes}
-use Rattle.fraction_rows.proofs.Numbers.{times_lowest}
+use Rattle.fraction_rows.proofs.ZeroFractions.{times_lowest}
 use Rattle.fraction_table.proofs.Solutions.{low_number}
 use Rattle.fraction_table.proofs.MultiplierSums.{AreMade, IsEntry}
 
@@ -57,7 +57,9 @@ fractions_are basis r es =
     ∙ ap (λ ps. own_part r ++ ps) (columns_fractions basis (drop 1 es))
 
 -- with one more column
-pub columns_next : (members : List Member) (qs : List Fraction) (k : ℕ) (d : Member) → k < length members → k < length qs → columns_numbered (take (suc k) members) qs ≡ columns_numbered (take k members) qs ++ numbered (slice_index_or members k d) (unless_zero (entry qs k).numerator (entry qs k))
+pub columns_next : (members : List Member) (qs : List Fraction) (k : ℕ) (d : Member) → k < length members →
+    k < length qs → columns_numbered (take (suc k) members) qs ≡ columns_numbered (take k members) qs
+    ++ numbered (slice_index_or members k d) (unless_zero (entry qs k).numerator (entry qs k))
 columns_next [] qs k d k_in k_there = absurd (omega arith)
 columns_next (member ∷ members) [] k d k_in k_there = absurd (omega arith)
 columns_next (member ∷ members) (q ∷ qs) zero d k_in k_there = append-nil (numbered member (unless_zero q.numerator q))
@@ -71,7 +73,11 @@ dropped_entry [] k = refl
 dropped_entry (e ∷ es) k = refl
 
 -- the multipliers of a line, with one more column
-pub fractions_next : (basis : List Member) (r : Member) (es : List Fraction) (k n : ℕ) (member : Member) (q : Fraction) (olds news : List (ℕ × Fraction)) → k < length basis → k < n → length es ≡ suc n → olds ≡ numbered r (whole (pos 1) ∷ []) ++ columns_numbered (take k basis) (drop 1 es) → member ≡ slice_index_or basis k member → q ≡ entry es (suc k) → news ≡ olds ++ numbered member (unless_zero q.numerator q) →
+pub fractions_next : (basis : List Member) (r : Member) (es : List Fraction) (k n : ℕ) (member : Member) (q : Fraction)
+    (olds news : List (ℕ × Fraction)) → k < length basis → k < n → length es ≡ suc n →
+    olds ≡ numbered r (whole (pos 1) ∷ []) ++ columns_numbered (take k basis) (drop 1 es) →
+    member ≡ slice_index_or basis k member → q ≡ entry es (suc k) →
+    news ≡ olds ++ numbered member (unless_zero q.numerator q) →
     news ≡ numbered r (whole (pos 1) ∷ []) ++ columns_numbered (take (k + 1) basis) (drop 1 es)
 fractions_next basis r es k n member q olds news k_in k_there long olds_are member_is q_is news_are =
     let own = numbered r (whole (pos 1) ∷ []) in
@@ -128,13 +134,16 @@ negated_number top q is =
       within = record { numerator = omega (arith, negated_abs q.numerator, is.within.numerator); denominator = is.within.denominator };
     }
 
-column_is : (top count row : ℕ) (z : ℤ) (q : Fraction) → z ≡ q.numerator → row < count → IsNumber top q → q.numerator ≤ℤ pos 0 → Each (IsPart top count) (numbered (Row row) (unless_zero z q))
+column_is : (top count row : ℕ) (z : ℤ) (q : Fraction) → z ≡ q.numerator → row < count → IsNumber top q →
+    q.numerator ≤ℤ pos 0 → Each (IsPart top count) (numbered (Row row) (unless_zero z q))
 column_is top count row (pos zero) q z_is row_in is low = tt
 column_is top count row (pos (suc n)) q z_is row_in is low = absurd (omega (arith, ints))
 column_is top count row (negsuc n) q z_is row_in is low =
     (record { row = row_in; number = negated_number top q is; positive = subst (λ (z : ℤ). pos 0 <ℤ neg_ℤ z) z_is (omega (arith, ints)) }, tt)
 
-numbered_are : (top : ℕ) (costs : CostBox) (rows : List Form) (member : Member) (q : Fraction) → IsFormOf costs rows member → IsNumber top q → q.numerator ≤ℤ pos 0 → Each (IsPart top (length rows)) (numbered member (unless_zero q.numerator q))
+numbered_are : (top : ℕ) (costs : CostBox) (rows : List Form) (member : Member) (q : Fraction) →
+    IsFormOf costs rows member → IsNumber top q → q.numerator ≤ℤ pos 0 →
+    Each (IsPart top (length rows)) (numbered member (unless_zero q.numerator q))
 numbered_are top costs rows (Low v bound) q is number low = tt
 numbered_are top costs rows (High v bound) q is number low = tt
 numbered_are top costs rows (Row row) q is number low = column_is top (length rows) row q.numerator q refl is number low
@@ -143,7 +152,9 @@ abbrev pub AreLow : List Fraction → Type 0
 AreLow [] = Unit {0}
 AreLow (q ∷ qs) = (q.numerator ≤ℤ pos 0) × AreLow qs
 
-pub columns_are : (top : ℕ) (costs : CostBox) (rows : List Form) (members : List Member) (qs : List Fraction) → All (IsFormOf costs rows) members → AreNumbers top qs → AreLow qs → Each (IsPart top (length rows)) (columns_numbered members qs)
+pub columns_are : (top : ℕ) (costs : CostBox) (rows : List Form) (members : List Member) (qs : List Fraction) →
+    All (IsFormOf costs rows) members → AreNumbers top qs → AreLow qs →
+    Each (IsPart top (length rows)) (columns_numbered members qs)
 columns_are top costs rows [] qs forms numbers low = tt
 columns_are top costs rows (member ∷ members) [] forms numbers low = tt
 columns_are top costs rows (member ∷ members) (q ∷ qs) forms numbers low =
@@ -151,7 +162,8 @@ columns_are top costs rows (member ∷ members) (q ∷ qs) forms numbers low =
     (numbered_are top costs rows member q (forms 0 member (omega arith)) numbers.0 low.0)
     (columns_are top costs rows members qs (λ k d k_in. forms (suc k) d (omega arith)) numbers.1 low.1)
 
-pub own_is : (top : ℕ) (costs : CostBox) (rows : List Form) (r : Member) → IsFormOf costs rows r → IsNumber top (whole (pos 1)) → Each (IsPart top (length rows)) (numbered r (whole (pos 1) ∷ []))
+pub own_is : (top : ℕ) (costs : CostBox) (rows : List Form) (r : Member) → IsFormOf costs rows r →
+    IsNumber top (whole (pos 1)) → Each (IsPart top (length rows)) (numbered r (whole (pos 1) ∷ []))
 own_is top costs rows (Low v bound) is one = tt
 own_is top costs rows (High v bound) is one = tt
 own_is top costs rows (Row row) is one = (record { row = is; number = one; positive = omega (arith, ints) }, tt)
@@ -161,15 +173,18 @@ numbers_of_parts top count [] are = tt
 numbers_of_parts top count (part ∷ parts) are = (are.0.number, numbers_of_parts top count parts are.1)
 
 -- each denominator divides the common multiple
-fold_divides : (a : ℕ) (ds : List ℕ) → a ∣ fold lcm a ds
+pub fold_divides : (a : ℕ) (ds : List ℕ) → a ∣ fold lcm a ds
 fold_divides a [] = dvd_refl a
 fold_divides a (d ∷ ds) = dvd_trans a (left_divides_lcm a d) (fold_divides (lcm a d) ds)
 
 folded_divide : (a : ℕ) (parts : List (ℕ × Fraction)) → Each (λ part. part.1.denominator ∣ fold lcm a (denominators (fractions parts))) parts
 folded_divide a [] = tt
 folded_divide a (part ∷ parts) =
-    let rest = denominators (fractions parts) in
-    (dvd_trans part.1.denominator (right_divides_lcm a part.1.denominator) (fold_divides (lcm a part.1.denominator) rest), folded_divide (lcm a part.1.denominator) parts)
+    let rest = denominators (fractions parts) in (
+      dvd_trans part.1.denominator (right_divides_lcm a part.1.denominator)
+          (fold_divides (lcm a part.1.denominator) rest),
+      folded_divide (lcm a part.1.denominator) parts,
+    )
 
 pub common_divides : (parts : List (ℕ × Fraction)) → Each (λ part. part.1.denominator ∣ common_of parts) parts
 common_divides parts = folded_divide 1 parts
@@ -187,7 +202,8 @@ pub whole_from : (t : Fraction) (n : ℤ) → IsLowest t → StandsFor t n 1 →
 whole_from t n lowest stands = lowest_unique t (whole n) lowest (record { positive = omega arith; lowest = gcd-one (nat_abs n) }) stands
 
 -- a fraction, times a multiple of its denominator, is whole
-pub whole_times : (q : Fraction) (L : ℕ) → 0 < q.denominator → 0 < L → q.denominator ∣ L → times q (whole (pos L)) ≡ whole (q.numerator *ℤ pos (L / q.denominator))
+pub whole_times : (q : Fraction) (L : ℕ) → 0 < q.denominator → 0 < L → q.denominator ∣ L →
+    times q (whole (pos L)) ≡ whole (q.numerator *ℤ pos (L / q.denominator))
 whole_times q L q_positive L_positive divides =
     let N = q.numerator *ℤ pos (L / q.denominator) in
     let t = times q (whole (pos L)) in
@@ -213,7 +229,10 @@ quotient_high L d L_positive divides = from (L / d) (div-mul_cancel d divides)
     from (suc k) same = omega arith
 
 -- it is a positive natural number
-pub made_natural : (q : Fraction) (L : ℕ) → 0 < q.denominator → 0 < L → q.denominator ∣ L → pos 0 <ℤ q.numerator → (times q (whole (pos L)) ≡ whole (pos (nat_abs (times q (whole (pos L))).numerator))) × (0 < nat_abs (times q (whole (pos L))).numerator) × (pos (nat_abs (times q (whole (pos L))).numerator) ≡ (q.numerator *ℤ pos (L / q.denominator)))
+pub made_natural : (q : Fraction) (L : ℕ) → 0 < q.denominator → 0 < L → q.denominator ∣ L → pos 0 <ℤ q.numerator →
+    (times q (whole (pos L)) ≡ whole (pos (nat_abs (times q (whole (pos L))).numerator)))
+    × (0 < nat_abs (times q (whole (pos L))).numerator)
+    × (pos (nat_abs (times q (whole (pos L))).numerator) ≡ (q.numerator *ℤ pos (L / q.denominator)))
 made_natural q L q_positive L_positive divides positive =
     let N = q.numerator *ℤ pos (L / q.denominator) in
     let is = whole_times q L q_positive L_positive divides in
@@ -231,19 +250,34 @@ made_column D L K d z m p stands whole_is p_is =
     (using (neg (var 4)) (var 1 ⊗ var 0) (var 2 ⊗ var 3) stands (using (neg (var 2)) (var 4 ⊗ var 3) (var 5) (ap pos whole_is) no_more)) refl
 
 -- a column's part, D-fold
-row_made : (D L row : ℕ) (z : ℤ) (q : Fraction) (m : ℤ) → z ≡ q.numerator → 0 < q.denominator → 0 < L → q.numerator ≤ℤ pos 0 → StandsFor q m D → Each (λ part. part.1.denominator ∣ L) (numbered (Row row) (unless_zero z q)) →
+row_made : (D L row : ℕ) (z : ℤ) (q : Fraction) (m : ℤ) → z ≡ q.numerator → 0 < q.denominator → 0 < L →
+    q.numerator ≤ℤ pos 0 → StandsFor q m D →
+    Each (λ part. part.1.denominator ∣ L) (numbered (Row row) (unless_zero z q)) →
     Each (λ part. (pos D *ℤ pos (whole_part L part).1) ≡ neg_ℤ (m *ℤ pos L)) (numbered (Row row) (unless_zero z q))
 row_made D L row (pos zero) q m z_is q_positive L_positive low stands divides = tt
 row_made D L row (pos (suc n)) q m z_is q_positive L_positive low stands divides = absurd (omega (arith, ints))
 row_made D L row (negsuc n) q m z_is q_positive L_positive low stands divides =
-    let made = made_natural (negated q) L q_positive L_positive divides.0 (subst (λ (z : ℤ). pos 0 <ℤ neg_ℤ z) z_is (omega (arith, ints))) in
-    (made_column D L (L / q.denominator) q.denominator q.numerator m (pos (whole_part L (row, negated q)).1) stands (div-mul_cancel q.denominator divides.0) made.2, tt)
+    let made = made_natural (negated q) L q_positive L_positive divides.0 (subst (λ (z : ℤ). pos 0 <ℤ neg_ℤ z) z_is (omega (arith, ints))) in (
+      made_column D L (L / q.denominator) q.denominator q.numerator m (pos (whole_part L (row, negated q)).1) stands
+          (div-mul_cancel q.denominator divides.0) made.2,
+      tt,
+    )
 
-entry_is : (D L : ℕ) (member : Member) (q : Fraction) (m : ℤ) → 0 < q.denominator → 0 < D → 0 < L → q.numerator ≤ℤ pos 0 → StandsFor q m D → Each (λ part. part.1.denominator ∣ L) (numbered member (unless_zero q.numerator q)) → IsEntry D L member q m
+entry_is : (D L : ℕ) (member : Member) (q : Fraction) (m : ℤ) → 0 < q.denominator → 0 < D → 0 < L →
+    q.numerator ≤ℤ pos 0 → StandsFor q m D →
+    Each (λ part. part.1.denominator ∣ L) (numbered member (unless_zero q.numerator q)) → IsEntry D L member q m
 entry_is D L (Low v bound) q m q_positive D_positive L_positive low stands divides =
-    record { none = (zero_stands q m D q_positive D_positive stands).0; low = low_number q.numerator m q.denominator D q_positive D_positive stands low; made = tt }
+    record {
+      none = (zero_stands q m D q_positive D_positive stands).0;
+      low = low_number q.numerator m q.denominator D q_positive D_positive stands low;
+      made = tt;
+    }
 entry_is D L (High v bound) q m q_positive D_positive L_positive low stands divides =
-    record { none = (zero_stands q m D q_positive D_positive stands).0; low = low_number q.numerator m q.denominator D q_positive D_positive stands low; made = tt }
+    record {
+      none = (zero_stands q m D q_positive D_positive stands).0;
+      low = low_number q.numerator m q.denominator D q_positive D_positive stands low;
+      made = tt;
+    }
 entry_is D L (Row row) q m q_positive D_positive L_positive low stands divides =
     record {
       none = (zero_stands q m D q_positive D_positive stands).0;
@@ -251,7 +285,9 @@ entry_is D L (Row row) q m q_positive D_positive L_positive low stands divides =
       made = row_made D L row q.numerator q m refl q_positive L_positive low stands divides;
     }
 
-pub are_made : (top D L : ℕ) (members : List Member) (qs : List Fraction) (ms : List ℤ) → length members ≡ length qs → 0 < D → 0 < L → AreNumbers top qs → AreLow qs → Stand D qs ms → Each (λ part. part.1.denominator ∣ L) (columns_numbered members qs) → AreMade D L members qs ms
+pub are_made : (top D L : ℕ) (members : List Member) (qs : List Fraction) (ms : List ℤ) → length members ≡ length qs →
+    0 < D → 0 < L → AreNumbers top qs → AreLow qs → Stand D qs ms →
+    Each (λ part. part.1.denominator ∣ L) (columns_numbered members qs) → AreMade D L members qs ms
 are_made top D L [] qs ms same D_positive L_positive numbers low stand divides = tt
 are_made top D L (member ∷ members) [] ms same D_positive L_positive numbers low stand divides = absurd (omega arith)
 are_made top D L (member ∷ members) (q ∷ qs) [] same D_positive L_positive numbers low stand divides = absurd stand
@@ -273,7 +309,9 @@ own_made L (Row row) L_positive =
     one_times n = ring (pos (n / 1) ∷ []) (num (pos 1) ⊗ var 0) (var 0) refl ∙ ap pos (div-one n)
 
 -- all parts are whole and positive
-pub parts_whole : (top count L : ℕ) (parts : List (ℕ × Fraction)) → 0 < L → Each (IsPart top count) parts → Each (λ part. part.1.denominator ∣ L) parts → Each (λ part. (part.0 < count) × (0 < part.1)) (map (whole_part L) parts)
+pub parts_whole : (top count L : ℕ) (parts : List (ℕ × Fraction)) → 0 < L → Each (IsPart top count) parts →
+    Each (λ part. part.1.denominator ∣ L) parts →
+    Each (λ part. (part.0 < count) × (0 < part.1)) (map (whole_part L) parts)
 parts_whole top count L [] L_positive are divide = tt
 parts_whole top count L (part ∷ parts) L_positive are divide = (
   (are.0.row, (made_natural part.1 L are.0.number.lowest.positive L_positive divide.0 are.0.positive).1),
@@ -281,7 +319,9 @@ parts_whole top count L (part ∷ parts) L_positive are divide = (
 )
 
 -- as fractions they are the multipliers, made whole
-wholes_of : (top count L : ℕ) (parts : List (ℕ × Fraction)) → 0 < L → Each (IsPart top count) parts → Each (λ part. part.1.denominator ∣ L) parts → map (λ q. times q (whole (pos L))) (fractions parts) ≡ wholes (map (whole_part L) parts)
+wholes_of : (top count L : ℕ) (parts : List (ℕ × Fraction)) → 0 < L → Each (IsPart top count) parts →
+    Each (λ part. part.1.denominator ∣ L) parts → map (λ q. times q (whole (pos L))) (fractions parts)
+    ≡ wholes (map (whole_part L) parts)
 wholes_of top count L [] L_positive are divide = refl
 wholes_of top count L (part ∷ parts) L_positive are divide =
     cc ((made_natural part.1 L are.0.number.lowest.positive L_positive divide.0 are.0.positive).0, wholes_of top count L parts L_positive are.1 divide.1)

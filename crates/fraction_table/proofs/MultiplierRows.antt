@@ -45,7 +45,9 @@ columns_other row (member ∷ members) (q ∷ qs) apart =
     (columns_other row members qs (λ k k_in. apart (suc k) (omega arith)))
 
 -- one member more
-member_first : (member : Member) (z : ℤ) (q : Fraction) (rest : List (ℕ × Fraction)) → ((row : ℕ) → member ≡ Row row → Each (λ p. p.0 ≢ row) rest) → Different rest → Different (numbered member (unless_zero z q) ++ rest)
+member_first : (member : Member) (z : ℤ) (q : Fraction) (rest : List (ℕ × Fraction)) →
+    ((row : ℕ) → member ≡ Row row → Each (λ p. p.0 ≢ row) rest) → Different rest →
+    Different (numbered member (unless_zero z q) ++ rest)
 member_first (Low v bound) z q rest other different = different
 member_first (High v bound) z q rest other different = different
 member_first (Row row) (pos zero) q rest other different = different
@@ -60,12 +62,14 @@ columns_different (member ∷ members) (q ∷ qs) apart =
     (λ row is. columns_other row members qs (λ k k_in same. apart 0 (suc k) (omega arith) (omega arith) (same ∙ sym is)))
     (columns_different members qs (λ j k before k_in. apart (suc j) (suc k) (omega arith) (omega arith)))
 
-own_first : (r : Member) (q : Fraction) (rest : List (ℕ × Fraction)) → ((row : ℕ) → r ≡ Row row → Each (λ p. p.0 ≢ row) rest) → Different rest → Different (numbered r (q ∷ []) ++ rest)
+own_first : (r : Member) (q : Fraction) (rest : List (ℕ × Fraction)) →
+    ((row : ℕ) → r ≡ Row row → Each (λ p. p.0 ≢ row) rest) → Different rest → Different (numbered r (q ∷ []) ++ rest)
 own_first (Low v bound) q rest other different = different
 own_first (High v bound) q rest other different = different
 own_first (Row row) q rest other different = (other row refl, different)
 
-pub parts_different : (r : Member) (q : Fraction) (members : List Member) (qs : List Fraction) → IsApart r members → AreApart members → Different (numbered r (q ∷ []) ++ columns_numbered members qs)
+pub parts_different : (r : Member) (q : Fraction) (members : List Member) (qs : List Fraction) → IsApart r members →
+    AreApart members → Different (numbered r (q ∷ []) ++ columns_numbered members qs)
 parts_different r q members qs own apart =
     own_first r q (columns_numbered members qs)
     (λ row is. columns_other row members qs (λ k k_in same. own k k_in (same ∙ sym is)))
@@ -111,7 +115,8 @@ count_one row (p ∷ ps) (suc k) d k_in there =
     let rest = count_one row ps k d (omega arith) there in
     omega (arith, sum_by-cons (one_of row) p ps, rest)
 
-count_two : (row : ℕ) (ps : List (ℕ × ℕ)) (i j : ℕ) (d : ℕ × ℕ) → i < j → j < length ps → (slice_index_or ps i d).0 ≡ row → (slice_index_or ps j d).0 ≡ row → 2 ≤ sum_by (one_of row) ps
+count_two : (row : ℕ) (ps : List (ℕ × ℕ)) (i j : ℕ) (d : ℕ × ℕ) → i < j → j < length ps →
+    (slice_index_or ps i d).0 ≡ row → (slice_index_or ps j d).0 ≡ row → 2 ≤ sum_by (one_of row) ps
 count_two row [] i j d before j_in first second = absurd (omega arith)
 count_two row (p ∷ ps) i zero d before j_in first second = absurd (omega arith)
 count_two row (p ∷ ps) zero (suc j) d before j_in first second =
@@ -148,7 +153,8 @@ raising forms w part = part.1 * up (value (form_at forms part.0) w)
 abbrev lowering : List Form → List ℕ → (ℕ × ℕ) → ℕ
 lowering forms w part = part.1 * down (value (form_at forms part.0) w)
 
-value_split : (forms : List Form) (w : List ℕ) (parts : List (ℕ × ℕ)) → value (weighted forms parts) w ≡ (pos (sum_by (raising forms w) parts) -ℤ pos (sum_by (lowering forms w) parts))
+value_split : (forms : List Form) (w : List ℕ) (parts : List (ℕ × ℕ)) →
+    value (weighted forms parts) w ≡ (pos (sum_by (raising forms w) parts) -ℤ pos (sum_by (lowering forms w) parts))
 value_split forms w [] = refl
 value_split forms w (part ∷ parts) =
     let a = raising forms w part in

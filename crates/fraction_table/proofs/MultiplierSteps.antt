@@ -20,7 +20,7 @@ use Rattle.fraction_table.specs.Multipliers.IsMultiplierStep.{multiple, product}
 use Rattle.fraction_table.specs.Multipliers.IsTallyStep.{sum, scale}
 use Rattle.fraction_rows.specs.TableRows.{IsNumber}
 use Rattle.fraction_table.proofs.MultiplierColumns.{whole_from}
-use Rattle.fraction_rows.proofs.Tops.{top_small}
+use Rattle.fraction_rows.proofs.SmallNumbers.{top_small}
 
 -- a number of at most 127 bits is read as it is
 pub read_back : (z : ℤ) → nat_abs z < 2 ^ 127 → to_z w128 (of_z w128 z) ≡ z
@@ -31,7 +31,8 @@ read_back z small =
 pub read_natural : (n : ℕ) → n < 2 ^ 127 → to_z w128 n ≡ pos n
 read_natural n small = to_z_pos w128 n small
 
-pub part_number : (top : ℕ) (parts : List (ℕ × Fraction)) (k : ℕ) (d : ℕ × Fraction) → AllNumbers top parts → k < length parts → IsNumber top (slice_index_or parts k d).1
+pub part_number : (top : ℕ) (parts : List (ℕ × Fraction)) (k : ℕ) (d : ℕ × Fraction) → AllNumbers top parts →
+    k < length parts → IsNumber top (slice_index_or parts k d).1
 part_number top [] k d numbers k_in = absurd (omega arith)
 part_number top (part ∷ parts) zero d numbers k_in = numbers.0
 part_number top (part ∷ parts) (suc k) d numbers k_in = part_number top parts k d numbers.1 (omega arith)
@@ -42,7 +43,8 @@ fractions_long parts = length-map parts (λ (part : ℕ × Fraction). part.1)
 pub denominators_long : (parts : List (ℕ × Fraction)) → length (denominators (fractions parts)) ≡ length parts
 denominators_long parts = length-map (fractions parts) (λ (q : Fraction). q.denominator) ∙ fractions_long parts
 
-denominator_there : (parts : List (ℕ × Fraction)) (k : ℕ) (d : ℕ × Fraction) (e : ℕ) → k < length parts → slice_index_or (denominators (fractions parts)) k e ≡ (slice_index_or parts k d).1.denominator
+denominator_there : (parts : List (ℕ × Fraction)) (k : ℕ) (d : ℕ × Fraction) (e : ℕ) → k < length parts →
+    slice_index_or (denominators (fractions parts)) k e ≡ (slice_index_or parts k d).1.denominator
 denominator_there parts k d e k_in =
     get_or-map (λ (q : Fraction). q.denominator) (fractions parts) k d.1 e (omega (arith, fractions_long parts, k_in))
     ∙ ap (λ (q : Fraction). q.denominator) (get_or-map (λ (part : ℕ × Fraction). part.1) parts k d d.1 k_in)
@@ -60,14 +62,18 @@ positive_denominator top q z is z_is = subst (λ (x : ℤ). pos 0 <ℤ x) (sym z
 
 pub positive_multiple : (m z n : ℤ) → pos 0 <ℤ m → pos 0 <ℤ z → n ≡ pos (lcm (nat_abs m) (nat_abs z)) → pos 0 <ℤ n
 positive_multiple m z n m_positive z_positive n_is =
-    subst (λ (x : ℤ). pos 0 <ℤ x) (sym n_is) (natural_high (lcm (nat_abs m) (nat_abs z)) (lcm_positive (nat_abs m) (nat_abs z) (size m m_positive) (size z z_positive)))
+    subst (λ (x : ℤ). pos 0 <ℤ x) (sym n_is)
+    (natural_high (lcm (nat_abs m) (nat_abs z))
+    (lcm_positive (nat_abs m) (nat_abs z) (size m m_positive) (size z z_positive)))
   where
     size : (x : ℤ) → pos 0 <ℤ x → 0 < nat_abs x
     size (pos k) up = omega (arith, ints)
     size (negsuc k) up = omega arith
 
 -- the multiple of one more denominator
-pub multiple_next : (parts : List (ℕ × Fraction)) (k : ℕ) (d : ℕ × Fraction) (m n z : ℤ) → k < length parts → m ≡ pos (lcm_of (take k (denominators (fractions parts)))) → z ≡ pos (slice_index_or parts k d).1.denominator → n ≡ pos (lcm (nat_abs m) (nat_abs z)) → n ≡ pos (lcm_of (take (k + 1) (denominators (fractions parts))))
+pub multiple_next : (parts : List (ℕ × Fraction)) (k : ℕ) (d : ℕ × Fraction) (m n z : ℤ) → k < length parts →
+    m ≡ pos (lcm_of (take k (denominators (fractions parts)))) → z ≡ pos (slice_index_or parts k d).1.denominator →
+    n ≡ pos (lcm (nat_abs m) (nat_abs z)) → n ≡ pos (lcm_of (take (k + 1) (denominators (fractions parts))))
 multiple_next parts k d m n z k_in m_is z_is n_is =
     let ds = denominators (fractions parts) in
     n_is
@@ -76,16 +82,24 @@ multiple_next parts k d m n z k_in m_is z_is n_is =
     ∙ ap (λ (x : ℕ). pos (lcm (lcm_of (take k ds)) x)) (sym (denominator_there parts k d 0 k_in))
     ∙ ap pos (sym (fold_more lcm 1 ds k 0 (omega (arith, denominators_long parts, k_in))))
 
-pub multiple_wide : (parts : List (ℕ × Fraction)) (k : ℕ) (d : ℕ × Fraction) (m z : ℤ) (wide : Wide) → k < length parts → m ≡ pos (lcm_of (take k (denominators (fractions parts)))) → z ≡ pos (slice_index_or parts k d).1.denominator → wide ≡ record { step = Lcm; left = whole m; right = whole z } → IsMultiplierStep (fractions parts) wide
+pub multiple_wide : (parts : List (ℕ × Fraction)) (k : ℕ) (d : ℕ × Fraction) (m z : ℤ) (wide : Wide) →
+    k < length parts → m ≡ pos (lcm_of (take k (denominators (fractions parts)))) →
+    z ≡ pos (slice_index_or parts k d).1.denominator → wide ≡ record { step = Lcm; left = whole m; right = whole z } →
+    IsMultiplierStep (fractions parts) wide
 multiple_wide parts k d m z wide k_in m_is z_is wide_is =
     let ds = denominators (fractions parts) in
     multiple k (slice_index_or ds k 0) (slice_get-get_or ds k 0 (omega (arith, denominators_long parts, k_in)))
     (wide_is
     ∙ ap {B = Wide} (λ (x : ℤ). record { step = Lcm; left = whole x; right = whole z }) m_is
-    ∙ ap {B = Wide} (λ (x : ℤ). record { step = Lcm; left = whole (pos (lcm_of (take k ds))); right = whole x }) (z_is ∙ ap pos (sym (denominator_there parts k d 0 k_in))))
+    ∙ ap {B = Wide} (λ (x : ℤ). record { step = Lcm; left = whole (pos (lcm_of (take k ds))); right = whole x })
+    (z_is ∙ ap pos (sym (denominator_there parts k d 0 k_in))))
 
 -- one more multiplier that is made whole
-pub made_next : (parts : List (ℕ × Fraction)) (k : ℕ) (d : ℕ × Fraction) (m : ℤ) (made news : List (ℕ × ℕ)) (q : Fraction) → k < length parts → m ≡ pos (common_of parts) → made ≡ map (whole_part (common_of parts)) (take k parts) → q ≡ times (slice_index_or parts k d).1 (whole m) → news ≡ made ++ ((slice_index_or parts k d).0, nat_abs q.numerator) ∷ [] → news ≡ map (whole_part (common_of parts)) (take (k + 1) parts)
+pub made_next : (parts : List (ℕ × Fraction)) (k : ℕ) (d : ℕ × Fraction) (m : ℤ) (made news : List (ℕ × ℕ))
+    (q : Fraction) → k < length parts → m ≡ pos (common_of parts) →
+    made ≡ map (whole_part (common_of parts)) (take k parts) → q ≡ times (slice_index_or parts k d).1 (whole m) →
+    news ≡ made ++ ((slice_index_or parts k d).0, nat_abs q.numerator) ∷ [] →
+    news ≡ map (whole_part (common_of parts)) (take (k + 1) parts)
 made_next parts k d m made news q k_in m_is made_is q_is news_is =
     let L = common_of parts in
     let part = slice_index_or parts k d in
@@ -96,37 +110,47 @@ made_next parts k d m made news q k_in m_is made_is q_is news_is =
     ∙ ap (map (whole_part L)) (sym (take_more parts k d k_in))
 
 -- what a push puts, by what was read of the parts
-pub part_put : (parts : List (ℕ × Fraction)) (k : ℕ) (d e : ℕ × Fraction) (olds news : List (ℕ × ℕ)) (size n : ℕ) → k < length parts → size ≡ n → news ≡ olds ++ ((slice_index_or parts k e).0, size) ∷ [] → news ≡ olds ++ ((slice_index_or parts k d).0, n) ∷ []
+pub part_put : (parts : List (ℕ × Fraction)) (k : ℕ) (d e : ℕ × Fraction) (olds news : List (ℕ × ℕ)) (size n : ℕ) →
+    k < length parts → size ≡ n → news ≡ olds ++ ((slice_index_or parts k e).0, size) ∷ [] →
+    news ≡ olds ++ ((slice_index_or parts k d).0, n) ∷ []
 part_put parts k d e olds news size n k_in size_is news_is =
     news_is
     ∙ ap (λ (part : ℕ × Fraction). olds ++ (part.0, size) ∷ []) (get_or_default parts k e d k_in)
     ∙ ap (λ (m : ℕ). olds ++ ((slice_index_or parts k d).0, m) ∷ []) size_is
 
-pub made_wide : (parts : List (ℕ × Fraction)) (k : ℕ) (d : ℕ × Fraction) (m : ℤ) (wide : Wide) → k < length parts → m ≡ pos (common_of parts) → wide ≡ record { step = Mul; left = (slice_index_or parts k d).1; right = whole m } → IsMultiplierStep (fractions parts) wide
+pub made_wide : (parts : List (ℕ × Fraction)) (k : ℕ) (d : ℕ × Fraction) (m : ℤ) (wide : Wide) → k < length parts →
+    m ≡ pos (common_of parts) → wide ≡ record { step = Mul; left = (slice_index_or parts k d).1; right = whole m } →
+    IsMultiplierStep (fractions parts) wide
 made_wide parts k d m wide k_in m_is wide_is =
     let e = (slice_index_or parts k d).1 in
     product k (slice_index_or (fractions parts) k e) (slice_get-get_or (fractions parts) k e (omega (arith, fractions_long parts, k_in)))
     (wide_is
     ∙ ap {B = Wide} (λ (x : ℤ). record { step = Mul; left = e; right = whole x }) m_is
-    ∙ ap {B = Wide} (λ (q : Fraction). record { step = Mul; left = q; right = whole (pos (common_of parts)) }) (sym (get_or-map (λ (part : ℕ × Fraction). part.1) parts k d e k_in)))
+    ∙ ap {B = Wide} (λ (q : Fraction). record { step = Mul; left = q; right = whole (pos (common_of parts)) })
+    (sym (get_or-map (λ (part : ℕ × Fraction). part.1) parts k d e k_in)))
 
 -- one more multiplier in the sum
 pub wholes_long : (parts : List (ℕ × ℕ)) → length (wholes parts) ≡ length parts
 wholes_long parts = length-map {B = Fraction} parts (λ part. whole (pos part.1))
 
-pub sum_next : (parts : List (ℕ × ℕ)) (k : ℕ) (d : ℕ × ℕ) (so_far next value : Fraction) → k < length parts → so_far ≡ sum_of (take k (wholes parts)) → value ≡ whole (pos (slice_index_or parts k d).1) → next ≡ plus so_far value → next ≡ sum_of (take (k + 1) (wholes parts))
+pub sum_next : (parts : List (ℕ × ℕ)) (k : ℕ) (d : ℕ × ℕ) (so_far next value : Fraction) → k < length parts →
+    so_far ≡ sum_of (take k (wholes parts)) → value ≡ whole (pos (slice_index_or parts k d).1) →
+    next ≡ plus so_far value → next ≡ sum_of (take (k + 1) (wholes parts))
 sum_next parts k d so_far next value k_in so_far_is value_is next_is =
     next_is
     ∙ ap (λ (q : Fraction). plus q value) so_far_is
     ∙ ap (λ (q : Fraction). plus (sum_of (take k (wholes parts))) q) (value_is ∙ sym (get_or-map (λ (part : ℕ × ℕ). whole (pos part.1)) parts k d value k_in))
     ∙ sym (fold_more plus (whole (pos 0)) (wholes parts) k value (omega (arith, wholes_long parts, k_in)))
 
-pub sum_wide : (parts : List (ℕ × ℕ)) (k : ℕ) (d : ℕ × ℕ) (so_far value : Fraction) (wide : Wide) → k < length parts → so_far ≡ sum_of (take k (wholes parts)) → value ≡ whole (pos (slice_index_or parts k d).1) → wide ≡ record { step = Add; left = so_far; right = value } → IsTallyStep (wholes parts) wide
+pub sum_wide : (parts : List (ℕ × ℕ)) (k : ℕ) (d : ℕ × ℕ) (so_far value : Fraction) (wide : Wide) → k < length parts →
+    so_far ≡ sum_of (take k (wholes parts)) → value ≡ whole (pos (slice_index_or parts k d).1) →
+    wide ≡ record { step = Add; left = so_far; right = value } → IsTallyStep (wholes parts) wide
 sum_wide parts k d so_far value wide k_in so_far_is value_is wide_is =
     sum k (slice_index_or (wholes parts) k value) (slice_get-get_or (wholes parts) k value (omega (arith, wholes_long parts, k_in)))
     (wide_is
     ∙ ap {B = Wide} (λ (q : Fraction). record { step = Add; left = q; right = value }) so_far_is
-    ∙ ap {B = Wide} (λ (q : Fraction). record { step = Add; left = sum_of (take k (wholes parts)); right = q }) (value_is ∙ sym (get_or-map (λ (part : ℕ × ℕ). whole (pos part.1)) parts k d value k_in)))
+    ∙ ap {B = Wide} (λ (q : Fraction). record { step = Add; left = sum_of (take k (wholes parts)); right = q })
+    (value_is ∙ sym (get_or-map (λ (part : ℕ × ℕ). whole (pos part.1)) parts k d value k_in)))
 
 -- the sum is whole
 plus_whole : (a b : ℕ) → plus (whole (pos a)) (whole (pos b)) ≡ whole (pos (a + b))
@@ -156,7 +180,8 @@ pub wide_multiplier : (top : ℕ) (qs : List Fraction) (wide : Wide) → IsMulti
 wide_multiplier top qs wide step passes = (step, passes)
 
 -- multipliers of at most the top, with one more
-pub all_more : (top : ℕ) (olds news : List (ℕ × ℕ)) (part : ℕ × ℕ) → news ≡ olds ++ part ∷ [] → All (λ p. p.1 ≤ top) olds → part.1 ≤ top → All (λ p. p.1 ≤ top) news
+pub all_more : (top : ℕ) (olds news : List (ℕ × ℕ)) (part : ℕ × ℕ) → news ≡ olds ++ part ∷ [] →
+    All (λ p. p.1 ≤ top) olds → part.1 ≤ top → All (λ p. p.1 ≤ top) news
 all_more top olds news part news_are within last =
     subst (λ (ps : List (ℕ × ℕ)). All (λ p. p.1 ≤ top) ps) (sym news_are) (put olds within)
   where
@@ -166,9 +191,12 @@ all_more top olds news part news_are within last =
     put (p ∷ ps) all zero d k_in = all 0 d (omega arith)
     put (p ∷ ps) all (suc k) d k_in = put ps (λ j e j_in. all (suc j) e (omega arith)) k d (omega arith)
 
-pub scale_wide : (parts : List (ℕ × ℕ)) (so_far : Fraction) (wide : Wide) → so_far ≡ sum_of (wholes parts) → wide ≡ record { step = Scale; left = whole so_far.numerator; right = whole (pos (2 ^ 27)) } → IsTallyStep (wholes parts) wide
+pub scale_wide : (parts : List (ℕ × ℕ)) (so_far : Fraction) (wide : Wide) → so_far ≡ sum_of (wholes parts) →
+    wide ≡ record { step = Scale; left = whole so_far.numerator; right = whole (pos (2 ^ 27)) } →
+    IsTallyStep (wholes parts) wide
 scale_wide parts so_far wide so_far_is wide_is =
-    scale (wide_is ∙ ap {B = Wide} (λ (q : Fraction). record { step = Scale; left = q; right = whole (pos (2 ^ 27)) }) (same so_far (so_far_is ∙ sum_whole parts) ∙ so_far_is))
+    scale (wide_is ∙ ap {B = Wide} (λ (q : Fraction). record { step = Scale; left = q; right = whole (pos (2 ^ 27)) })
+    (same so_far (so_far_is ∙ sum_whole parts) ∙ so_far_is))
   where
     same : (q : Fraction) → q ≡ whole (pos (sum_by (λ part. part.1) parts)) → whole q.numerator ≡ q
     same q is = subst (λ (p : Fraction). whole p.numerator ≡ p) (sym is) refl

@@ -5,6 +5,7 @@ use Rattle.std.proofs.lemmas.Int.{ints}
 use Rattle.std.proofs.lemmas.List.{map-append}
 use Rattle.whole_numbers.specs.Fractions.{Fraction, negated, whole}
 use Rattle.whole_numbers.proofs.Ring.{var, num, ◌⊕◌, ◌⊗◌, neg, ring, ring_by, nothing, using}
+use Rattle.whole_numbers.proofs.Orders.{negative_factor, negative_product, opposite_product}
 use Rattle.path_rows.specs.declared.form.Form.{Form}
 use Rattle.path_rows.specs.declared.tree.Member.{Member}
 use Rattle.path_rows.specs.declared.tree.Member.TheVariants.{Low, High, Row}
@@ -12,7 +13,6 @@ use Rattle.path_rows.specs.Forms.{form_at, value, weighted}
 use Rattle.path_rows.specs.Basis.{member_form}
 use Rattle.path_rows.specs.Steps.{unless_zero}
 use Rattle.path_rows.proofs.Weighted.{value-weighted}
-use Rattle.fraction_table.proofs.theory.Corner.{negative_factor, negative_product, opposite_product}
 use Rattle.fraction_table.specs.Multipliers.{Each, columns_numbered, numbered, whole_part}
 
 -- the values of members' forms at costs, each times its number
@@ -53,13 +53,15 @@ low_times a (negsuc i) low = omega (arith, ints)
 bound_more : (D L : ℕ) (s m v r : ℤ) → m ≤ℤ pos 0 → pos 0 ≤ℤ v → ((pos D *ℤ s) +ℤ (pos L *ℤ r)) ≤ℤ pos 0 → ((pos D *ℤ s) +ℤ (pos L *ℤ ((m *ℤ v) +ℤ r))) ≤ℤ pos 0
 bound_more D L s m v r m_low v_high rest =
     subst (λ (z : ℤ). z ≤ℤ pos 0)
-    (ring (pos D ∷ s ∷ pos L ∷ m ∷ v ∷ r ∷ []) (var 2 ⊗ (var 3 ⊗ var 4) ⊕ (var 0 ⊗ var 1 ⊕ var 2 ⊗ var 5)) (var 0 ⊗ var 1 ⊕ var 2 ⊗ (var 3 ⊗ var 4 ⊕ var 5)) refl)
+    (ring (pos D ∷ s ∷ pos L ∷ m ∷ v ∷ r ∷ []) (var 2 ⊗ (var 3 ⊗ var 4) ⊕ (var 0 ⊗ var 1 ⊕ var 2 ⊗ var 5))
+    (var 0 ⊗ var 1 ⊕ var 2 ⊗ (var 3 ⊗ var 4 ⊕ var 5)) refl)
     (both _ _ (low_times L (m *ℤ v) (opposite_product m v m_low v_high)) rest)
   where
     both : (a b : ℤ) → a ≤ℤ pos 0 → b ≤ℤ pos 0 → (a +ℤ b) ≤ℤ pos 0
     both a b first second = omega (arith, ints)
 
-row_more : (D L : ℕ) (p s m v r : ℤ) → (pos D *ℤ p) ≡ neg_ℤ (m *ℤ pos L) → ((pos D *ℤ s) +ℤ (pos L *ℤ r)) ≤ℤ pos 0 → ((pos D *ℤ ((p *ℤ v) +ℤ s)) +ℤ (pos L *ℤ ((m *ℤ v) +ℤ r))) ≤ℤ pos 0
+row_more : (D L : ℕ) (p s m v r : ℤ) → (pos D *ℤ p) ≡ neg_ℤ (m *ℤ pos L) → ((pos D *ℤ s) +ℤ (pos L *ℤ r)) ≤ℤ pos 0 →
+    ((pos D *ℤ ((p *ℤ v) +ℤ s)) +ℤ (pos L *ℤ ((m *ℤ v) +ℤ r))) ≤ℤ pos 0
 row_more D L p s m v r made rest =
     subst (λ (z : ℤ). z ≤ℤ pos 0)
     (ring_by (pos D ∷ p ∷ s ∷ m ∷ v ∷ r ∷ pos L ∷ [])
@@ -78,31 +80,38 @@ zero_more D L s m v r none rest =
 row_column : (D L row : ℕ) (rows : List Form) (w : List ℕ) (z : ℤ) (q : Fraction) (m : ℤ) (rest : List (ℕ × ℕ)) (r : ℤ) → (z ≡ pos 0 → m ≡ pos 0) →
     Each (λ part. (pos D *ℤ pos (whole_part L part).1) ≡ neg_ℤ (m *ℤ pos L)) (numbered (Row row) (unless_zero z q)) →
     ((pos D *ℤ value (weighted rows rest) w) +ℤ (pos L *ℤ r)) ≤ℤ pos 0 →
-    ((pos D *ℤ value (weighted rows (map (whole_part L) (numbered (Row row) (unless_zero z q)) ++ rest)) w) +ℤ (pos L *ℤ ((m *ℤ value (form_at rows row) w) +ℤ r))) ≤ℤ pos 0
+    ((pos D *ℤ value (weighted rows (map (whole_part L) (numbered (Row row) (unless_zero z q)) ++ rest)) w)
+    +ℤ (pos L *ℤ ((m *ℤ value (form_at rows row) w) +ℤ r))) ≤ℤ pos 0
 row_column D L row rows w (pos zero) q m rest r none made below =
     zero_more D L (value (weighted rows rest) w) m (value (form_at rows row) w) r (none refl) below
 row_column D L row rows w (pos (suc k)) q m rest r none made below =
-    subst (λ (z : ℤ). ((pos D *ℤ z) +ℤ (pos L *ℤ ((m *ℤ value (form_at rows row) w) +ℤ r))) ≤ℤ pos 0) (sym (value-weighted rows (whole_part L (row, negated q)) rest w))
+    subst (λ (z : ℤ). ((pos D *ℤ z) +ℤ (pos L *ℤ ((m *ℤ value (form_at rows row) w) +ℤ r))) ≤ℤ pos 0)
+    (sym (value-weighted rows (whole_part L (row, negated q)) rest w))
     (row_more D L (pos (whole_part L (row, negated q)).1) (value (weighted rows rest) w) m (value (form_at rows row) w) r made.0 below)
 row_column D L row rows w (negsuc k) q m rest r none made below =
-    subst (λ (z : ℤ). ((pos D *ℤ z) +ℤ (pos L *ℤ ((m *ℤ value (form_at rows row) w) +ℤ r))) ≤ℤ pos 0) (sym (value-weighted rows (whole_part L (row, negated q)) rest w))
+    subst (λ (z : ℤ). ((pos D *ℤ z) +ℤ (pos L *ℤ ((m *ℤ value (form_at rows row) w) +ℤ r))) ≤ℤ pos 0)
+    (sym (value-weighted rows (whole_part L (row, negated q)) rest w))
     (row_more D L (pos (whole_part L (row, negated q)).1) (value (weighted rows rest) w) m (value (form_at rows row) w) r made.0 below)
 
 -- The rows' sum, D-fold, and that of all members, times the multiple, are together at most 0.
-pub columns_sum : (D L n : ℕ) (rows : List Form) (w : List ℕ) (members : List Member) (qs : List Fraction) (ms : List ℤ) → AllHigh n w members → AreMade D L members qs ms →
+pub columns_sum : (D L n : ℕ) (rows : List Form) (w : List ℕ) (members : List Member) (qs : List Fraction)
+    (ms : List ℤ) → AllHigh n w members → AreMade D L members qs ms →
     ((pos D *ℤ value (weighted rows (map (whole_part L) (columns_numbered members qs))) w) +ℤ (pos L *ℤ member_sum n rows w ms members)) ≤ℤ pos 0
 columns_sum D L n rows w [] qs [] high made = omega (arith, ints)
 columns_sum D L n rows w [] qs (m ∷ ms) high made = omega (arith, ints)
 columns_sum D L n rows w (member ∷ members) [] ms high made = absurd made
 columns_sum D L n rows w (member ∷ members) (q ∷ qs) [] high made = absurd made
 columns_sum D L n rows w (Low v bound ∷ members) (q ∷ qs) (m ∷ ms) high made =
-    bound_more D L (value (weighted rows (map (whole_part L) (columns_numbered members qs))) w) m (value (member_form n rows (Low v bound)) w) (member_sum n rows w ms members) made.0.low high.0
+    bound_more D L (value (weighted rows (map (whole_part L) (columns_numbered members qs))) w) m
+    (value (member_form n rows (Low v bound)) w) (member_sum n rows w ms members) made.0.low high.0
     (columns_sum D L n rows w members qs ms high.1 made.1)
 columns_sum D L n rows w (High v bound ∷ members) (q ∷ qs) (m ∷ ms) high made =
-    bound_more D L (value (weighted rows (map (whole_part L) (columns_numbered members qs))) w) m (value (member_form n rows (High v bound)) w) (member_sum n rows w ms members) made.0.low high.0
+    bound_more D L (value (weighted rows (map (whole_part L) (columns_numbered members qs))) w) m
+    (value (member_form n rows (High v bound)) w) (member_sum n rows w ms members) made.0.low high.0
     (columns_sum D L n rows w members qs ms high.1 made.1)
 columns_sum D L n rows w (Row row ∷ members) (q ∷ qs) (m ∷ ms) high made =
-    subst (λ (ps : List (ℕ × ℕ)). ((pos D *ℤ value (weighted rows ps) w) +ℤ (pos L *ℤ ((m *ℤ value (form_at rows row) w) +ℤ member_sum n rows w ms members))) ≤ℤ pos 0)
+    subst (λ (ps : List (ℕ × ℕ)). ((pos D *ℤ value (weighted rows ps) w)
+    +ℤ (pos L *ℤ ((m *ℤ value (form_at rows row) w) +ℤ member_sum n rows w ms members))) ≤ℤ pos 0)
     (sym (map-append (whole_part L) (numbered (Row row) (unless_zero q.numerator q)) (columns_numbered members qs)))
     (row_column D L row rows w q.numerator q m (map (whole_part L) (columns_numbered members qs)) (member_sum n rows w ms members) made.0.none made.0.made
     (columns_sum D L n rows w members qs ms high.1 made.1))
@@ -122,7 +131,8 @@ row_negative D L v s m r L_positive below equation rest =
 bound_negative : (D L : ℕ) (v s m r : ℤ) → 0 < L → m <ℤ pos 0 → pos 0 ≤ℤ v → (pos D *ℤ v) ≡ (m +ℤ r) → ((pos D *ℤ s) +ℤ (pos L *ℤ r)) ≤ℤ pos 0 → s <ℤ pos 0
 bound_negative D L v s m r L_positive below high equation rest =
     negative_factor D s
-    (both (m *ℤ pos L) ((pos D *ℤ s) +ℤ (pos L *ℤ r)) (pos L *ℤ (pos D *ℤ v)) (pos D *ℤ s) (negative_product m L below L_positive) rest (high_product L D v high)
+    (both (m *ℤ pos L) ((pos D *ℤ s) +ℤ (pos L *ℤ r)) (pos L *ℤ (pos D *ℤ v)) (pos D *ℤ s)
+    (negative_product m L below L_positive) rest (high_product L D v high)
     (ring_by (pos D ∷ pos L ∷ v ∷ s ∷ m ∷ r ∷ []) (var 0 ⊗ var 3 ⊕ var 1 ⊗ (var 0 ⊗ var 2)) (var 4 ⊗ var 1 ⊕ (var 0 ⊗ var 3 ⊕ var 1 ⊗ var 5))
     (using (var 1) (var 0 ⊗ var 2) (var 4 ⊕ var 5) equation nothing) refl))
   where
@@ -134,19 +144,25 @@ bound_negative D L v s m r L_positive below high equation rest =
     both a b c d first second third same = omega (arith, ints)
 
 -- All parts of a stuck form have a negative sum, whether it is a row or a bound.
-pub parts_negative : (D L n : ℕ) (rows : List Form) (w : List ℕ) (r : Member) (basis : List Member) (qs : List Fraction) (m : ℤ) (ms : List ℤ) → 0 < L → m <ℤ pos 0 → IsHigh n w r → AllHigh n w basis → AreMade D L basis qs ms →
+pub parts_negative : (D L n : ℕ) (rows : List Form) (w : List ℕ) (r : Member) (basis : List Member) (qs : List Fraction)
+    (m : ℤ) (ms : List ℤ) → 0 < L → m <ℤ pos 0 → IsHigh n w r → AllHigh n w basis → AreMade D L basis qs ms →
     Each (λ part. pos (whole_part L part).1 ≡ pos L) (numbered r (whole (pos 1) ∷ [])) →
     (pos D *ℤ value (member_form n rows r) w) ≡ (m +ℤ member_sum n rows w ms basis) →
     value (weighted rows (map (whole_part L) (numbered r (whole (pos 1) ∷ []) ++ columns_numbered basis qs))) w <ℤ pos 0
 parts_negative D L n rows w (Low v bound) basis qs m ms L_positive below high all_high made own equation =
-    bound_negative D L (value (member_form n rows (Low v bound)) w) (value (weighted rows (map (whole_part L) (columns_numbered basis qs))) w) m (member_sum n rows w ms basis) L_positive below high equation
+    bound_negative D L (value (member_form n rows (Low v bound)) w)
+    (value (weighted rows (map (whole_part L) (columns_numbered basis qs))) w) m (member_sum n rows w ms basis)
+    L_positive below high equation
     (columns_sum D L n rows w basis qs ms all_high made)
 parts_negative D L n rows w (High v bound) basis qs m ms L_positive below high all_high made own equation =
-    bound_negative D L (value (member_form n rows (High v bound)) w) (value (weighted rows (map (whole_part L) (columns_numbered basis qs))) w) m (member_sum n rows w ms basis) L_positive below high equation
+    bound_negative D L (value (member_form n rows (High v bound)) w)
+    (value (weighted rows (map (whole_part L) (columns_numbered basis qs))) w) m (member_sum n rows w ms basis)
+    L_positive below high equation
     (columns_sum D L n rows w basis qs ms all_high made)
 parts_negative D L n rows w (Row row) basis qs m ms L_positive below high all_high made own equation =
     let rest = map (whole_part L) (columns_numbered basis qs) in
     subst (λ (z : ℤ). z <ℤ pos 0)
-    (sym (value-weighted rows (whole_part L (row, whole (pos 1))) rest w ∙ ap (λ (z : ℤ). (z *ℤ value (form_at rows row) w) +ℤ value (weighted rows rest) w) own.0))
+    (sym (value-weighted rows (whole_part L (row, whole (pos 1))) rest w
+    ∙ ap (λ (z : ℤ). (z *ℤ value (form_at rows row) w) +ℤ value (weighted rows rest) w) own.0))
     (row_negative D L (value (form_at rows row) w) (value (weighted rows rest) w) m (member_sum n rows w ms basis) L_positive below equation
     (columns_sum D L n rows w basis qs ms all_high made))

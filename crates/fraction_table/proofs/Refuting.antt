@@ -1,5 +1,5 @@
 -- The whole multipliers of a line that is stuck refute the box.
-use Rattle.std.proofs.Common.{◌≡◌, ℕ, zero, suc, ◌^◌, ◌<◌, ◌≤◌, refl, sym, ◌∙◌, ap, subst, List, [], ◌∷◌, map, length, drop, arith}
+use Rattle.std.proofs.Common.{◌≡◌, ℕ, zero, suc, ◌^◌, ◌<◌, ◌≤◌, refl, sym, ◌∙◌, ap, subst, List, [], ◌∷◌, map, take, length, drop, arith}
 use Rattle.std.specs.Prelude.{ℤ, pos, negsuc, ◌+ℤ◌, ◌*ℤ◌, ◌<ℤ◌, ◌≤ℤ◌, Result, Ok, Err, IfErr, IfOk, slice_index_or, sum_by, All}
 use Rattle.std.specs.List.Sorted.{IsPermutation}
 use Rattle.std.proofs.lemmas.Int.{ints}
@@ -32,9 +32,8 @@ use Rattle.fraction_rows.specs.TableRows.{AreNumbers}
 use Rattle.fraction_table.specs.Tableaus.{wide_at}
 use Rattle.fraction_table.specs.Wholes.{IsWholeTable, Stand, low_forms, number_of}
 use Rattle.fraction_table.specs.Pivots.{line_at, member_at}
-use Rattle.fraction_table.proofs.Bases.{whole_basis}
 use Rattle.fraction_table.proofs.theory.Blends.{form_mixture}
-use Rattle.fraction_table.proofs.Pivots.{form_line, line_long, member_is, whole_line}
+use Rattle.fraction_table.proofs.Pivots.{form_line, line_long, member_is, whole_line, wide_step}
 use Rattle.fraction_table.proofs.theory.Points.{equation_at, mixed_at}
 use Rattle.fraction_table.proofs.theory.Resolved.{resolved}
 use Rattle.fraction_rows.proofs.RowLaws.{number_at as number_there, one_within}
@@ -49,7 +48,8 @@ use Rattle.fraction_table.proofs.MultiplierRows.{AreApart, IsApart, parts_differ
 value_at_costs : (f : Form) (w : List ℕ) → value_at f (at_costs w) ≡ value f w
 value_at_costs f w = ring (f.constant ∷ dot f.coefficients w ∷ []) (var 0 ⊗ num (pos 1) ⊕ var 1) (var 0 ⊕ var 1) refl
 
-mixed_members : (n : ℕ) (rows : List Form) (w : List ℕ) (ms : List ℤ) (members : List Member) → mixed_at ms (map (member_form n rows) members) (at_costs w) ≡ member_sum n rows w ms members
+mixed_members : (n : ℕ) (rows : List Form) (w : List ℕ) (ms : List ℤ) (members : List Member) →
+    mixed_at ms (map (member_form n rows) members) (at_costs w) ≡ member_sum n rows w ms members
 mixed_members n rows w [] members = refl
 mixed_members n rows w (m ∷ ms) [] = refl
 mixed_members n rows w (m ∷ ms) (member ∷ members) =
@@ -66,7 +66,8 @@ box_point costs w inside =
       below = λ k k_in. omega (arith, inside.below k k_in);
     }
 
-bound_high : (costs : CostBox) (rows : List Form) (w : List ℕ) (member : Member) → IsInBox costs w → IsFormOf costs rows member → IsHigh (length costs.low) w member
+bound_high : (costs : CostBox) (rows : List Form) (w : List ℕ) (member : Member) → IsInBox costs w →
+    IsFormOf costs rows member → IsHigh (length costs.low) w member
 bound_high costs rows w (Low v bound) inside is =
     subst (λ (z : ℤ). pos 0 ≤ℤ z) (value_at_costs (member_form (length costs.low) [] (Low v bound)) w)
     (member_met costs [] (at_costs w) (Low v bound) (box_point costs w inside) (λ k d k_in. absurd (omega arith)) is)
@@ -75,7 +76,8 @@ bound_high costs rows w (High v bound) inside is =
     (member_met costs [] (at_costs w) (High v bound) (box_point costs w inside) (λ k d k_in. absurd (omega arith)) is)
 bound_high costs rows w (Row row) inside is = tt
 
-all_high : (costs : CostBox) (rows : List Form) (w : List ℕ) (members : List Member) → IsInBox costs w → All (IsFormOf costs rows) members → AllHigh (length costs.low) w members
+all_high : (costs : CostBox) (rows : List Form) (w : List ℕ) (members : List Member) → IsInBox costs w →
+    All (IsFormOf costs rows) members → AllHigh (length costs.low) w members
 all_high costs rows w [] inside are = tt
 all_high costs rows w (member ∷ members) inside are =
     (bound_high costs rows w member inside (are 0 member (omega arith)), all_high costs rows w members inside (λ k d k_in. are (suc k) d (omega arith)))
@@ -118,7 +120,9 @@ constant_low t line s =
     let w = s.whole in
     let f = member_form (length t.costs.low) t.rows.items (member_at t line) in
     let l = whole_line t w line s.line_in in
-    stuck_first t.top w.unboxed.common (line_at t line) (constant_at t line w) (map (number_of w.unboxed.common t.costs.low w.unboxed.lows f) (numbers_from 1 (length t.costs.low))) w.unboxed.positive l.numbers l.stand s.stuck.below
+    stuck_first t.top w.unboxed.common (line_at t line) (constant_at t line w)
+    (map (number_of w.unboxed.common t.costs.low w.unboxed.lows f) (numbers_from 1 (length t.costs.low)))
+    w.unboxed.positive l.numbers l.stand s.stuck.below
 
 -- each part is of a row, and positive
 pub parts_are : (t : Table) (line : ℕ) → IsStuckLine t line → Each (IsPart t.top (length t.rows.items)) (parts_at t line)
@@ -143,10 +147,18 @@ basis_apart t w j k before k_in same =
     let n = length t.costs.low in
     let D = w.unboxed.common in
     let k_there : k < n = omega (arith, w.unboxed.count, k_in) in
-    let forms_same : slice_index_or (forms_of t.costs t.rows.items t.basis.items) k no_form ≡ slice_index_or (forms_of t.costs t.rows.items t.basis.items) j no_form =
-    get_or-map (member_form n t.rows.items) t.basis.items k (Low 0 0) no_form k_in ∙ ap (member_form n t.rows.items) same ∙ sym (get_or-map (member_form n t.rows.items) t.basis.items j (Low 0 0) no_form (omega (arith, before, k_in))) in
-    both_numbers D (number_of D t.costs.low w.unboxed.lows (slice_index_or (forms_of t.costs t.rows.items t.basis.items) k no_form) (suc k)) w.unboxed.positive (w.unboxed.own k k_there)
-    (ap (λ (f : Form). number_of D t.costs.low w.unboxed.lows f (suc k)) forms_same ∙ w.unboxed.elsewhere j (suc k) (omega (arith, before, k_there)) (omega (arith, k_there)) (λ e. omega (arith, before, e)))
+    let forms_same : slice_index_or (forms_of t.costs t.rows.items t.basis.items) k no_form
+    ≡ slice_index_or (forms_of t.costs t.rows.items t.basis.items) j no_form =
+    get_or-map (member_form n t.rows.items) t.basis.items k (Low 0 0) no_form k_in
+    ∙ ap (member_form n t.rows.items) same
+    ∙ sym (get_or-map (member_form n t.rows.items) t.basis.items j (Low 0 0) no_form
+    (omega (arith, before, k_in))) in
+    both_numbers D (number_of D t.costs.low w.unboxed.lows
+    (slice_index_or (forms_of t.costs t.rows.items t.basis.items) k no_form) (suc k)) w.unboxed.positive
+    (w.unboxed.own k k_there)
+    (ap (λ (f : Form). number_of D t.costs.low w.unboxed.lows f (suc k)) forms_same
+    ∙ w.unboxed.elsewhere j (suc k) (omega (arith, before, k_there)) (omega (arith, k_there))
+    (λ e. omega (arith, before, e)))
 
 line_apart : (t : Table) (line : ℕ) → IsStuckLine t line → IsApart (member_at t line) t.basis.items
 line_apart t line s k k_in same =
@@ -180,16 +192,33 @@ columns_long : (members : List Member) (qs : List Fraction) → length (columns_
 columns_long [] qs = omega arith
 columns_long (member ∷ members) [] = omega arith
 columns_long (member ∷ members) (q ∷ qs) =
-    omega (arith, length-append (numbered member (unless_zero q.numerator q)) (columns_numbered members qs), numbered_long member (unless_zero q.numerator q), unless_long q.numerator q, columns_long members qs)
+    omega (
+      arith,
+      length-append (numbered member (unless_zero q.numerator q)) (columns_numbered members qs),
+      numbered_long member (unless_zero q.numerator q),
+      unless_long q.numerator q,
+      columns_long members qs,
+    )
 
 pub parts_long : (t : Table) (line : ℕ) → IsStuckLine t line → length (parts_at t line) ≤ suc (length t.costs.low)
 parts_long t line s =
     let own = numbered (member_at t line) (whole (pos 1) ∷ []) in
     let rest = columns_numbered t.basis.items (drop 1 (line_at t line)) in
-    omega (arith, length-append own rest, numbered_long (member_at t line) (whole (pos 1) ∷ []), columns_long t.basis.items (drop 1 (line_at t line)), s.whole.unboxed.count)
+    omega (
+      arith,
+      length-append own rest,
+      numbered_long (member_at t line) (whole (pos 1) ∷ []),
+      columns_long t.basis.items (drop 1 (line_at t line)),
+      s.whole.unboxed.count,
+    )
 
 -- their sum is negative at each point of the box
-equation_is : (t : Table) (line : ℕ) (s : IsStuckLine t line) (w : List ℕ) → (pos s.whole.unboxed.common *ℤ value (member_form (length t.costs.low) t.rows.items (member_at t line)) w) ≡ (constant_at t line s.whole +ℤ member_sum (length t.costs.low) t.rows.items w (map (number_of s.whole.unboxed.common t.costs.low s.whole.unboxed.lows (member_form (length t.costs.low) t.rows.items (member_at t line))) (numbers_from 1 (length t.costs.low))) t.basis.items)
+equation_is : (t : Table) (line : ℕ) (s : IsStuckLine t line) (w : List ℕ) →
+    (pos s.whole.unboxed.common *ℤ value (member_form (length t.costs.low) t.rows.items (member_at t line)) w)
+    ≡ (constant_at t line s.whole +ℤ member_sum (length t.costs.low) t.rows.items w
+    (map (number_of s.whole.unboxed.common t.costs.low s.whole.unboxed.lows
+    (member_form (length t.costs.low) t.rows.items (member_at t line))) (numbers_from 1 (length t.costs.low)))
+    t.basis.items)
 equation_is t line s w =
     let n = length t.costs.low in
     let whole = s.whole in
@@ -199,13 +228,16 @@ equation_is t line s w =
     let bs = forms_of t.costs t.rows.items t.basis.items in
     let m = constant_at t line whole in
     let ms = map (number_of D t.costs.low whole.unboxed.lows f) (numbers_from 1 n) in
-    let mixture_is = form_mixture D n t.costs.low (low_forms n 0 t.costs.low) whole.unboxed.lows bs f whole.unboxed.long whole.unboxed.mixtures (resolved t.costs.low f (coefficients_long t.costs t.rows.items member whole.fit (member_is t whole line s.line_in))) in
+    let mixture_is = form_mixture D n t.costs.low (low_forms n 0 t.costs.low) whole.unboxed.lows bs f whole.unboxed.long
+    whole.unboxed.mixtures (resolved t.costs.low f
+    (coefficients_long t.costs t.rows.items member whole.fit (member_is t whole line s.line_in))) in
     ap (λ (z : ℤ). pos D *ℤ z) (sym (value_at_costs f w))
     ∙ equation_at f bs D (m ∷ ms) (at_costs w) mixture_is
     ∙ ap (λ (z : ℤ). (m *ℤ pos 1) +ℤ z) (mixed_members n t.rows.items w ms t.basis.items)
     ∙ ring (m ∷ member_sum n t.rows.items w ms t.basis.items ∷ []) (var 0 ⊗ num (pos 1) ⊕ var 1) (var 0 ⊕ var 1) refl
 
-pub sum_negative : (t : Table) (line : ℕ) → IsStuckLine t line → (w : List ℕ) → IsInBox t.costs w → value (weighted t.rows.items (whole_parts (parts_at t line))) w <ℤ pos 0
+pub sum_negative : (t : Table) (line : ℕ) → IsStuckLine t line → (w : List ℕ) → IsInBox t.costs w →
+    value (weighted t.rows.items (whole_parts (parts_at t line))) w <ℤ pos 0
 sum_negative t line s w inside =
     let n = length t.costs.low in
     let whole_is = s.whole in
@@ -219,8 +251,10 @@ sum_negative t line s w inside =
     let m = constant_at t line whole_is in
     let ms = map (number_of D t.costs.low whole_is.unboxed.lows f) (numbers_from 1 n) in
     let L_positive = common_positive t.top (length t.rows.items) (parts_at t line) (parts_are t line s) in
-    let divides = each_right (λ part. part.1.denominator ∣ L) (numbered r (whole (pos 1) ∷ [])) (columns_numbered t.basis.items (drop 1 es)) (common_divides (parts_at t line)) in
-    let made = are_made t.top D L t.basis.items (drop 1 es) ms (whole_is.unboxed.count ∙ sym (rest_long es n long)) whole_is.unboxed.positive L_positive (rest_numbers t.top es l.numbers)
+    let divides = each_right (λ part. part.1.denominator ∣ L) (numbered r (whole (pos 1) ∷ []))
+    (columns_numbered t.basis.items (drop 1 es)) (common_divides (parts_at t line)) in
+    let made = are_made t.top D L t.basis.items (drop 1 es) ms (whole_is.unboxed.count ∙ sym (rest_long es n long))
+    whole_is.unboxed.positive L_positive (rest_numbers t.top es l.numbers)
     (rest_low n es long (λ k k_from k_in. s.stuck.none_above k k_from (omega (arith, whole_is.unboxed.count, k_in)))) (rest_stand D es m ms l.stand) divides in
     parts_negative D L n t.rows.items w r t.basis.items (drop 1 es) m ms L_positive (constant_low t line s)
     (bound_high t.costs t.rows.items w r inside (member_is t whole_is line s.line_in))
@@ -246,71 +280,86 @@ are_parts t line s =
     }
 
 -- In whatever order, the parts refute the box where their sum is below 2^100.
-pub parts_refute : (t : Table) (line : ℕ) (parts : List (ℕ × ℕ)) → IsStuckLine t line → IsPermutation (whole_parts (parts_at t line)) parts → sum_by (λ part. part.1) parts < 2 ^ 100 → Refutes t.rows.items parts t.costs
+pub parts_refute : (t : Table) (line : ℕ) (parts : List (ℕ × ℕ)) → IsStuckLine t line →
+    IsPermutation (whole_parts (parts_at t line)) parts → sum_by (λ part. part.1) parts < 2 ^ 100 →
+    Refutes t.rows.items parts t.costs
 parts_refute t line parts s moved small =
     let made = whole_parts (parts_at t line) in
     let are = whole_are t line s in
     let there = greatest_reached (length t.costs.low) (weighted t.rows.items parts) t.costs s.whole.box in
     record {
-      rows = All-permutation (λ (part : ℕ × ℕ). part.0 < length t.rows.items) made parts moved (all_from_each (λ (part : ℕ × ℕ). part.0 < length t.rows.items) made (each_weaker (λ (part : ℕ × ℕ). (part.0 < length t.rows.items) × (0 < part.1)) (λ (part : ℕ × ℕ). part.0 < length t.rows.items) made (λ part is. is.0) are));
-      positive = All-permutation (λ (part : ℕ × ℕ). 0 < part.1) made parts moved (all_from_each (λ (part : ℕ × ℕ). 0 < part.1) made (each_weaker (λ (part : ℕ × ℕ). (part.0 < length t.rows.items) × (0 < part.1)) (λ (part : ℕ × ℕ). 0 < part.1) made (λ part is. is.1) are));
+      rows = All-permutation (λ (part : ℕ × ℕ). part.0 < length t.rows.items) made parts moved
+          (all_from_each (λ (part : ℕ × ℕ). part.0 < length t.rows.items) made
+          (each_weaker (λ (part : ℕ × ℕ). (part.0 < length t.rows.items) × (0 < part.1))
+          (λ (part : ℕ × ℕ). part.0 < length t.rows.items) made (λ part is. is.0) are));
+      positive = All-permutation (λ (part : ℕ × ℕ). 0 < part.1) made parts moved
+          (all_from_each (λ (part : ℕ × ℕ). 0 < part.1) made
+          (each_weaker (λ (part : ℕ × ℕ). (part.0 < length t.rows.items) × (0 < part.1))
+          (λ (part : ℕ × ℕ). 0 < part.1) made (λ part is. is.1) are));
       sum = small;
       negative = subst (λ (z : ℤ). z <ℤ pos 0) (sym (value_moved t.rows.items there.0 made parts moved) ∙ there.2) (sum_negative t line s there.0 there.1);
     }
 
 -- A step that makes them whole is one of the basis.
-tally_step : (costs : CostBox) (rows : List Form) (basis : List Member) (lows : List (List Fraction)) (r : Member) (es : List Fraction) (wide : Wide) → IsFormOf costs rows r → HasEntries costs rows basis r es → IsStuck basis es → IsTallyStep (made_whole (multipliers basis r es)) wide → IsStep costs rows basis lows wide.step wide.left wide.right
+tally_step : (costs : CostBox) (rows : List Form) (basis : List Member) (lows : List (List Fraction)) (r : Member)
+    (es : List Fraction) (wide : Wide) → IsFormOf costs rows r → HasEntries costs rows basis r es → IsStuck basis es →
+    IsTallyStep (made_whole (multipliers basis r es)) wide → IsStep costs rows basis lows wide.step wide.left wide.right
 tally_step costs rows basis lows r es wide is entries stuck (sum k next there wide_is) =
     subst (λ (x : Wide). IsStep costs rows basis lows x.step x.left x.right) (sym wide_is) (multiplier_sum r es k next is entries stuck there)
 tally_step costs rows basis lows r es wide is entries stuck (scale wide_is) =
     subst (λ (x : Wide). IsStep costs rows basis lows x.step x.left x.right) (sym wide_is) (multiplier_scale r es is entries stuck)
 
-multiplier_step : (costs : CostBox) (rows : List Form) (basis : List Member) (lows : List (List Fraction)) (r : Member) (es : List Fraction) (wide : Wide) → IsFormOf costs rows r → HasEntries costs rows basis r es → IsStuck basis es → IsMultiplierStep (multipliers basis r es) wide → IsStep costs rows basis lows wide.step wide.left wide.right
+multiplier_step : (costs : CostBox) (rows : List Form) (basis : List Member) (lows : List (List Fraction)) (r : Member)
+    (es : List Fraction) (wide : Wide) → IsFormOf costs rows r → HasEntries costs rows basis r es → IsStuck basis es →
+    IsMultiplierStep (multipliers basis r es) wide → IsStep costs rows basis lows wide.step wide.left wide.right
 multiplier_step costs rows basis lows r es wide is entries stuck (multiple k d there wide_is) =
     subst (λ (x : Wide). IsStep costs rows basis lows x.step x.left x.right) (sym wide_is) (multiple_step r es k d is entries stuck there)
 multiplier_step costs rows basis lows r es wide is entries stuck (product k q there wide_is) =
     subst (λ (x : Wide). IsStep costs rows basis lows x.step x.left x.right) (sym wide_is) (multiplier_product r es k q is entries stuck there)
 multiplier_step costs rows basis lows r es wide is entries stuck (tally made) = tally_step costs rows basis lows r es wide is entries stuck made
 
-pub multipliers_wide : (t : Table) (line : ℕ) (wide : Wide) → IsStuckLine t line → IsMultiplierStep (fractions (parts_at t line)) wide → IsPassing t.top wide → IsTooWide t.top t.costs t.rows.items (wide_at wide t.basis.items)
+pub multipliers_wide : (t : Table) (line : ℕ) (wide : Wide) → IsStuckLine t line →
+    IsMultiplierStep (fractions (parts_at t line)) wide → IsPassing t.top wide →
+    IsTooWide t.top t.costs t.rows.items (wide_at wide t.basis.items)
 multipliers_wide t line wide s made passes =
-    let basis = whole_basis t.top t.costs t.rows.items t.basis.items t.lines.items s.whole in
     let l = form_line t s.whole line s.line_in in
-    record {
-      lows = basis.0;
-      table = basis.1;
-      left = wide.left;
-      right = wide.right;
-      left_is = refl;
-      right_is = refl;
-      step = multiplier_step t.costs t.rows.items t.basis.items basis.0 (member_at t line) (line_at t line) wide l.form l.entries s.stuck
-          (subst (λ (qs : List Fraction). IsMultiplierStep qs wide) (fractions_are t.basis.items (member_at t line) (line_at t line)) made);
-      passes = passes;
-    }
+    wide_step t s.whole wide
+    (multiplier_step t.costs t.rows.items t.basis.items (take (length t.costs.low) t.lines.items) (member_at t line)
+    (line_at t line) wide l.form l.entries s.stuck
+    (subst (λ (qs : List Fraction). IsMultiplierStep qs wide) (fractions_are t.basis.items (member_at t line) (line_at t line)) made))
+    passes
 
 -- the same, where the steps stand beside want of memory
-pub multipliers_told : (t : Table) (line : ℕ) (stop : SimplexStop) → IsStuckLine t line → IsWideMultiplier t.top (fractions (parts_at t line)) stop → IsToldOf t stop
+pub multipliers_told : (t : Table) (line : ℕ) (stop : SimplexStop) → IsStuckLine t line →
+    IsWideMultiplier t.top (fractions (parts_at t line)) stop → IsToldOf t stop
 multipliers_told t line (TooWide wide) s told = multipliers_wide t line wide s told.0 told.1
 multipliers_told t line OutOfMemory s told = tt
 
 -- at most one for each variable, and one
-pub parts_few : (t : Table) (line : ℕ) (parts : List (ℕ × ℕ)) → IsStuckLine t line → IsPermutation (whole_parts (parts_at t line)) parts → length parts ≤ suc (length t.costs.low)
+pub parts_few : (t : Table) (line : ℕ) (parts : List (ℕ × ℕ)) → IsStuckLine t line →
+    IsPermutation (whole_parts (parts_at t line)) parts → length parts ≤ suc (length t.costs.low)
 parts_few t line parts s moved =
     let made = whole_parts (parts_at t line) in
     omega (arith, length_permutation made parts moved, length-map (parts_at t line) (whole_part (common_of (parts_at t line))), parts_long t line s)
 
 -- what the parts of a stuck line answer, made whole
-pub made_refute : (t : Table) (line : ℕ) (parts : List (ℕ × Fraction)) (r : Result (List (ℕ × ℕ)) SimplexStop) → IsStuckLine t line → parts ≡ parts_at t line → IfOk r (IsPermutation (whole_parts parts)) → IfOk r (λ made. sum_by (λ part. part.1) made < 2 ^ 100) → IfOk r (λ made. Refutes t.rows.items made t.costs)
+pub made_refute : (t : Table) (line : ℕ) (parts : List (ℕ × Fraction)) (r : Result (List (ℕ × ℕ)) SimplexStop) →
+    IsStuckLine t line → parts ≡ parts_at t line → IfOk r (IsPermutation (whole_parts parts)) →
+    IfOk r (λ made. sum_by (λ part. part.1) made < 2 ^ 100) → IfOk r (λ made. Refutes t.rows.items made t.costs)
 made_refute t line parts (Err stop) s parts_are moved small = tt
 made_refute t line parts (Ok made) s parts_are moved small =
     parts_refute t line made s (subst (λ (ps : List (ℕ × Fraction)). IsPermutation (whole_parts ps) made) parts_are moved) small
 
-pub made_few : (t : Table) (line : ℕ) (parts : List (ℕ × Fraction)) (r : Result (List (ℕ × ℕ)) SimplexStop) → IsStuckLine t line → parts ≡ parts_at t line → IfOk r (IsPermutation (whole_parts parts)) → IfOk r (λ made. length made ≤ suc (length t.costs.low))
+pub made_few : (t : Table) (line : ℕ) (parts : List (ℕ × Fraction)) (r : Result (List (ℕ × ℕ)) SimplexStop) →
+    IsStuckLine t line → parts ≡ parts_at t line → IfOk r (IsPermutation (whole_parts parts)) →
+    IfOk r (λ made. length made ≤ suc (length t.costs.low))
 made_few t line parts (Err stop) s parts_are moved = tt
 made_few t line parts (Ok made) s parts_are moved =
     parts_few t line made s (subst (λ (ps : List (ℕ × Fraction)). IsPermutation (whole_parts ps) made) parts_are moved)
 
-pub made_told : (t : Table) (line : ℕ) (parts : List (ℕ × Fraction)) (r : Result (List (ℕ × ℕ)) SimplexStop) → IsStuckLine t line → parts ≡ parts_at t line → IfErr r (IsWideMultiplier t.top (fractions parts)) → IfErr r (IsToldOf t)
+pub made_told : (t : Table) (line : ℕ) (parts : List (ℕ × Fraction)) (r : Result (List (ℕ × ℕ)) SimplexStop) →
+    IsStuckLine t line → parts ≡ parts_at t line → IfErr r (IsWideMultiplier t.top (fractions parts)) →
+    IfErr r (IsToldOf t)
 made_told t line parts (Ok made) s parts_are told = tt
 made_told t line parts (Err stop) s parts_are told =
     multipliers_told t line stop s (subst (λ (ps : List (ℕ × Fraction)). IsWideMultiplier t.top (fractions ps) stop) parts_are told)

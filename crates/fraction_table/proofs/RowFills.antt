@@ -14,8 +14,8 @@ use Rattle.fraction_rows.specs.Entries.{IsPassing}
 use Rattle.fraction_table.specs.RowLines.{IsRowLine, IsRowStep, sum_at_place}
 use Rattle.fraction_rows.specs.Sums.{IsSumStep, sum_from}
 use Rattle.fraction_rows.specs.TableRows.{AreNumbers, IsNumber, nothing}
-use Rattle.fraction_rows.proofs.Filled.{length-mapped, numbers_mapped}
-use Rattle.fraction_rows.proofs.Numbers.{nothing_number}
+use Rattle.fraction_rows.proofs.FilledRows.{length-mapped, numbers_mapped}
+use Rattle.fraction_rows.proofs.ZeroFractions.{nothing_number}
 use Rattle.fraction_rows.proofs.RowLaws.{written_numbers}
 use Rattle.fraction_table.proofs.StartLines.{blank_at}
 
@@ -27,7 +27,10 @@ pub record IsFilledTo (top : ℕ) (costs : CostBox) (form : Form) (lines : List 
   pub numbers : AreNumbers top line
 
 -- one more place is filled
-pub filled_next : (top : ℕ) (costs : CostBox) (form : Form) (lines : List (List Fraction)) (count : ℕ) (line new : List Fraction) (q : Fraction) → count < suc (length costs.low) → q ≡ sum_at_place costs form lines count → IsNumber top q → new ≡ slice_set line count q → IsFilledTo top costs form lines count line → IsFilledTo top costs form lines (suc count) new
+pub filled_next : (top : ℕ) (costs : CostBox) (form : Form) (lines : List (List Fraction)) (count : ℕ)
+    (line new : List Fraction) (q : Fraction) → count < suc (length costs.low) →
+    q ≡ sum_at_place costs form lines count → IsNumber top q → new ≡ slice_set line count q →
+    IsFilledTo top costs form lines count line → IsFilledTo top costs form lines (suc count) new
 filled_next top costs form lines count line new q count_in q_is number new_is f =
     subst (IsFilledTo top costs form lines (suc count)) (sym new_is)
     (record {
@@ -44,7 +47,10 @@ filled_next top costs form lines count line new q count_in q_is number new_is f 
     })
 
 -- the constant is filled first
-pub filled_first : (top : ℕ) (costs : CostBox) (form : Form) (lines : List (List Fraction)) (line new : List Fraction) (q : Fraction) → line ≡ nothing ∷ map (λ column. nothing) (numbers_from 0 (length costs.low)) → q ≡ sum_at_place costs form lines 0 → IsNumber top q → new ≡ slice_set line 0 q → IsFilledTo top costs form lines 1 new
+pub filled_first : (top : ℕ) (costs : CostBox) (form : Form) (lines : List (List Fraction)) (line new : List Fraction)
+    (q : Fraction) → line ≡ nothing ∷ map (λ column. nothing) (numbers_from 0 (length costs.low)) →
+    q ≡ sum_at_place costs form lines 0 → IsNumber top q → new ≡ slice_set line 0 q →
+    IsFilledTo top costs form lines 1 new
 filled_first top costs form lines line new q blank q_is number new_is =
     let none = nothing_number top q number in
     filled_next top costs form lines 0 line new q (omega arith) q_is number new_is
@@ -61,7 +67,11 @@ filled_first top costs form lines line new q blank q_is number new_is =
     blank_after n (suc k) from = blank_at 0 n k
 
 -- a step of the sum at a place is a step of the line
-pub step_at : {X : Type 0} (r : Result X Wide) (top : ℕ) (costs : CostBox) (form : Form) (lines : List (List Fraction)) (place : ℕ) (start : Fraction) (cs : List ℤ) → place < suc (length costs.low) → start ≡ start_of_sum costs form place → cs ≡ form.coefficients → IfErr r (λ wide. IsSumStep start cs lines place wide) → IfErr r (λ wide. IsPassing top wide) → IfErr r (IsRowStep top costs form lines)
+pub step_at : {X : Type 0} (r : Result X Wide) (top : ℕ) (costs : CostBox) (form : Form) (lines : List (List Fraction))
+    (place : ℕ) (start : Fraction) (cs : List ℤ) → place < suc (length costs.low) →
+    start ≡ start_of_sum costs form place → cs ≡ form.coefficients →
+    IfErr r (λ wide. IsSumStep start cs lines place wide) → IfErr r (λ wide. IsPassing top wide) →
+    IfErr r (IsRowStep top costs form lines)
 step_at (Ok q) top costs form lines place start cs place_in start_is cs_are step passes = tt
 step_at (Err wide) top costs form lines place start cs place_in start_is cs_are step passes =
     record {
@@ -74,10 +84,14 @@ step_at (Err wide) top costs form lines place start cs place_in start_is cs_are 
     }
 
 -- one more column is filled
-pub filled_more : (top : ℕ) (costs : CostBox) (form : Form) (lines : List (List Fraction)) (column : ℕ) (line new : List Fraction) (q : Fraction) → column < length costs.low → q ≡ sum_at_place costs form lines (column + 1) → IsNumber top q → new ≡ slice_set line (suc column) q → IsFilledTo top costs form lines (suc column) line → IsFilledTo top costs form lines (suc (column + 1)) new
+pub filled_more : (top : ℕ) (costs : CostBox) (form : Form) (lines : List (List Fraction)) (column : ℕ)
+    (line new : List Fraction) (q : Fraction) → column < length costs.low →
+    q ≡ sum_at_place costs form lines (column + 1) → IsNumber top q → new ≡ slice_set line (suc column) q →
+    IsFilledTo top costs form lines (suc column) line → IsFilledTo top costs form lines (suc (column + 1)) new
 filled_more top costs form lines column line new q column_in q_is number new_is f =
     subst (λ (k : ℕ). IsFilledTo top costs form lines (suc k) new) (sym (one_more column))
-    (filled_next top costs form lines (suc column) line new q (omega (arith, column_in)) (q_is ∙ ap (sum_at_place costs form lines) (one_more column)) number new_is f)
+    (filled_next top costs form lines (suc column) line new q (omega (arith, column_in))
+    (q_is ∙ ap (sum_at_place costs form lines) (one_more column)) number new_is f)
   where
     one_more : (k : ℕ) → k + 1 ≡ suc k
     one_more k = omega arith
@@ -89,7 +103,9 @@ pub record IsStarted (top : ℕ) (costs : CostBox) (form : Form) (line : List Fr
   pub numbers : AreNumbers top line
 
 -- a line of zeros with its constant put
-pub started_line : (top : ℕ) (costs : CostBox) (form : Form) (line new : List Fraction) (q : Fraction) → line ≡ nothing ∷ map (λ column. nothing) (numbers_from 0 (length costs.low)) → q ≡ start_of_sum costs form 0 → IsNumber top q → new ≡ slice_set line 0 q → IsStarted top costs form new
+pub started_line : (top : ℕ) (costs : CostBox) (form : Form) (line new : List Fraction) (q : Fraction) →
+    line ≡ nothing ∷ map (λ column. nothing) (numbers_from 0 (length costs.low)) → q ≡ start_of_sum costs form 0 →
+    IsNumber top q → new ≡ slice_set line 0 q → IsStarted top costs form new
 started_line top costs form line new q blank q_is number new_is =
     let none = nothing_number top q number in
     subst (IsStarted top costs form) (sym (new_is ∙ ap (λ (l : List Fraction). slice_set l 0 q) blank))
@@ -104,19 +120,28 @@ started_line top costs form line new q blank q_is number new_is =
     starts n (suc k) = blank_at 0 n k
 
 -- with the terms put to all of it, it is the form's line
-pub gathered_line : {X : Type 0} (r : Result X Wide) (top : ℕ) (costs : CostBox) (form : Form) (lines : List (List Fraction)) (old new : List Fraction) → IsStarted top costs form old → OnOk r ((place : ℕ) → place < length old → entry new place ≡ sum_from (entry old place) form.coefficients lines place) → OnOk r (AreNumbers top new) → length new ≡ length old → OnOk r (IsRowLine top costs form lines new)
+pub gathered_line : {X : Type 0} (r : Result X Wide) (top : ℕ) (costs : CostBox) (form : Form)
+    (lines : List (List Fraction)) (old new : List Fraction) → IsStarted top costs form old →
+    OnOk r ((place : ℕ) → place < length old →
+    entry new place ≡ sum_from (entry old place) form.coefficients lines place) → OnOk r (AreNumbers top new) →
+    length new ≡ length old → OnOk r (IsRowLine top costs form lines new)
 gathered_line (Err wide) top costs form lines old new started sums numbers same = tt
 gathered_line (Ok x) top costs form lines old new started sums numbers same =
     record {
       long = same ∙ started.long;
-      sums = λ place place_in. sums place (omega (arith, place_in, started.long)) ∙ ap (λ (q : Fraction). sum_from q form.coefficients lines place) (started.starts place);
+      sums = λ place place_in. sums place (omega (arith, place_in, started.long))
+          ∙ ap (λ (q : Fraction). sum_from q form.coefficients lines place) (started.starts place);
       numbers = numbers;
     }
 
 -- a line that is made 0 again
-pub blank_again : (costs : CostBox) (old now line : List Fraction) → old ≡ nothing ∷ map (λ column. nothing) (numbers_from 0 (length costs.low)) → length now ≡ length old → line ≡ nothing ∷ map (λ column. nothing) (numbers_from 0 (length now - 1)) → line ≡ nothing ∷ map (λ column. nothing) (numbers_from 0 (length costs.low))
+pub blank_again : (costs : CostBox) (old now line : List Fraction) →
+    old ≡ nothing ∷ map (λ column. nothing) (numbers_from 0 (length costs.low)) → length now ≡ length old →
+    line ≡ nothing ∷ map (λ column. nothing) (numbers_from 0 (length now - 1)) →
+    line ≡ nothing ∷ map (λ column. nothing) (numbers_from 0 (length costs.low))
 blank_again costs old now line blank same cleared =
-    cleared ∙ ap (λ (n : ℕ). nothing ∷ map (λ column. nothing) (numbers_from 0 n)) (counted (same ∙ ap length blank ∙ ap suc (length-mapped (λ column. nothing) 0 (length costs.low))))
+    cleared ∙ ap (λ (n : ℕ). nothing ∷ map (λ column. nothing) (numbers_from 0 n))
+    (counted (same ∙ ap length blank ∙ ap suc (length-mapped (λ column. nothing) 0 (length costs.low))))
   where
     counted : length now ≡ suc (length costs.low) → length now - 1 ≡ length costs.low
     counted e = omega arith

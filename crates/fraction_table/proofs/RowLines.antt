@@ -7,6 +7,7 @@ use Rattle.whole_numbers.specs.Fractions.{Fraction, StandsFor, plus, times, whol
 use Rattle.whole_numbers.proofs.Ring.{var, num, ◌⊕◌, ◌⊗◌, ring}
 use Rattle.whole_numbers.proofs.FractionLaws.{product_positive, reduced_lowest, times_stands}
 use Rattle.whole_numbers.proofs.Multiples.{plus_stands_over}
+use Rattle.whole_numbers.specs.Lists.{number_at}
 use Rattle.wide_fraction.specs.declared.steps.Wide.{Wide}
 use Rattle.path_rows.specs.declared.form.Form.{Form}
 use Rattle.path_rows.specs.declared.form.CostBox.{CostBox}
@@ -17,10 +18,10 @@ use Rattle.path_rows.specs.Steps.{IsStep, IsTooWide, row_product, row_sum, start
 use Rattle.fraction_table.specs.RowLines.{IsRowLine, IsRowStep, sum_at_place}
 use Rattle.fraction_rows.specs.Sums.{IsSumStep, product, sum, sum_from}
 use Rattle.fraction_table.specs.Tableaus.{FitsBox, wide_at}
-use Rattle.fraction_table.specs.Wholes.{IsWhole, Stand, from_lows, number_at, number_of, numbers_of}
+use Rattle.fraction_table.specs.Wholes.{IsWhole, Stand, from_lows, number_of, numbers_of}
 use Rattle.fraction_table.proofs.Bases.{low_line_stands, lows_counted, table_long, whole_table}
 use Rattle.fraction_table.proofs.MoreRows.{forms_kept, last_form, member_kept, whole_more}
-use Rattle.fraction_rows.proofs.Numbers.{times_lowest}
+use Rattle.fraction_rows.proofs.ZeroFractions.{times_lowest}
 use Rattle.fraction_table.proofs.theory.TurnedNumbers.{numbers_at, numbers_long}
 use Rattle.fraction_table.proofs.theory.Zips.{zip_from}
 
@@ -35,13 +36,18 @@ term_stands D q e m x c D_positive q_is e_is =
     let whole_is : StandsFor (whole c) c 1 = refl in
     let term_is : StandsFor (times (whole c) e) (c *ℤ x) D =
     subst (λ (n : ℕ). StandsFor (times (whole c) e) (c *ℤ x) n) (one-mul D) (times_stands (whole c) e c x 1 D (omega arith) e_is.0 whole_is e_is.1) in (
-      (reduced_lowest ((q.numerator *ℤ pos (times (whole c) e).denominator) +ℤ ((times (whole c) e).numerator *ℤ pos q.denominator)) (q.denominator * (times (whole c) e).denominator) (product_positive q.denominator (times (whole c) e).denominator q_is.0 term_positive)).positive,
+      (reduced_lowest ((q.numerator *ℤ pos (times (whole c) e).denominator)
+          +ℤ ((times (whole c) e).numerator *ℤ pos q.denominator)) (q.denominator * (times (whole c) e).denominator)
+          (product_positive q.denominator (times (whole c) e).denominator q_is.0 term_positive)).positive,
       plus_stands_over q (times (whole c) e) m (c *ℤ x) D q_is.0 term_positive D_positive q_is.1 term_is,
     )
 
 -- the sum of the terms at a place stands for the sum of the numbers there
-sum_stands : (D place : ℕ) (cs : List ℤ) (lines : List (List Fraction)) (lows : List (List ℤ)) (q : Fraction) (m : ℤ) → 0 < D → length cs ≡ length lows → length cs ≤ length lines → Stands q m D →
-    ((v : ℕ) → v < length cs → Stands (entry (slice_index_or lines v []) place) (number_at (slice_index_or lows v []) place) D) → Stands (sum_from q cs lines place) (m +ℤ from_lows cs lows place) D
+sum_stands : (D place : ℕ) (cs : List ℤ) (lines : List (List Fraction)) (lows : List (List ℤ)) (q : Fraction) (m : ℤ) →
+    0 < D → length cs ≡ length lows → length cs ≤ length lines → Stands q m D →
+    ((v : ℕ) → v < length cs → Stands (entry (slice_index_or lines v []) place)
+    (number_at (slice_index_or lows v []) place) D) →
+    Stands (sum_from q cs lines place) (m +ℤ from_lows cs lows place) D
 sum_stands D place [] lines lows q m D_positive counted many q_is are =
     subst (λ (z : ℤ). Stands q z D) (ring (m ∷ []) (var 0) (var 0 ⊕ num (pos 0)) refl) q_is
 sum_stands D place (c ∷ cs) [] lows q m D_positive counted many q_is are = absurd (omega arith)
@@ -64,19 +70,30 @@ sum_stands D place (negsuc n ∷ cs) (es ∷ lines) (ts ∷ lows) q m D_positive
     (term_stands D q (entry es place) m (number_at ts place) c D_positive q_is (are 0 (omega arith))) (λ v v_in. are (suc v) (omega (arith, v_in))))
 
 -- what a sum starts with stands for its part of the form's number
-place_stands : (top : ℕ) (costs : CostBox) (rows : List Form) (basis : List Member) (table : List (List Fraction)) (f : Form) (place : ℕ) (w : IsWhole top costs rows basis table) → FitsBox costs f → place < suc (length costs.low) → StandsFor (sum_at_place costs f table place) (number_of w.unboxed.common costs.low w.unboxed.lows f place) w.unboxed.common
+place_stands : (top : ℕ) (costs : CostBox) (rows : List Form) (basis : List Member) (table : List (List Fraction))
+    (f : Form) (place : ℕ) (w : IsWhole top costs rows basis table) → FitsBox costs f → place < suc (length costs.low) →
+    StandsFor (sum_at_place costs f table place) (number_of w.unboxed.common costs.low w.unboxed.lows f place)
+    w.unboxed.common
 place_stands top costs rows basis table f zero w fits place_in =
     let z = value f costs.low in
-    (sum_stands w.unboxed.common 0 f.coefficients table w.unboxed.lows (whole z) (pos w.unboxed.common *ℤ z) w.unboxed.positive (fits.count ∙ lows_counted top costs rows basis table w) (omega (arith, fits.count, table_long top costs rows basis table w))
+    (sum_stands w.unboxed.common 0 f.coefficients table w.unboxed.lows (whole z) (pos w.unboxed.common *ℤ z)
+    w.unboxed.positive (fits.count ∙ lows_counted top costs rows basis table w)
+    (omega (arith, fits.count, table_long top costs rows basis table w))
     (omega arith, ring (z ∷ pos w.unboxed.common ∷ []) (var 0 ⊗ var 1) ((var 1 ⊗ var 0) ⊗ num (pos 1)) refl)
     (λ v v_in. low_line_stands top costs rows basis table w v 0 (omega (arith, fits.count, v_in)) place_in)).1
 place_stands top costs rows basis table f (suc k) w fits place_in =
-    subst (λ (z : ℤ). StandsFor (sum_at_place costs f table (suc k)) z w.unboxed.common) (ring (from_lows f.coefficients w.unboxed.lows (suc k) ∷ []) (num (pos 0) ⊕ var 0) (var 0) refl)
-    (sum_stands w.unboxed.common (suc k) f.coefficients table w.unboxed.lows (whole (pos 0)) (pos 0) w.unboxed.positive (fits.count ∙ lows_counted top costs rows basis table w) (omega (arith, fits.count, table_long top costs rows basis table w))
+    subst (λ (z : ℤ). StandsFor (sum_at_place costs f table (suc k)) z w.unboxed.common)
+    (ring (from_lows f.coefficients w.unboxed.lows (suc k) ∷ []) (num (pos 0) ⊕ var 0) (var 0) refl)
+    (sum_stands w.unboxed.common (suc k) f.coefficients table w.unboxed.lows (whole (pos 0)) (pos 0) w.unboxed.positive
+    (fits.count ∙ lows_counted top costs rows basis table w)
+    (omega (arith, fits.count, table_long top costs rows basis table w))
     (omega arith, ring (pos w.unboxed.common ∷ []) (num (pos 0) ⊗ var 0) (num (pos 0) ⊗ num (pos 1)) refl)
     (λ v v_in. low_line_stands top costs rows basis table w v (suc k) (omega (arith, fits.count, v_in)) place_in)).1
 
-line_stands : (top : ℕ) (costs : CostBox) (rows : List Form) (basis : List Member) (table : List (List Fraction)) (f : Form) (line : List Fraction) (w : IsWhole top costs rows basis table) → FitsBox costs f → IsRowLine top costs f table line → Stand w.unboxed.common line (numbers_of (length costs.low) w.unboxed.common costs.low w.unboxed.lows f)
+line_stands : (top : ℕ) (costs : CostBox) (rows : List Form) (basis : List Member) (table : List (List Fraction))
+    (f : Form) (line : List Fraction) (w : IsWhole top costs rows basis table) → FitsBox costs f →
+    IsRowLine top costs f table line →
+    Stand w.unboxed.common line (numbers_of (length costs.low) w.unboxed.common costs.low w.unboxed.lows f)
 line_stands top costs rows basis table f line w fits l =
     let n = length costs.low in
     let ms = numbers_of n w.unboxed.common costs.low w.unboxed.lows f in
@@ -84,23 +101,28 @@ line_stands top costs rows basis table f line w fits l =
     (λ place place_in.
     let within : place < suc n = omega (arith, l.long, place_in) in
     subst (λ (q : Fraction). StandsFor q (number_at ms place) w.unboxed.common) (sym (l.sums place within))
-    (subst (λ (z : ℤ). StandsFor (sum_at_place costs f table place) z w.unboxed.common) (sym (numbers_at n w.unboxed.common costs.low w.unboxed.lows f place within))
+    (subst (λ (z : ℤ). StandsFor (sum_at_place costs f table place) z w.unboxed.common)
+    (sym (numbers_at n w.unboxed.common costs.low w.unboxed.lows f place within))
     (place_stands top costs rows basis table f place w fits within)))
 
 -- With the form and its line the table is whole.
-pub row_whole : (top : ℕ) (costs : CostBox) (rows : List Form) (basis : List Member) (table : List (List Fraction)) (f : Form) (line : List Fraction) → IsWhole top costs rows basis table → FitsBox costs f → IsRowLine top costs f table line → IsWhole top costs (rows ++ f ∷ []) basis (table ++ line ∷ [])
+pub row_whole : (top : ℕ) (costs : CostBox) (rows : List Form) (basis : List Member) (table : List (List Fraction))
+    (f : Form) (line : List Fraction) → IsWhole top costs rows basis table → FitsBox costs f →
+    IsRowLine top costs f table line → IsWhole top costs (rows ++ f ∷ []) basis (table ++ line ∷ [])
 row_whole top costs rows basis table f line w fits l =
     whole_more top costs rows basis table f line w fits l.numbers (line_stands top costs rows basis table f line w fits l)
 
 -- the entries of x - low stay the same with one more row
-table_kept : (costs : CostBox) (rows : List Form) (f : Form) (basis : List Member) (lows : List (List Fraction)) → IsTable costs rows basis lows → IsTable costs (rows ++ f ∷ []) basis lows
+table_kept : (costs : CostBox) (rows : List Form) (f : Form) (basis : List Member) (lows : List (List Fraction)) →
+    IsTable costs rows basis lows → IsTable costs (rows ++ f ∷ []) basis lows
 table_kept costs rows f basis lows t =
     record {
       count = t.count;
       members = λ k d k_in. member_kept costs rows f _ (t.members k d k_in);
       lows_count = t.lows_count;
       entries = λ v v_in.
-          subst (λ (bs : List Form). AreEntries bs (member_form (length costs.low) rows (low_member costs v)) (slice_index_or lows v [])) (sym (forms_kept costs rows f basis t.members))
+          subst (λ (bs : List Form). AreEntries bs (member_form (length costs.low) rows (low_member costs v))
+          (slice_index_or lows v [])) (sym (forms_kept costs rows f basis t.members))
           (t.entries v v_in);
       lead = t.lead;
     }
@@ -111,11 +133,16 @@ terms_taken [] lines n place counted = refl
 terms_taken (c ∷ cs) lines zero place counted = absurd (omega arith)
 terms_taken (c ∷ cs) [] (suc n) place counted = refl
 terms_taken (pos zero ∷ cs) (es ∷ lines) (suc n) place counted = terms_taken cs lines n place (omega arith)
-terms_taken (pos (suc m) ∷ cs) (es ∷ lines) (suc n) place counted = ap (λ ts. times (whole (pos (suc m))) (entry es place) ∷ ts) (terms_taken cs lines n place (omega arith))
-terms_taken (negsuc m ∷ cs) (es ∷ lines) (suc n) place counted = ap (λ ts. times (whole (negsuc m)) (entry es place) ∷ ts) (terms_taken cs lines n place (omega arith))
+terms_taken (pos (suc m) ∷ cs) (es ∷ lines) (suc n) place counted =
+    ap (λ ts. times (whole (pos (suc m))) (entry es place) ∷ ts) (terms_taken cs lines n place (omega arith))
+terms_taken (negsuc m ∷ cs) (es ∷ lines) (suc n) place counted =
+    ap (λ ts. times (whole (negsuc m)) (entry es place) ∷ ts) (terms_taken cs lines n place (omega arith))
 
 -- a step of the sum is a step of the last row
-step_of_sum : (costs : CostBox) (rows : List Form) (f : Form) (basis : List Member) (table : List (List Fraction)) (place : ℕ) (wide : Wide) → length basis ≡ length costs.low → length f.coefficients ≡ length costs.low → place < suc (length costs.low) → IsSumStep (start_of_sum costs f place) f.coefficients table place wide → IsStep costs (rows ++ f ∷ []) basis (take (length costs.low) table) wide.step wide.left wide.right
+step_of_sum : (costs : CostBox) (rows : List Form) (f : Form) (basis : List Member) (table : List (List Fraction))
+    (place : ℕ) (wide : Wide) → length basis ≡ length costs.low → length f.coefficients ≡ length costs.low →
+    place < suc (length costs.low) → IsSumStep (start_of_sum costs f place) f.coefficients table place wide →
+    IsStep costs (rows ++ f ∷ []) basis (take (length costs.low) table) wide.step wide.left wide.right
 step_of_sum costs rows f basis table place wide count counted place_in step =
     let n = length costs.low in
     let more = rows ++ f ∷ [] in
@@ -126,20 +153,29 @@ step_of_sum costs rows f basis table place wide count counted place_in step =
       | product v v_in is ↦
           let v_within : v < n = omega (arith, counted, v_in) in
           rw is
-          (subst (λ (g : Form). IsStep costs more basis (take n table) Mul (whole (slice_index_or g.coefficients v (pos 0))) (entry (slice_index_or table v []) place)) last
-          (subst (λ (es : List Fraction). IsStep costs more basis (take n table) Mul (whole (slice_index_or (form_at more (length rows)).coefficients v (pos 0))) (entry es place)) (get_or-take n table v [] v_within)
+          (subst (λ (g : Form). IsStep costs more basis (take n table) Mul
+          (whole (slice_index_or g.coefficients v (pos 0))) (entry (slice_index_or table v []) place)) last
+          (subst (λ (es : List Fraction).
+          IsStep costs more basis (take n table) Mul
+          (whole (slice_index_or (form_at more (length rows)).coefficients v (pos 0))) (entry es place))
+          (get_or-take n table v [] v_within)
           (row_product (length rows) v place row_in v_within place_within)))
       | sum k next next_is is ↦
           let same : terms (form_at more (length rows)).coefficients (take n table) place ≡ terms f.coefficients table place =
           ap (λ (g : Form). terms g.coefficients (take n table) place) last ∙ terms_taken f.coefficients table n place counted in
           rw is
-          (subst (λ (g : Form). IsStep costs more basis (take n table) Add (fold plus (start_of_sum costs g place) (take k (terms f.coefficients table place))) next) last
-          (subst (λ (ts : List Fraction). IsStep costs more basis (take n table) Add (fold plus (start_of_sum costs (form_at more (length rows)) place) (take k ts)) next) same
+          (subst (λ (g : Form). IsStep costs more basis (take n table) Add
+          (fold plus (start_of_sum costs g place) (take k (terms f.coefficients table place))) next) last
+          (subst (λ (ts : List Fraction).
+          IsStep costs more basis (take n table) Add
+          (fold plus (start_of_sum costs (form_at more (length rows)) place) (take k ts)) next) same
           (row_sum (length rows) place k next row_in place_within (ap (λ (ts : List Fraction). slice_get ts k) same ∙ next_is))))
     ]
 
 -- A step of the line that passes the top is too wide at the basis, with the row among the rows.
-pub row_too_wide : (top : ℕ) (costs : CostBox) (rows : List Form) (basis : List Member) (table : List (List Fraction)) (f : Form) (wide : Wide) → IsWhole top costs rows basis table → FitsBox costs f → IsRowStep top costs f table wide → IsTooWide top costs (rows ++ f ∷ []) (wide_at wide basis)
+pub row_too_wide : (top : ℕ) (costs : CostBox) (rows : List Form) (basis : List Member) (table : List (List Fraction))
+    (f : Form) (wide : Wide) → IsWhole top costs rows basis table → FitsBox costs f → IsRowStep top costs f table wide →
+    IsTooWide top costs (rows ++ f ∷ []) (wide_at wide basis)
 row_too_wide top costs rows basis table f wide w fits s =
     record {
       lows = take (length costs.low) table;
@@ -153,13 +189,21 @@ row_too_wide top costs rows basis table f wide w fits s =
     }
 
 -- what a line that was filled leaves
-pub put_whole : {X : Type 0} (r : Result X Wide) (top : ℕ) (costs : CostBox) (rows more : List Form) (basis : List Member) (table lines longer : List (List Fraction)) (f : Form) (line : List Fraction) → IsWhole top costs rows basis table → FitsBox costs f → lines ≡ table → more ≡ rows ++ f ∷ [] → longer ≡ table ++ line ∷ [] → OnOk r (IsRowLine top costs f lines line) → OnOk r (IsWhole top costs more basis longer)
+pub put_whole : {X : Type 0} (r : Result X Wide) (top : ℕ) (costs : CostBox) (rows more : List Form)
+    (basis : List Member) (table lines longer : List (List Fraction)) (f : Form) (line : List Fraction) →
+    IsWhole top costs rows basis table → FitsBox costs f → lines ≡ table → more ≡ rows ++ f ∷ [] →
+    longer ≡ table ++ line ∷ [] → OnOk r (IsRowLine top costs f lines line) →
+    OnOk r (IsWhole top costs more basis longer)
 put_whole (Err wide) top costs rows more basis table lines longer f line w fits lines_are more_are longer_are filled = tt
 put_whole (Ok x) top costs rows more basis table lines longer f line w fits lines_are more_are longer_are filled =
-    rw (more_are, longer_are) (row_whole top costs rows basis table f line w fits (subst (λ (ls : List (List Fraction)). IsRowLine top costs f ls line) lines_are filled))
+    rw (more_are, longer_are) (row_whole top costs rows basis table f line w fits
+    (subst (λ (ls : List (List Fraction)). IsRowLine top costs f ls line) lines_are filled))
 
 -- and one that wasn't
-pub put_wide : {X : Type 0} (r : Result X Wide) (top : ℕ) (costs : CostBox) (rows more : List Form) (basis : List Member) (table lines : List (List Fraction)) (f : Form) → IsWhole top costs rows basis table → FitsBox costs f → lines ≡ table → more ≡ rows ++ f ∷ [] → IfErr r (IsRowStep top costs f lines) → IfErr r (λ wide. IsTooWide top costs more (wide_at wide basis))
+pub put_wide : {X : Type 0} (r : Result X Wide) (top : ℕ) (costs : CostBox) (rows more : List Form)
+    (basis : List Member) (table lines : List (List Fraction)) (f : Form) → IsWhole top costs rows basis table →
+    FitsBox costs f → lines ≡ table → more ≡ rows ++ f ∷ [] → IfErr r (IsRowStep top costs f lines) →
+    IfErr r (λ wide. IsTooWide top costs more (wide_at wide basis))
 put_wide (Ok x) top costs rows more basis table lines f w fits lines_are more_are step = tt
 put_wide (Err wide) top costs rows more basis table lines f w fits lines_are more_are step =
     rw more_are (row_too_wide top costs rows basis table f wide w fits (subst (λ (ls : List (List Fraction)). IsRowStep top costs f ls wide) lines_are step))

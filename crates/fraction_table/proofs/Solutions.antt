@@ -9,11 +9,12 @@ use Rattle.whole_numbers.specs.Fractions.{Fraction}
 use Rattle.whole_numbers.proofs.Ring.{var, num, ◌⊕◌, ◌⊖◌, ◌⊗◌, neg, ring}
 use Rattle.wide_fraction.specs.declared.steps.Wide.{Wide}
 use Rattle.area_graph.specs.declared.Point.{Point}
+use Rattle.whole_numbers.specs.Lists.{number_at}
 use Rattle.path_rows.specs.declared.form.Form.{Form}
 use Rattle.path_rows.specs.declared.form.CostBox.{CostBox}
 use Rattle.path_rows.specs.declared.tree.Member.{Member}
 use Rattle.path_rows.specs.declared.tree.Member.TheVariants.{Low, High, Row}
-use Rattle.path_rows.specs.Forms.{no_form, value_at}
+use Rattle.path_rows.specs.Forms.{no_form, value_at, AreMet}
 use Rattle.path_rows.specs.Boxes.{IsPointOf}
 use Rattle.path_rows.specs.Basis.{IsFormOf, entry, forms_of, low_member, member_form}
 use Rattle.path_rows.specs.Steps.{IsStuck}
@@ -22,8 +23,8 @@ use Rattle.fraction_table.specs.declared.stage.Solved.{Solved}
 use Rattle.fraction_table.specs.declared.stage.Stage.TheVariants.{Ended}
 use Rattle.fraction_table.specs.declared.stage.Solved.TheVariants.{Feasible, Refuted}
 use Rattle.fraction_rows.specs.TableRows.{AreNumbers}
-use Rattle.fraction_table.specs.Tableaus.{IsAmongForms, IsSolved, MeetsRows}
-use Rattle.fraction_table.specs.Wholes.{IsLine, IsShown, IsWholeTable, Stand, high_member, low_forms, members_of, number_at, number_of}
+use Rattle.fraction_table.specs.Tableaus.{IsAmongForms, IsSolved}
+use Rattle.fraction_table.specs.Wholes.{IsLine, IsShown, IsWholeTable, Stand, high_member, low_forms, members_of, number_of}
 use Rattle.fraction_table.specs.Pivots.{AreHigh, KeepsForms, line_at, line_numbers, member_at}
 use Rattle.fraction_table.proofs.theory.Corner.{MetAt, NotAbove, stuck_negative}
 use Rattle.fraction_table.proofs.theory.Tables.{IsCorner, corner_value}
@@ -65,12 +66,16 @@ high_number (pos n) (negsuc a) d D d_positive D_positive is high =
     absurd (omega (arith, ints))
 
 -- the values of x - low and of high - x at a point
-pub low_value_at : (rows : List Form) (v bound : ℕ) (p : Point) → v < length p.values → value_at (member_form (length p.values) rows (Low v bound)) p ≡ (pos (slice_index p.values v) -ℤ pos (bound * p.scale))
+pub low_value_at : (rows : List Form) (v bound : ℕ) (p : Point) → v < length p.values →
+    value_at (member_form (length p.values) rows (Low v bound)) p
+    ≡ (pos (slice_index p.values v) -ℤ pos (bound * p.scale))
 low_value_at rows v bound p v_in =
     ap (λ z. (neg_ℤ (pos bound) *ℤ pos p.scale) +ℤ z) (unit_dot v (pos 1) p.values v_in)
     ∙ ring (pos bound ∷ pos p.scale ∷ pos (slice_index p.values v) ∷ []) (neg (var 0) ⊗ var 1 ⊕ num (pos 1) ⊗ var 2) (var 2 ⊖ (var 0 ⊗ var 1)) refl
 
-high_value_at : (rows : List Form) (v bound : ℕ) (p : Point) → v < length p.values → value_at (member_form (length p.values) rows (High v bound)) p ≡ (pos (bound * p.scale) -ℤ pos (slice_index p.values v))
+high_value_at : (rows : List Form) (v bound : ℕ) (p : Point) → v < length p.values →
+    value_at (member_form (length p.values) rows (High v bound)) p
+    ≡ (pos (bound * p.scale) -ℤ pos (slice_index p.values v))
 high_value_at rows v bound p v_in =
     ap (λ z. (pos bound *ℤ pos p.scale) +ℤ z) (unit_dot v (negsuc 0) p.values v_in)
     ∙ ring (pos bound ∷ pos p.scale ∷ pos (slice_index p.values v) ∷ []) (var 0 ⊗ var 1 ⊕ num (negsuc 0) ⊗ var 2) ((var 0 ⊗ var 1) ⊖ var 2) refl
@@ -82,7 +87,8 @@ high_less : (a b : ℕ) (z : ℤ) → z ≡ (pos b -ℤ pos a) → pos 0 ≤ℤ 
 high_less a b z is high = omega (arith, ints)
 
 -- each form of the box is at least 0 at a point of the box that meets the rows
-pub member_met : (costs : CostBox) (rows : List Form) (p : Point) (member : Member) → IsPointOf costs p → MeetsRows rows p → IsFormOf costs rows member → pos 0 ≤ℤ value_at (member_form (length costs.low) rows member) p
+pub member_met : (costs : CostBox) (rows : List Form) (p : Point) (member : Member) → IsPointOf costs p →
+    AreMet rows p → IsFormOf costs rows member → pos 0 ≤ℤ value_at (member_form (length costs.low) rows member) p
 member_met costs rows p (Low v bound) point meets is =
     let v_in : v < length p.values = omega (arith, point.low_count, is.0) in
     subst (λ (n : ℕ). pos 0 ≤ℤ value_at (member_form n rows (Low v bound)) p) (sym point.low_count)
@@ -95,14 +101,16 @@ member_met costs rows p (High v bound) point meets is =
     (subst (λ (b : ℕ). slice_index p.values v ≤ b * p.scale) (sym is.1) (point.below v v_in)))
 member_met costs rows p (Row row) point meets is = meets row no_form is
 
-pub basis_met : (costs : CostBox) (rows : List Form) (p : Point) (basis : List Member) → IsPointOf costs p → MeetsRows rows p → All (IsFormOf costs rows) basis → MetAt (forms_of costs rows basis) p
+pub basis_met : (costs : CostBox) (rows : List Form) (p : Point) (basis : List Member) → IsPointOf costs p →
+    AreMet rows p → All (IsFormOf costs rows) basis → MetAt (forms_of costs rows basis) p
 basis_met costs rows p [] point meets are = tt
 basis_met costs rows p (member ∷ members) point meets are = (
   member_met costs rows p member point meets (are 0 member (omega arith)),
   basis_met costs rows p members point meets (λ k d k_in. are (suc k) d (omega arith)),
 )
 
-not_above : (top D : ℕ) (qs : List Fraction) (ms : List ℤ) → 0 < D → AreNumbers top qs → Stand D qs ms → ((k : ℕ) → k < length qs → (entry qs k).numerator ≤ℤ pos 0) → NotAbove ms
+not_above : (top D : ℕ) (qs : List Fraction) (ms : List ℤ) → 0 < D → AreNumbers top qs → Stand D qs ms →
+    ((k : ℕ) → k < length qs → (entry qs k).numerator ≤ℤ pos 0) → NotAbove ms
 not_above top D [] [] D_positive numbers stand low = tt
 not_above top D [] (m ∷ ms) D_positive numbers stand low = absurd stand
 not_above top D (q ∷ qs) [] D_positive numbers stand low = absurd stand
@@ -111,17 +119,22 @@ not_above top D (q ∷ qs) (m ∷ ms) D_positive numbers stand low = (
   not_above top D qs ms D_positive numbers.1 stand.1 (λ k k_in. low (suc k) (omega arith)),
 )
 
-pub stuck_first : (top D : ℕ) (qs : List Fraction) (m : ℤ) (ms : List ℤ) → 0 < D → AreNumbers top qs → Stand D qs (m ∷ ms) → (entry qs 0).numerator <ℤ pos 0 → m <ℤ pos 0
+pub stuck_first : (top D : ℕ) (qs : List Fraction) (m : ℤ) (ms : List ℤ) → 0 < D → AreNumbers top qs →
+    Stand D qs (m ∷ ms) → (entry qs 0).numerator <ℤ pos 0 → m <ℤ pos 0
 stuck_first top D [] m ms D_positive numbers stand below = absurd stand
-stuck_first top D (q ∷ qs) m ms D_positive numbers stand below = negative_number q.numerator m q.denominator D numbers.0.lowest.positive D_positive stand.0 below
+stuck_first top D (q ∷ qs) m ms D_positive numbers stand below =
+    negative_number q.numerator m q.denominator D numbers.0.lowest.positive D_positive stand.0 below
 
-stuck_rest : (top D count : ℕ) (qs : List Fraction) (m : ℤ) (ms : List ℤ) → 0 < D → AreNumbers top qs → Stand D qs (m ∷ ms) → length qs ≡ suc count → ((k : ℕ) → 1 ≤ k → k ≤ count → (entry qs k).numerator ≤ℤ pos 0) → NotAbove ms
+stuck_rest : (top D count : ℕ) (qs : List Fraction) (m : ℤ) (ms : List ℤ) → 0 < D → AreNumbers top qs →
+    Stand D qs (m ∷ ms) → length qs ≡ suc count → ((k : ℕ) → 1 ≤ k → k ≤ count → (entry qs k).numerator ≤ℤ pos 0) →
+    NotAbove ms
 stuck_rest top D count [] m ms D_positive numbers stand counted low = absurd stand
 stuck_rest top D count (q ∷ qs) m ms D_positive numbers stand counted low =
     not_above top D qs ms D_positive numbers.1 stand.1 (λ k k_in. low (suc k) (omega arith) (omega (arith, counted, k_in)))
 
 -- Where a form is stuck, no rational point of the box meets the rows.
-pub stuck_refutes : (t : Table) (w : IsWholeTable t) (line : ℕ) → line < length t.lines.items → IsStuck t.basis.items (line_at t line) → IsSolved t.costs t.rows.items (Refuted line)
+pub stuck_refutes : (t : Table) (w : IsWholeTable t) (line : ℕ) → line < length t.lines.items →
+    IsStuck t.basis.items (line_at t line) → IsSolved t.costs t.rows.items (Refuted line)
 stuck_refutes t w line line_in stuck p point meets =
     let n = length t.costs.low in
     let D = w.unboxed.common in
@@ -133,11 +146,13 @@ stuck_refutes t w line line_in stuck p point meets =
     let ms = map (number_of D t.costs.low w.unboxed.lows f) (numbers_from 1 n) in
     let es = line_at t line in
     let l = whole_line t w line line_in in
-    let mixture_is = form_mixture D n t.costs.low (low_forms n 0 t.costs.low) w.unboxed.lows bs f w.unboxed.long w.unboxed.mixtures (resolved t.costs.low f (coefficients_long t.costs t.rows.items member w.fit is)) in
+    let mixture_is = form_mixture D n t.costs.low (low_forms n 0 t.costs.low) w.unboxed.lows bs f w.unboxed.long
+    w.unboxed.mixtures (resolved t.costs.low f (coefficients_long t.costs t.rows.items member w.fit is)) in
     let met : pos 0 ≤ℤ value_at f p = member_met t.costs t.rows.items p member point meets is in
     let below : value_at f p <ℤ pos 0 =
     stuck_negative f bs D m ms p mixture_is (stuck_first t.top D es m ms w.unboxed.positive l.numbers l.stand stuck.below)
-    (stuck_rest t.top D n es m ms w.unboxed.positive l.numbers l.stand (line_long t w line line_in) (λ k k_from k_in. stuck.none_above k k_from (omega (arith, w.unboxed.count, k_in))))
+    (stuck_rest t.top D n es m ms w.unboxed.positive l.numbers l.stand (line_long t w line line_in)
+    (λ k k_from k_in. stuck.none_above k k_from (omega (arith, w.unboxed.count, k_in))))
     (basis_met t.costs t.rows.items p t.basis.items point meets w.unboxed.members) point.scale in
     both (value_at f p) met below
   where
@@ -154,7 +169,9 @@ corner_first : (l D : ℕ) (z : ℤ) → pos 0 ≤ℤ z → pos (l * D + nat_abs
 corner_first l D (pos n) high = refl
 corner_first l D (negsuc n) high = absurd (omega (arith, ints))
 
-corner_is : (D : ℕ) (low : List ℕ) (lows : List (List ℤ)) → length low ≡ length lows → ((v : ℕ) → v < length low → pos 0 ≤ℤ number_at (slice_index_or lows v []) 0) → IsCorner D low lows (corner_of D low lows)
+corner_is : (D : ℕ) (low : List ℕ) (lows : List (List ℤ)) → length low ≡ length lows →
+    ((v : ℕ) → v < length low → pos 0 ≤ℤ number_at (slice_index_or lows v []) 0) →
+    IsCorner D low lows (corner_of D low lows)
 corner_is D [] [] same high = tt
 corner_is D [] (ts ∷ lows) same high = absurd (omega arith)
 corner_is D (l ∷ ls) [] same high = absurd (omega arith)
@@ -177,31 +194,52 @@ counted_lows t w = lows_counted t.top t.costs t.rows.items t.basis.items t.lines
 pub first_high : (t : Table) (w : IsWholeTable t) → AreHigh t → (v : ℕ) → v < length t.costs.low → pos 0 ≤ℤ number_at (slice_index_or w.unboxed.lows v []) 0
 first_high t w high v v_in =
     let stands = low_line_stands t.top t.costs t.rows.items t.basis.items t.lines.items w v 0 v_in (omega arith) in
-    high_number (entry (line_at t v) 0).numerator (number_at (slice_index_or w.unboxed.lows v []) 0) (entry (line_at t v) 0).denominator w.unboxed.common stands.0 w.unboxed.positive stands.1
-    (high v [] (omega (arith, members_long t.costs (length t.rows.items), zip_long (IsLine t.top w.unboxed.common t.costs t.rows.items w.unboxed.lows) (members_of t.costs (length t.rows.items)) t.lines.items w.unboxed.lines, v_in)))
+    high_number (entry (line_at t v) 0).numerator (number_at (slice_index_or w.unboxed.lows v []) 0)
+    (entry (line_at t v) 0).denominator w.unboxed.common stands.0 w.unboxed.positive stands.1
+    (high v [] (omega (
+      arith,
+      members_long t.costs (length t.rows.items),
+      zip_long (IsLine t.top w.unboxed.common t.costs t.rows.items w.unboxed.lows)
+          (members_of t.costs (length t.rows.items)) t.lines.items w.unboxed.lines,
+      v_in,
+    )))
 
-pub at_corner : (t : Table) (w : IsWholeTable t) → AreHigh t → IsCorner w.unboxed.common t.costs.low w.unboxed.lows (corner_of w.unboxed.common t.costs.low w.unboxed.lows)
+pub at_corner : (t : Table) (w : IsWholeTable t) → AreHigh t →
+    IsCorner w.unboxed.common t.costs.low w.unboxed.lows (corner_of w.unboxed.common t.costs.low w.unboxed.lows)
 at_corner t w high = corner_is w.unboxed.common t.costs.low w.unboxed.lows (counted_lows t w) (first_high t w high)
 
 -- each form is its constant at the corner
-corner_high : (t : Table) (w : IsWholeTable t) → AreHigh t → (line : ℕ) → line < length t.lines.items → pos 0 ≤ℤ value_at (member_form (length t.costs.low) t.rows.items (member_at t line)) (corner_point t w)
+corner_high : (t : Table) (w : IsWholeTable t) → AreHigh t → (line : ℕ) → line < length t.lines.items →
+    pos 0 ≤ℤ value_at (member_form (length t.costs.low) t.rows.items (member_at t line)) (corner_point t w)
 corner_high t w high line line_in =
     let n = length t.costs.low in
     let f = member_form n t.rows.items (member_at t line) in
     let l = whole_line t w line line_in in
     let here = number_there t.top (line_at t line) 0 l.numbers (omega (arith, line_long t w line line_in)) in
-    let stands = stand_at w.unboxed.common (line_at t line) (line_numbers t w line) 0 l.stand (omega (arith, numbers_long n w.unboxed.common t.costs.low w.unboxed.lows f)) in
-    subst (λ z. pos 0 ≤ℤ z) (numbers_at n w.unboxed.common t.costs.low w.unboxed.lows f 0 (omega arith) ∙ sym (corner_value w.unboxed.common t.costs.low w.unboxed.lows (corner_of w.unboxed.common t.costs.low w.unboxed.lows) f (at_corner t w high)))
-    (high_number (entry (line_at t line) 0).numerator (number_at (line_numbers t w line) 0) (entry (line_at t line) 0).denominator w.unboxed.common here.lowest.positive w.unboxed.positive stands (high line [] line_in))
+    let stands = stand_at w.unboxed.common (line_at t line) (line_numbers t w line) 0 l.stand
+    (omega (arith, numbers_long n w.unboxed.common t.costs.low w.unboxed.lows f)) in
+    subst (λ z. pos 0 ≤ℤ z) (numbers_at n w.unboxed.common t.costs.low w.unboxed.lows f 0 (omega arith)
+    ∙ sym (corner_value w.unboxed.common t.costs.low w.unboxed.lows
+    (corner_of w.unboxed.common t.costs.low w.unboxed.lows) f (at_corner t w high)))
+    (high_number (entry (line_at t line) 0).numerator (number_at (line_numbers t w line) 0)
+    (entry (line_at t line) 0).denominator w.unboxed.common here.lowest.positive w.unboxed.positive stands
+    (high line [] line_in))
 
 -- the same by the member
-member_high : (t : Table) (w : IsWholeTable t) → AreHigh t → (line : ℕ) (member : Member) → line < length (members_of t.costs (length t.rows.items)) → member_at t line ≡ member → pos 0 ≤ℤ value_at (member_form (length t.costs.low) t.rows.items member) (corner_point t w)
+member_high : (t : Table) (w : IsWholeTable t) → AreHigh t → (line : ℕ) (member : Member) →
+    line < length (members_of t.costs (length t.rows.items)) → member_at t line ≡ member →
+    pos 0 ≤ℤ value_at (member_form (length t.costs.low) t.rows.items member) (corner_point t w)
 member_high t w high line member line_in is =
     subst (λ (m : Member). pos 0 ≤ℤ value_at (member_form (length t.costs.low) t.rows.items m) (corner_point t w)) is
-    (corner_high t w high line (omega (arith, zip_long (IsLine t.top w.unboxed.common t.costs t.rows.items w.unboxed.lows) (members_of t.costs (length t.rows.items)) t.lines.items w.unboxed.lines, line_in)))
+    (corner_high t w high line (omega (
+      arith,
+      zip_long (IsLine t.top w.unboxed.common t.costs t.rows.items w.unboxed.lows)
+          (members_of t.costs (length t.rows.items)) t.lines.items w.unboxed.lines,
+      line_in,
+    )))
 
 -- Where no constant is negative, the corner is a point of the box that meets the rows.
-pub corner_fits : (t : Table) (w : IsWholeTable t) → AreHigh t → IsPointOf t.costs (corner_point t w) × MeetsRows t.rows.items (corner_point t w)
+pub corner_fits : (t : Table) (w : IsWholeTable t) → AreHigh t → IsPointOf t.costs (corner_point t w) × AreMet t.rows.items (corner_point t w)
 corner_fits t w high =
     let n = length t.costs.low in
     let p = corner_point t w in
@@ -210,14 +248,18 @@ corner_fits t w high =
     let above : (k : ℕ) → k < length p.values → slice_index t.costs.low k * p.scale ≤ slice_index p.values k =
     λ k k_in. (
     high_less (slice_index t.costs.low k * p.scale) (slice_index p.values k) (value_at (member_form n t.rows.items (low_member t.costs k)) p)
-    (ap (λ (m : ℕ). value_at (member_form m t.rows.items (low_member t.costs k)) p) (sym counted) ∙ low_value_at t.rows.items k (slice_index t.costs.low k) p k_in)
-    (member_high t w high k (low_member t.costs k) (omega (arith, many, counted, k_in)) (members_begin t.costs (length t.rows.items) k (Low 0 0) (omega (arith, counted, k_in))))
+    (ap (λ (m : ℕ). value_at (member_form m t.rows.items (low_member t.costs k)) p) (sym counted)
+    ∙ low_value_at t.rows.items k (slice_index t.costs.low k) p k_in)
+    (member_high t w high k (low_member t.costs k) (omega (arith, many, counted, k_in))
+    (members_begin t.costs (length t.rows.items) k (Low 0 0) (omega (arith, counted, k_in))))
     ) in
     let below : (k : ℕ) → k < length p.values → slice_index p.values k ≤ slice_index t.costs.high k * p.scale =
     λ k k_in. (
     high_less (slice_index p.values k) (slice_index t.costs.high k * p.scale) (value_at (member_form n t.rows.items (high_member t.costs k)) p)
-    (ap (λ (m : ℕ). value_at (member_form m t.rows.items (high_member t.costs k)) p) (sym counted) ∙ high_value_at t.rows.items k (slice_index t.costs.high k) p k_in)
-    (member_high t w high (n + k) (high_member t.costs k) (omega (arith, many, counted, k_in)) (high_place t.costs (length t.rows.items) k (Low 0 0) (omega (arith, counted, k_in))))
+    (ap (λ (m : ℕ). value_at (member_form m t.rows.items (high_member t.costs k)) p) (sym counted)
+    ∙ high_value_at t.rows.items k (slice_index t.costs.high k) p k_in)
+    (member_high t w high (n + k) (high_member t.costs k) (omega (arith, many, counted, k_in))
+    (high_place t.costs (length t.rows.items) k (Low 0 0) (omega (arith, counted, k_in))))
     ) in (
       record {
         scale = w.unboxed.positive;
@@ -235,19 +277,24 @@ pub corner_solves : (t : Table) → IsWholeTable t → AreHigh t → IsSolved t.
 corner_solves t w high = (corner_point t w, corner_fits t w high)
 
 -- what the lines show is so
-pub shown_solves : (t : Table) (w : IsWholeTable t) (solved : Solved) → IsShown t.basis.items t.lines.items (Ended solved) → IsSolved t.costs t.rows.items solved
+pub shown_solves : (t : Table) (w : IsWholeTable t) (solved : Solved) →
+    IsShown t.basis.items t.lines.items (Ended solved) → IsSolved t.costs t.rows.items solved
 shown_solves t w Feasible high = corner_solves t w high
 shown_solves t w (Refuted line) stuck = stuck_refutes t w line stuck.0 stuck.1
 
 -- what the work on a table found is so of the forms that it began with
-pub settled_solves : (old new : Table) (found : Result Solved Wide) → KeepsForms old new → OnOk found (IsWholeTable new) → IfOk found (λ solved. IsShown new.basis.items new.lines.items (Ended solved)) → IfOk found (λ solved. IsSolved old.costs old.rows.items solved)
+pub settled_solves : (old new : Table) (found : Result Solved Wide) → KeepsForms old new →
+    OnOk found (IsWholeTable new) → IfOk found (λ solved. IsShown new.basis.items new.lines.items (Ended solved)) →
+    IfOk found (λ solved. IsSolved old.costs old.rows.items solved)
 settled_solves old new (Ok solved) keeps w shown =
     subst (λ (rows : List Form). IsSolved old.costs rows solved) keeps.rows
     (subst (λ (costs : CostBox). IsSolved costs new.rows.items solved) keeps.costs (shown_solves new w solved shown))
 settled_solves old new (Err wide) keeps w shown = tt
 
 -- and the form that it found is one of those
-pub settled_among : (old new : Table) (found : Result Solved Wide) → KeepsForms old new → OnOk found (IsWholeTable new) → IfOk found (λ solved. IsShown new.basis.items new.lines.items (Ended solved)) → IfOk found (IsAmongForms old.costs old.rows.items)
+pub settled_among : (old new : Table) (found : Result Solved Wide) → KeepsForms old new →
+    OnOk found (IsWholeTable new) → IfOk found (λ solved. IsShown new.basis.items new.lines.items (Ended solved)) →
+    IfOk found (IsAmongForms old.costs old.rows.items)
 settled_among old new (Ok Feasible) keeps w shown = tt
 settled_among old new (Ok (Refuted form)) keeps w shown =
     let many = lines_long new w in

@@ -1,32 +1,23 @@
 -- The lines of the starting basis, as they are made.
-use Rattle.std.proofs.Common.{◌≡◌, ℕ, zero, suc, ◌+◌, ◌-◌, ◌^◌, ◌<◌, cond, Bool, true, false, refl, sym, ◌∙◌, ap, subst, List, [], ◌∷◌, ◌++◌, map, length, arith, append-nil, append_assoc, zero-add}
+use Rattle.std.proofs.Common.{◌≡◌, ℕ, zero, suc, ◌+◌, ◌-◌, ◌^◌, ◌<◌, cond, Bool, true, false, refl, sym, ◌∙◌, ap, subst, List, [], ◌∷◌, ◌++◌, map, length, arith, append-nil, zero-add}
 use Rattle.std.specs.Prelude.{ℤ, pos, negsuc, ◌-ℤ◌, ◌==◌, nat_abs, slice_index, slice_index_or, slice_set}
 use Rattle.std.proofs.lemmas.List.{length-map, map-append}
 use Rattle.std.proofs.lemmas.Simd.{map-map}
 use Rattle.cost_base.specs.Lists.{numbers_from}
 use Rattle.whole_numbers.specs.Fractions.{Fraction, whole}
 use Rattle.wide_fraction.specs.Widths.{IsTop}
-use Rattle.cost_base.proofs.ListLemmas.{numbers_from-push}
 use Rattle.path_rows.specs.declared.form.CostBox.{CostBox}
 use Rattle.path_rows.specs.Basis.{low_member, unit}
 use Rattle.fraction_rows.specs.TableRows.{AreNumbers, nothing}
 use Rattle.fraction_rows.specs.Turns.{AreRows}
 use Rattle.fraction_table.specs.Wholes.{high_member, members_of, starting_line}
 use Rattle.fraction_rows.proofs.Columns.{same_test, other_test}
-use Rattle.fraction_rows.proofs.Filled.{length-mapped, mapped_same, mapped_written}
-use Rattle.fraction_rows.proofs.Tops.{whole_number}
+use Rattle.fraction_rows.proofs.FilledRows.{length-mapped, mapped_same, mapped_written}
+use Rattle.fraction_rows.proofs.SmallNumbers.{whole_number}
 use Rattle.fraction_table.proofs.theory.Units.{high_value, low_value}
 
--- a list to which what belongs to each number in turn is put
-pub put_more : {X : Type 0} (start olds news : List X) (f : ℕ → X) (k : ℕ) (x : X) → news ≡ olds ++ x ∷ [] → olds ≡ start ++ map f (numbers_from 0 k) → x ≡ f k → news ≡ start ++ map f (numbers_from 0 (k + 1))
-put_more start olds news f k x news_are olds_are x_is =
-    news_are
-    ∙ ap (λ xs. xs ++ x ∷ []) olds_are
-    ∙ ap (λ y. (start ++ map f (numbers_from 0 k)) ++ y ∷ []) (x_is ∙ ap f (sym (zero-add k)))
-    ∙ append_assoc start (map f (numbers_from 0 k)) (f (0 + k) ∷ [])
-    ∙ ap (λ xs. start ++ xs) (sym (ap (map f) (numbers_from-push 0 k) ∙ map-append f (numbers_from 0 k) ((0 + k) ∷ [])))
-
-pub rows_more : (top count : ℕ) (olds news : List (List Fraction)) (line : List Fraction) → news ≡ olds ++ line ∷ [] → AreRows top count olds → length line ≡ count → AreNumbers top line → AreRows top count news
+pub rows_more : (top count : ℕ) (olds news : List (List Fraction)) (line : List Fraction) → news ≡ olds ++ line ∷ [] →
+    AreRows top count olds → length line ≡ count → AreNumbers top line → AreRows top count news
 rows_more top count olds news line news_are olds_fit counted numbers =
     subst (AreRows top count) (sym news_are) (put olds olds_fit)
   where
@@ -40,11 +31,15 @@ blank_at a (suc n) zero = refl
 blank_at a (suc n) (suc k) = blank_at (a + 1) n k
 
 -- a row of zeros with another constant
-pub constant_set : (row now : List Fraction) (width : ℕ) (value : Fraction) → row ≡ nothing ∷ map (λ column. nothing) (numbers_from 0 width) → now ≡ slice_set row 0 value → now ≡ value ∷ map (λ column. nothing) (numbers_from 0 width)
+pub constant_set : (row now : List Fraction) (width : ℕ) (value : Fraction) →
+    row ≡ nothing ∷ map (λ column. nothing) (numbers_from 0 width) → now ≡ slice_set row 0 value →
+    now ≡ value ∷ map (λ column. nothing) (numbers_from 0 width)
 constant_set row now width value row_is now_is = now_is ∙ ap (λ qs. slice_set qs 0 value) row_is
 
 -- a line of zeros, as long as the old one
-pub cleared_is : (old cleared : List Fraction) (width : ℕ) → length old ≡ suc width → cleared ≡ nothing ∷ map (λ column. nothing) (numbers_from 0 (length old - 1)) → cleared ≡ nothing ∷ map (λ column. nothing) (numbers_from 0 width)
+pub cleared_is : (old cleared : List Fraction) (width : ℕ) → length old ≡ suc width →
+    cleared ≡ nothing ∷ map (λ column. nothing) (numbers_from 0 (length old - 1)) →
+    cleared ≡ nothing ∷ map (λ column. nothing) (numbers_from 0 width)
 cleared_is old cleared width long is =
     let same : length old - 1 ≡ width = omega (arith, long) in
     is ∙ ap (λ (n : ℕ). nothing ∷ map (λ column. nothing) (numbers_from 0 n)) same
@@ -57,14 +52,17 @@ unit_set width v c v_in =
     (λ m from m_in other. ap (λ b. whole (cond b c (pos 0))) (other_test m v (λ same. other (same ∙ sym (zero-add v))))))
 
 -- and with an entry in one column
-pub entry_set : (row now : List Fraction) (width v : ℕ) (constant coefficient : ℤ) (value : Fraction) → v < width → row ≡ whole constant ∷ map (λ column. nothing) (numbers_from 0 width) → value ≡ whole coefficient → now ≡ slice_set row (suc v) value → now ≡ whole constant ∷ map whole (unit width v coefficient)
+pub entry_set : (row now : List Fraction) (width v : ℕ) (constant coefficient : ℤ) (value : Fraction) → v < width →
+    row ≡ whole constant ∷ map (λ column. nothing) (numbers_from 0 width) → value ≡ whole coefficient →
+    now ≡ slice_set row (suc v) value → now ≡ whole constant ∷ map whole (unit width v coefficient)
 entry_set row now width v constant coefficient value v_in row_is value_is now_is =
     now_is
     ∙ ap (λ qs. slice_set qs (suc v) value) row_is
     ∙ ap (λ q. whole constant ∷ slice_set (map (λ column. nothing) (numbers_from 0 width)) v q) value_is
     ∙ ap (λ qs. whole constant ∷ qs) (unit_set width v coefficient v_in)
 
-pub unit_line_long : (line : List Fraction) (width v : ℕ) (constant coefficient : ℤ) → line ≡ whole constant ∷ map whole (unit width v coefficient) → length line ≡ suc width
+pub unit_line_long : (line : List Fraction) (width v : ℕ) (constant coefficient : ℤ) →
+    line ≡ whole constant ∷ map whole (unit width v coefficient) → length line ≡ suc width
 unit_line_long line width v constant coefficient line_is =
     ap length line_is ∙ ap suc (length-map (unit width v coefficient) whole ∙ length-mapped (λ k. cond (k == v) coefficient (pos 0)) 0 width)
 
@@ -72,10 +70,15 @@ wholes_numbers : (top : ℕ) (f : ℕ → ℤ) (ks : List ℕ) → IsTop top →
 wholes_numbers top f [] is_top small = tt
 wholes_numbers top f (k ∷ ks) is_top small = (whole_number top (f k) is_top (small k), wholes_numbers top f ks is_top small)
 
-pub unit_line_numbers : (top : ℕ) (line : List Fraction) (width v : ℕ) (constant coefficient : ℤ) → IsTop top → nat_abs constant < 2 ^ 27 → nat_abs coefficient < 2 ^ 27 → line ≡ whole constant ∷ map whole (unit width v coefficient) → AreNumbers top line
+pub unit_line_numbers : (top : ℕ) (line : List Fraction) (width v : ℕ) (constant coefficient : ℤ) → IsTop top →
+    nat_abs constant < 2 ^ 27 → nat_abs coefficient < 2 ^ 27 →
+    line ≡ whole constant ∷ map whole (unit width v coefficient) → AreNumbers top line
 unit_line_numbers top line width v constant coefficient is_top constant_small coefficient_small line_is =
-    subst (AreNumbers top) (sym line_is)
-    (whole_number top constant is_top constant_small, wholes_numbers top (λ k. cond (k == v) coefficient (pos 0)) (numbers_from 0 width) is_top (λ k. either (k == v)))
+    subst (AreNumbers top) (sym line_is) (
+      whole_number top constant is_top constant_small,
+      wholes_numbers top (λ k. cond (k == v) coefficient (pos 0)) (numbers_from 0 width) is_top
+          (λ k. either (k == v)),
+    )
   where
     either : (b : Bool) → nat_abs (cond b coefficient (pos 0)) < 2 ^ 27
     either true = coefficient_small
@@ -85,7 +88,8 @@ abbrev low_lines : ℕ → List (List Fraction)
 low_lines width = map (λ v. whole (pos 0) ∷ map whole (unit width v (pos 1))) (numbers_from 0 width)
 
 abbrev high_lines : List ℕ → List ℕ → List (List Fraction)
-high_lines low high = map (λ v. whole (pos (slice_index high v) -ℤ pos (slice_index low v)) ∷ map whole (unit (length low) v (negsuc 0))) (numbers_from 0 (length low))
+high_lines low high = map (λ v. whole (pos (slice_index high v) -ℤ pos (slice_index low v))
+    ∷ map whole (unit (length low) v (negsuc 0))) (numbers_from 0 (length low))
 
 starting_lines : (costs : CostBox) → map (starting_line costs []) (members_of costs 0) ≡ low_lines (length costs.low) ++ high_lines costs.low costs.high
 starting_lines costs =
@@ -95,11 +99,24 @@ starting_lines costs =
     let highs = map (high_member costs) (numbers_from 0 n) in
     ap (map line) (append-nil (lows ++ highs))
     ∙ map-append line lows highs
-    ∙ ap (λ ls. ls ++ map line highs) (map-map line (low_member costs) (numbers_from 0 n) ∙ mapped_same (λ v. line (low_member costs v)) (λ v. whole (pos 0) ∷ map whole (unit n v (pos 1))) 0 n (λ v from v_in. ap (λ z. whole z ∷ map whole (unit n v (pos 1))) (low_value costs.low [] v (omega (arith, v_in)))))
-    ∙ ap (λ ls. low_lines n ++ ls) (map-map line (high_member costs) (numbers_from 0 n) ∙ mapped_same (λ v. line (high_member costs v)) (λ v. whole (pos (slice_index costs.high v) -ℤ pos (slice_index costs.low v)) ∷ map whole (unit n v (negsuc 0))) 0 n (λ v from v_in. ap (λ z. whole z ∷ map whole (unit n v (negsuc 0))) (high_value costs.low [] v (slice_index costs.high v) (omega (arith, v_in)))))
+    ∙ ap (λ ls. ls ++ map line highs) (map-map line (low_member costs) (numbers_from 0 n)
+    ∙ mapped_same (λ v. line (low_member costs v)) (λ v. whole (pos 0) ∷ map whole (unit n v (pos 1))) 0 n
+    (λ v from v_in. ap (λ z. whole z ∷ map whole (unit n v (pos 1)))
+    (low_value costs.low [] v (omega (arith, v_in)))))
+    ∙ ap (λ ls. low_lines n ++ ls) (map-map line (high_member costs) (numbers_from 0 n)
+    ∙ mapped_same (λ v. line (high_member costs v))
+    (λ v. whole (pos (slice_index costs.high v) -ℤ pos (slice_index costs.low v))
+    ∷ map whole (unit n v (negsuc 0))) 0 n
+    (λ v from v_in. ap (λ z. whole z ∷ map whole (unit n v (negsuc 0)))
+    (high_value costs.low [] v (slice_index costs.high v) (omega (arith, v_in)))))
 
 -- the lines of x - low and then those of high - x are all lines of the box
-pub bound_lines : (costs : CostBox) (start first now : List (List Fraction)) (width : ℕ) (low high : List ℕ) → start ≡ [] → width ≡ length costs.low → low ≡ costs.low → high ≡ costs.high → first ≡ start ++ map (λ v. whole (pos 0) ∷ map whole (unit width v (pos 1))) (numbers_from 0 width) → now ≡ first ++ map (λ v. whole (pos (slice_index high v) -ℤ pos (slice_index low v)) ∷ map whole (unit (length low) v (negsuc 0))) (numbers_from 0 (length low)) → now ≡ map (starting_line costs []) (members_of costs 0)
+pub bound_lines : (costs : CostBox) (start first now : List (List Fraction)) (width : ℕ) (low high : List ℕ) →
+    start ≡ [] → width ≡ length costs.low → low ≡ costs.low → high ≡ costs.high →
+    first ≡ start ++ map (λ v. whole (pos 0) ∷ map whole (unit width v (pos 1))) (numbers_from 0 width) →
+    now ≡ first ++ map (λ v. whole (pos (slice_index high v) -ℤ pos (slice_index low v))
+    ∷ map whole (unit (length low) v (negsuc 0))) (numbers_from 0 (length low)) →
+    now ≡ map (starting_line costs []) (members_of costs 0)
 bound_lines costs start first now width low high start_is width_is low_is high_is first_is now_is =
     now_is
     ∙ ap (λ ls. ls ++ high_lines low high) (first_is ∙ ap (λ ls. ls ++ low_lines width) start_is)

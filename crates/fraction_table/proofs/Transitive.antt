@@ -23,7 +23,9 @@ unscaled_follows b (pos zero ∷ zs) positive leads = unscaled_follows b zs posi
 unscaled_follows b (pos (suc n) ∷ zs) positive leads = tt
 unscaled_follows b (negsuc n ∷ zs) positive leads = leads_negative (pos b *ℤ negsuc n) (scaled b zs) (negative_multiple b n positive) leads
 
-chained : (a b c : ℕ) (xs ys zs : List ℤ) → length xs ≡ length ys → length xs ≡ length zs → scaled b (turned_column a zs (pos c) xs) ≡ summed (scaled a (turned_column b zs (pos c) ys)) (scaled c (turned_column a ys (pos b) xs))
+chained : (a b c : ℕ) (xs ys zs : List ℤ) → length xs ≡ length ys → length xs ≡ length zs →
+    scaled b (turned_column a zs (pos c) xs) ≡ summed (scaled a (turned_column b zs (pos c) ys))
+    (scaled c (turned_column a ys (pos b) xs))
 chained a b c [] [] [] same other = refl
 chained a b c [] (y ∷ ys) zs same other = absurd (omega arith)
 chained a b c [] [] (z ∷ zs) same other = absurd (omega arith)
@@ -38,7 +40,8 @@ chained a b c (x ∷ xs) (y ∷ ys) (z ∷ zs) same other =
         (var 1 ⊗ ((var 0 ⊗ var 5) ⊖ (var 2 ⊗ var 3)))
         ((var 0 ⊗ ((var 1 ⊗ var 5) ⊖ (var 2 ⊗ var 4))) ⊕ (var 2 ⊗ ((var 0 ⊗ var 4) ⊖ (var 1 ⊗ var 3)))) refl
 
-chained_long : (a b c : ℕ) (xs ys zs : List ℤ) → length xs ≡ length ys → length xs ≡ length zs → length (scaled a (turned_column b zs (pos c) ys)) ≡ length (scaled c (turned_column a ys (pos b) xs))
+chained_long : (a b c : ℕ) (xs ys zs : List ℤ) → length xs ≡ length ys → length xs ≡ length zs →
+    length (scaled a (turned_column b zs (pos c) ys)) ≡ length (scaled c (turned_column a ys (pos b) xs))
 chained_long a b c [] [] [] same other = refl
 chained_long a b c [] (y ∷ ys) zs same other = absurd (omega arith)
 chained_long a b c [] [] (z ∷ zs) same other = absurd (omega arith)
@@ -46,14 +49,18 @@ chained_long a b c (x ∷ xs) [] zs same other = absurd (omega arith)
 chained_long a b c (x ∷ xs) (y ∷ ys) [] same other = absurd (omega arith)
 chained_long a b c (x ∷ xs) (y ∷ ys) (z ∷ zs) same other = ap suc (chained_long a b c xs ys zs (omega arith) (omega arith))
 
-columns_chain : (a b c : ℕ) (xs ys zs : List ℤ) → 0 < b → length xs ≡ length ys → length xs ≡ length zs → LeadsNoNegative (turned_column a ys (pos b) xs) → LeadsNoNegative (turned_column b zs (pos c) ys) → LeadsNoNegative (turned_column a zs (pos c) xs)
+columns_chain : (a b c : ℕ) (xs ys zs : List ℤ) → 0 < b → length xs ≡ length ys → length xs ≡ length zs →
+    LeadsNoNegative (turned_column a ys (pos b) xs) → LeadsNoNegative (turned_column b zs (pos c) ys) →
+    LeadsNoNegative (turned_column a zs (pos c) xs)
 columns_chain a b c xs ys zs positive same other first second =
     unscaled_follows b (turned_column a zs (pos c) xs) positive
     (subst LeadsNoNegative (sym (chained a b c xs ys zs same other))
     (sum_follows (scaled a (turned_column b zs (pos c) ys)) (scaled c (turned_column a ys (pos b) xs)) (chained_long a b c xs ys zs same other)
     (scaled_follows a (turned_column b zs (pos c) ys) second) (scaled_follows c (turned_column a ys (pos b) xs) first)))
 
-pub not_after_chain : (t : Table) (line first middle last : ℕ) → line < length t.lines.items → IsPivot t.basis.items (line_at t line) (suc middle) → IsPivot t.basis.items (line_at t line) (suc last) → IsNotAfter t line first middle → IsNotAfter t line middle last → IsNotAfter t line first last
+pub not_after_chain : (t : Table) (line first middle last : ℕ) → line < length t.lines.items →
+    IsPivot t.basis.items (line_at t line) (suc middle) → IsPivot t.basis.items (line_at t line) (suc last) →
+    IsNotAfter t line first middle → IsNotAfter t line middle last → IsNotAfter t line first last
 not_after_chain t line first middle last line_in middle_pivot last_pivot before after w a at_first =
     let b = entry_number t w line middle line_in middle_pivot in
     let c = entry_number t w line last line_in last_pivot in

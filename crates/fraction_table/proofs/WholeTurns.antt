@@ -5,6 +5,7 @@ use Rattle.std.specs.List.{AllZip}
 use Rattle.std.proofs.lemmas.List.{length-map, length-set, map-set}
 use Rattle.std.proofs.lemmas.List.Elements.{All-set}
 use Rattle.whole_numbers.specs.Fractions.{Fraction, StandsFor, divided, whole}
+use Rattle.whole_numbers.specs.Lists.{number_at}
 use Rattle.wide_fraction.proofs.Quotients.{zero_stands}
 use Rattle.path_rows.specs.declared.form.Form.{Form}
 use Rattle.path_rows.specs.declared.form.CostBox.{CostBox}
@@ -15,20 +16,21 @@ use Rattle.path_rows.specs.Basis.{IsFormOf, IsMixture, entry, forms_of, member_f
 use Rattle.fraction_rows.specs.TableRows.{AreNumbers, divided_without}
 use Rattle.fraction_table.specs.Tableaus.{FitsBox}
 use Rattle.fraction_rows.specs.Turns.{AreRows, turned_by, unless_none}
-use Rattle.fraction_table.specs.Wholes.{AllLong, IsLine, IsWhole, Stand, low_forms, members_of, number_at, number_of, numbers_of}
+use Rattle.fraction_table.specs.Wholes.{AllLong, IsLine, IsWhole, Stand, low_forms, members_of, number_of, numbers_of}
 use Rattle.fraction_table.specs.Pivots.{IsLeast}
-use Rattle.fraction_rows.proofs.Filled.{length-mapped}
+use Rattle.fraction_rows.proofs.FilledRows.{length-mapped}
 use Rattle.fraction_rows.proofs.RowLaws.{number_at as number_there}
 use Rattle.fraction_table.proofs.theory.Resolved.{resolved, stand_length}
 use Rattle.fraction_table.proofs.theory.Blends.{form_mixture}
 use Rattle.fraction_table.proofs.theory.Pivot.{turned}
-use Rattle.fraction_table.proofs.Standing.{IsTurn, kept_stands, turned_row, turned_stands}
+use Rattle.fraction_table.proofs.StandingRows.{IsTurn, kept_stands, turned_row, turned_stands}
 use Rattle.fraction_table.proofs.theory.Turns.{turned_rows}
 use Rattle.fraction_table.proofs.theory.TurnedNumbers.{IsEntry, elsewhere_turned, long_turned, mixtures_turned, numbers_at, numbers_long, numbers_turned, own_turned}
 use Rattle.fraction_table.proofs.theory.TurnedLeads.{leads_turned}
 
 -- a form of the box has a coefficient for each variable
-pub coefficients_long : (costs : CostBox) (rows : List Form) (member : Member) → All (FitsBox costs) rows → IsFormOf costs rows member → length (member_form (length costs.low) rows member).coefficients ≡ length costs.low
+pub coefficients_long : (costs : CostBox) (rows : List Form) (member : Member) → All (FitsBox costs) rows →
+    IsFormOf costs rows member → length (member_form (length costs.low) rows member).coefficients ≡ length costs.low
 coefficients_long costs rows (Low var bound) fit is = length-mapped _ 0 (length costs.low)
 coefficients_long costs rows (High var bound) fit is = length-mapped _ 0 (length costs.low)
 coefficients_long costs rows (Row row) fit is = (fit row no_form is).count
@@ -50,7 +52,9 @@ abbrev pub turned_line : List Fraction → ℕ → List Fraction → List Fracti
 turned_line es place fs = turned_by fs (divided_without place (entry es place) es 0) place (divided (whole (pos 1)) (entry es place))
 
 -- it stands for the turned numbers
-line_stands : (top D a place : ℕ) (fs es : List Fraction) (ms ks : List ℤ) → 0 < D → 0 < a → place < length ms → length ms ≡ length ks → number_at ks place ≡ pos a → AreNumbers top fs → AreNumbers top es → Stand D fs ms → Stand D es ks → Stand (D * a) (turned_line es place fs) (turned ms ks place D)
+line_stands : (top D a place : ℕ) (fs es : List Fraction) (ms ks : List ℤ) → 0 < D → 0 < a → place < length ms →
+    length ms ≡ length ks → number_at ks place ≡ pos a → AreNumbers top fs → AreNumbers top es → Stand D fs ms →
+    Stand D es ks → Stand (D * a) (turned_line es place fs) (turned ms ks place D)
 line_stands top D a place fs es ms ks D_positive a_positive place_in same at_place fs_are es_are fs_stand es_stand =
     let fs_long = stand_length D fs ms fs_stand in
     let es_long = stand_length D es ks es_stand in
@@ -68,12 +72,15 @@ line_stands top D a place fs es ms ks D_positive a_positive place_in same at_pla
       pivot = subst (λ z. StandsFor (entry es place) z D) at_place pivot_stands;
     } in
     by_zero (λ qs. Stand (D * a) qs (turned ms ks place D)) (entry fs place).numerator fs (turned_row fs es place)
-    (λ none. kept_stands place D a fs ms ks same ((zero_stands (entry fs place) (number_at ms place) D own.lowest.positive D_positive own_stands).0 none) at_place fs_stand)
+    (λ none. kept_stands place D a fs ms ks same
+    ((zero_stands (entry fs place) (number_at ms place) D own.lowest.positive D_positive own_stands).0 none)
+    at_place fs_stand)
     (turned_stands top place D a (number_at ms place) fs es ms ks refl at_place turn fs_are es_are (fs_long ∙ same ∙ sym es_long) fs_stand es_stand)
 
 -- What a pivot of a table needs: the form of a line enters at a column in which it has a positive number, and which is
 -- the least of those.
-pub record IsPivotOf (top : ℕ) (costs : CostBox) (rows : List Form) (D : ℕ) (lows : List (List ℤ)) (entering : Member) (es : List Fraction) (j a : ℕ) : Type 0 where
+pub record IsPivotOf (top : ℕ) (costs : CostBox) (rows : List Form) (D : ℕ) (lows : List (List ℤ)) (entering : Member)
+    (es : List Fraction) (j a : ℕ) : Type 0 where
   pub member : IsFormOf costs rows entering
   pub line : IsLine top D costs rows lows entering es
   pub j_in : j < length costs.low
@@ -81,7 +88,14 @@ pub record IsPivotOf (top : ℕ) (costs : CostBox) (rows : List Form) (D : ℕ) 
   pub positive : 0 < a
   pub least : IsLeast (length costs.low) lows (numbers_of (length costs.low) D costs.low lows (member_form (length costs.low) rows entering)) j
 
-pub lines_turned : (top : ℕ) (costs : CostBox) (rows : List Form) (D : ℕ) (lows : List (List ℤ)) (entering : Member) (es : List Fraction) (j a : ℕ) (members : List Member) (table : List (List Fraction)) → 0 < D → AllLong (suc (length costs.low)) lows → IsPivotOf top costs rows D lows entering es j a → AllZip (IsLine top D costs rows lows) members table → AreRows top (suc (length costs.low)) (map (turned_line es (suc j)) table) → AllZip (IsLine top (D * a) costs rows (turned_rows lows (numbers_of (length costs.low) D costs.low lows (member_form (length costs.low) rows entering)) (suc j) D)) members (map (turned_line es (suc j)) table)
+pub lines_turned : (top : ℕ) (costs : CostBox) (rows : List Form) (D : ℕ) (lows : List (List ℤ)) (entering : Member)
+    (es : List Fraction) (j a : ℕ) (members : List Member) (table : List (List Fraction)) → 0 < D →
+    AllLong (suc (length costs.low)) lows → IsPivotOf top costs rows D lows entering es j a →
+    AllZip (IsLine top D costs rows lows) members table →
+    AreRows top (suc (length costs.low)) (map (turned_line es (suc j)) table) →
+    AllZip (IsLine top (D * a) costs rows
+    (turned_rows lows (numbers_of (length costs.low) D costs.low lows (member_form (length costs.low) rows entering))
+    (suc j) D)) members (map (turned_line es (suc j)) table)
 lines_turned top costs rows D lows entering es j a [] [] D_positive long p lines news = tt
 lines_turned top costs rows D lows entering es j a [] (fs ∷ table) D_positive long p lines news = absurd lines
 lines_turned top costs rows D lows entering es j a (member ∷ members) [] D_positive long p lines news = absurd lines
@@ -91,7 +105,8 @@ lines_turned top costs rows D lows entering es j a (member ∷ members) (fs ∷ 
     stand =
         subst (λ (ms : List ℤ). Stand (D * a) (turned_line es (suc j) fs) ms)
         (sym (numbers_turned n D a costs.low lows (form member) rs j counted (subst (λ (m : ℕ). AllLong m lows) (sym counted) long) at_j p.j_in))
-        (line_stands top D a (suc j) fs es (numbers_of n D costs.low lows (form member)) rs D_positive p.positive (omega (arith, numbers_long n D costs.low lows (form member), p.j_in))
+        (line_stands top D a (suc j) fs es (numbers_of n D costs.low lows (form member)) rs D_positive p.positive
+        (omega (arith, numbers_long n D costs.low lows (form member), p.j_in))
         (numbers_long n D costs.low lows (form member) ∙ sym counted) at_j lines.0.numbers p.line.numbers lines.0.stand p.line.stand);
   },
   lines_turned top costs rows D lows entering es j a members table D_positive long p lines.1 news.2,
@@ -112,7 +127,12 @@ lines_turned top costs rows D lows entering es j a (member ∷ members) (fs ∷ 
     at_j : number_at (numbers_of (length costs.low) D costs.low lows (member_form (length costs.low) rows entering)) (suc j) ≡ pos a
     at_j = numbers_at (length costs.low) D costs.low lows (member_form (length costs.low) rows entering) (suc j) (omega (arith, p.j_in)) ∙ p.at_j
 
-unfoldable pub whole_turned : (top : ℕ) (costs : CostBox) (rows : List Form) (basis : List Member) (table : List (List Fraction)) (entering : Member) (es : List Fraction) (j a : ℕ) (w : IsWhole top costs rows basis table) → IsPivotOf top costs rows w.unboxed.common w.unboxed.lows entering es j a → AreRows top (suc (length costs.low)) (map (turned_line es (suc j)) table) → IsWhole top costs rows (slice_set basis j entering) (map (turned_line es (suc j)) table)
+unfoldable pub whole_turned : (top : ℕ) (costs : CostBox) (rows : List Form) (basis : List Member)
+    (table : List (List Fraction)) (entering : Member) (es : List Fraction) (j a : ℕ)
+    (w : IsWhole top costs rows basis table) →
+    IsPivotOf top costs rows w.unboxed.common w.unboxed.lows entering es j a →
+    AreRows top (suc (length costs.low)) (map (turned_line es (suc j)) table) →
+    IsWhole top costs rows (slice_set basis j entering) (map (turned_line es (suc j)) table)
 whole_turned top costs rows basis table entering es j a w p news =
     let n = length costs.low in
     let D = w.unboxed.common in
@@ -133,7 +153,8 @@ whole_turned top costs rows basis table entering es j a w p news =
     } in
     let forms_are : forms_of costs rows (slice_set basis j entering) ≡ slice_set bs j f = map-set (member_form n rows) basis j entering in
     let mixture_is : IsMixture f bs D rs =
-    form_mixture D n costs.low (low_forms n 0 costs.low) w.unboxed.lows bs f w.unboxed.long w.unboxed.mixtures (resolved costs.low f (coefficients_long costs rows entering w.fit p.member)) in
+    form_mixture D n costs.low (low_forms n 0 costs.low) w.unboxed.lows bs f w.unboxed.long w.unboxed.mixtures
+    (resolved costs.low f (coefficients_long costs rows entering w.fit p.member)) in
     record {
       box = w.box;
       fit = w.fit;
@@ -146,11 +167,17 @@ whole_turned top costs rows basis table entering es j a w p news =
         positive = grind (arith, w.unboxed.positive, p.positive);
         lows = turned_rows w.unboxed.lows rs (suc j) D;
         long = subst (λ (m : ℕ). AllLong m (turned_rows w.unboxed.lows rs (suc j) D)) counted (long_turned D (suc j) rs w.unboxed.lows long);
-        mixtures = rw forms_are (mixtures_turned D a bs j f rs (low_forms n 0 costs.low) w.unboxed.lows (omega (arith, as_many, p.j_in)) (counted ∙ ap suc (sym as_many)) at_j mixture_is (subst (λ (m : ℕ). AllLong (suc m) w.unboxed.lows) (sym as_many) w.unboxed.long) w.unboxed.mixtures);
+        mixtures = rw forms_are (mixtures_turned D a bs j f rs (low_forms n 0 costs.low) w.unboxed.lows
+            (omega (arith, as_many, p.j_in)) (counted ∙ ap suc (sym as_many)) at_j mixture_is
+            (subst (λ (m : ℕ). AllLong (suc m) w.unboxed.lows) (sym as_many) w.unboxed.long) w.unboxed.mixtures);
         own = rw forms_are (own_turned n D a costs.low w.unboxed.lows bs f rs j entry_is as_many w.unboxed.own w.unboxed.elsewhere);
         elsewhere = rw forms_are (elsewhere_turned n D a costs.low w.unboxed.lows bs f rs j entry_is as_many w.unboxed.elsewhere);
-        lead = leads_turned n a D w.unboxed.lows rs (slice_index_or bs j no_form).coefficients j counted long at_j p.positive w.unboxed.positive p.j_in (w.unboxed.own j p.j_in) (λ k k_in other. w.unboxed.elsewhere j (suc k) p.j_in (omega (arith, k_in)) (next_apart other)) p.least w.unboxed.lead;
-        lines = lines_turned top costs rows D w.unboxed.lows entering es j a (members_of costs (length rows)) table w.unboxed.positive w.unboxed.long p w.unboxed.lines news;
+        lead = leads_turned n a D w.unboxed.lows rs (slice_index_or bs j no_form).coefficients j counted long at_j
+            p.positive w.unboxed.positive p.j_in (w.unboxed.own j p.j_in)
+            (λ k k_in other. w.unboxed.elsewhere j (suc k) p.j_in (omega (arith, k_in)) (next_apart other)) p.least
+            w.unboxed.lead;
+        lines = lines_turned top costs rows D w.unboxed.lows entering es j a (members_of costs (length rows)) table
+            w.unboxed.positive w.unboxed.long p w.unboxed.lines news;
       };
     }
   where

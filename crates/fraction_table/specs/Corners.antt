@@ -1,4 +1,4 @@
--- The corner of a table, which is the least point of its box that meets its rows.
+-- The corner of a table, which is the least point of its box that meets its rows. No public clause cites it.
 use Rattle.std.specs.Prelude.{ℕ, ◌+◌, ◌*◌, ◌/◌, List, nat_abs, length, take, slice_index}
 use Rattle.whole_numbers.specs.Fractions.{Fraction}
 use Rattle.path_rows.specs.Basis.{entry}

@@ -55,8 +55,11 @@ pub data IsTallyStep (ns : List Fraction) (wide : Wide) : Type 0 where
 
 -- the steps by which some fractions are made whole
 pub data IsMultiplierStep (qs : List Fraction) (wide : Wide) : Type 0 where
-  multiple : (k d : ℕ) → slice_get (denominators qs) k ≡ Some d → wide ≡ record { step = Lcm; left = whole (pos (lcm_of (take k (denominators qs)))); right = whole (pos d) } → IsMultiplierStep qs wide
-  product : (k : ℕ) (q : Fraction) → slice_get qs k ≡ Some q → wide ≡ record { step = Mul; left = q; right = whole (pos (lcm_of (denominators qs))) } → IsMultiplierStep qs wide
+  multiple : (k d : ℕ) → slice_get (denominators qs) k ≡ Some d →
+      wide ≡ record { step = Lcm; left = whole (pos (lcm_of (take k (denominators qs)))); right = whole (pos d) } →
+      IsMultiplierStep qs wide
+  product : (k : ℕ) (q : Fraction) → slice_get qs k ≡ Some q →
+      wide ≡ record { step = Mul; left = q; right = whole (pos (lcm_of (denominators qs))) } → IsMultiplierStep qs wide
   tally : IsTallyStep (made_whole qs) wide → IsMultiplierStep qs wide
 
 -- a step that is too wide, where one stopped the work

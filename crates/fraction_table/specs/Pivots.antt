@@ -2,6 +2,7 @@
 use Rattle.std.specs.Prelude.{◌≡◌, ◌≢◌, Bool, true, false, ℕ, zero, suc, ◌<◌, List, [], ◌∷◌, ℤ, pos, negsuc, ◌-ℤ◌, ◌*ℤ◌, ◌<ℤ◌, ◌≤ℤ◌, Option, None, Some, map, length, slice_index_or, All}
 use Rattle.std.specs.declared.cmp.Ordering.{Ordering}
 use Rattle.whole_numbers.specs.Fractions.{Fraction, order, times}
+use Rattle.whole_numbers.specs.Lists.{number_at}
 use Rattle.path_rows.specs.declared.tree.Member.{Member}
 use Rattle.path_rows.specs.declared.tree.Member.TheVariants.{Low}
 use Rattle.path_rows.specs.Basis.{entry, member_form}
@@ -10,7 +11,7 @@ use Rattle.fraction_table.specs.declared.table.Table.{Table}
 use Rattle.fraction_table.specs.declared.stage.Solved.{Solved}
 use Rattle.fraction_table.specs.declared.stage.Stage.TheVariants.{Ended}
 use Rattle.fraction_table.specs.Ranks.{rank}
-use Rattle.fraction_table.specs.Wholes.{IsShown, IsWholeTable, members_of, number_at, numbers_of}
+use Rattle.fraction_table.specs.Wholes.{IsShown, IsWholeTable, members_of, numbers_of}
 
 -- the first number that isn't 0, if there is one, is positive
 abbrev pub LeadsNoNegative : List ℤ → Type 0
@@ -32,7 +33,8 @@ turned_column a (x ∷ xs) b (y ∷ ys) = ((pos a *ℤ x) -ℤ (b *ℤ y)) ∷ t
 -- No column whose number in the pivot's form is positive, each over that number, comes before the pivot's.
 abbrev pub IsLeast : ℕ → List (List ℤ) → List ℤ → ℕ → Type 0
 IsLeast n lows rs j =
-    (k : ℕ) → k < n → k ≢ j → (a : ℕ) → number_at rs (suc j) ≡ pos a → pos 0 <ℤ number_at rs (suc k) → LeadsNoNegative (turned_column a (numbers_in (suc k) lows) (number_at rs (suc k)) (numbers_in (suc j) lows))
+    (k : ℕ) → k < n → k ≢ j → (a : ℕ) → number_at rs (suc j) ≡ pos a → pos 0 <ℤ number_at rs (suc k) →
+    LeadsNoNegative (turned_column a (numbers_in (suc k) lows) (number_at rs (suc k)) (numbers_in (suc j) lows))
 
 abbrev pub line_at : Table → ℕ → List Fraction
 line_at t line = slice_index_or t.lines.items line []
@@ -43,7 +45,8 @@ member_at t line = slice_index_or (members_of t.costs (length t.rows.items)) lin
 
 -- the numbers of that form
 abbrev pub line_numbers : (t : Table) → IsWholeTable t → ℕ → List ℤ
-line_numbers t w line = numbers_of (length t.costs.low) w.unboxed.common t.costs.low w.unboxed.lows (member_form (length t.costs.low) t.rows.items (member_at t line))
+line_numbers t w line = numbers_of (length t.costs.low) w.unboxed.common t.costs.low w.unboxed.lows
+    (member_form (length t.costs.low) t.rows.items (member_at t line))
 
 -- the column is the least for the form of a line
 abbrev pub IsLeastIn : Table → ℕ → ℕ → Type 0
@@ -58,7 +61,9 @@ pub record KeepsForms (old new : Table) : Type 0 where
 -- By the line's form the first column doesn't come after the second, each over the form's number in it.
 abbrev pub IsNotAfter : Table → ℕ → ℕ → ℕ → Type 0
 IsNotAfter t line first second =
-    (w : IsWholeTable t) → (a : ℕ) → number_at (line_numbers t w line) (suc first) ≡ pos a → LeadsNoNegative (turned_column a (numbers_in (suc second) w.unboxed.lows) (number_at (line_numbers t w line) (suc second)) (numbers_in (suc first) w.unboxed.lows))
+    (w : IsWholeTable t) → (a : ℕ) → number_at (line_numbers t w line) (suc first) ≡ pos a →
+    LeadsNoNegative (turned_column a (numbers_in (suc second) w.unboxed.lows)
+    (number_at (line_numbers t w line) (suc second)) (numbers_in (suc first) w.unboxed.lows))
 
 -- what a test tells whether the other column comes before
 abbrev pub IsOrdered : Bool → Table → ℕ → ℕ → ℕ → Type 0
@@ -74,7 +79,9 @@ entries_order fs column other quotient = order (entry fs (suc other)) (times (en
 abbrev pub IsBestBelow : Table → ℕ → ℕ → Option ℕ → Type 0
 IsBestBelow t line bound None = (k : ℕ) → k < bound → (entry (line_at t line) (suc k)).numerator ≤ℤ pos 0
 IsBestBelow t line bound (Some column) =
-    IsPivot t.basis.items (line_at t line) (suc column) × ((k : ℕ) → k < bound → k ≢ column → pos 0 <ℤ (entry (line_at t line) (suc k)).numerator → IsNotAfter t line column k)
+    IsPivot t.basis.items (line_at t line) (suc column)
+    × ((k : ℕ) → k < bound → k ≢ column → pos 0 <ℤ (entry (line_at t line) (suc k)).numerator →
+    IsNotAfter t line column k)
 
 -- no constant is negative
 abbrev pub AreHigh : Table → Type 0

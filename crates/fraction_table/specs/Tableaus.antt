@@ -1,5 +1,5 @@
 -- What a tableau holds, and what its calls may answer and leave.
-use Rattle.std.specs.Prelude.{◌≡◌, ℕ, suc, ◌+◌, ◌^◌, ◌<◌, ◌≤◌, ◌⊎◌, List, [], ◌∷◌, ◌++◌, ℤ, pos, ◌-ℤ◌, ◌≤ℤ◌, nat_abs, map, length, take, drop, slice_get, slice_index, All, Any, Some}
+use Rattle.std.specs.Prelude.{◌≡◌, ℕ, suc, ◌+◌, ◌^◌, ◌<◌, ◌≤◌, ◌⊎◌, List, [], ◌∷◌, ◌++◌, ℤ, pos, ◌-ℤ◌, nat_abs, map, length, take, drop, slice_get, slice_index, All, Any, Some}
 use Rattle.cost_base.specs.Lists.{numbers_from}
 use Rattle.cost_base.specs.declared.StepName.{StepName}
 use Rattle.cost_base.specs.declared.StepName.TheVariants.{Add, Sub, Mul}
@@ -11,7 +11,7 @@ use Rattle.path_rows.specs.declared.form.CostBox.{CostBox}
 use Rattle.path_rows.specs.declared.tree.Member.{Member}
 use Rattle.path_rows.specs.declared.tree.Member.TheVariants.{Low, High, Row}
 use Rattle.path_rows.specs.declared.tree.WideAt.{WideAt}
-use Rattle.path_rows.specs.Forms.{value, value_at}
+use Rattle.path_rows.specs.Forms.{value, AreMet}
 use Rattle.path_rows.specs.Boxes.{IsPointOf}
 use Rattle.path_rows.specs.Basis.{HasEntries, IsFormOf, entry, low_member}
 use Rattle.path_rows.specs.Steps.{IsTooWide, ratio_of}
@@ -40,10 +40,6 @@ pub record FitsBox (costs : CostBox) (row : Form) : Type 0 where
 -- the basis at the start: x - low for each variable
 abbrev pub starting : CostBox → List Member
 starting costs = map (low_member costs) (numbers_from 0 (length costs.low))
-
--- the rows are at least 0 at the point
-abbrev pub MeetsRows : List Form → Point → Type 0
-MeetsRows rows point = All (λ row. pos 0 ≤ℤ value_at row point) rows
 
 -- a tableau that hasn't stopped
 abbrev pub IsGoing : Stage → Type 0
@@ -77,8 +73,8 @@ IsTold held OutOfMemory = Unit {0}
 
 -- some rational point of the box meets the rows, or none does
 abbrev pub IsSolved : CostBox → List Form → Solved → Type 0
-IsSolved costs rows Feasible = (point : Point) × (IsPointOf costs point × MeetsRows rows point)
-IsSolved costs rows (Refuted form) = (point : Point) → IsPointOf costs point → MeetsRows rows point → ⊥
+IsSolved costs rows Feasible = (point : Point) × (IsPointOf costs point × AreMet rows point)
+IsSolved costs rows (Refuted form) = (point : Point) → IsPointOf costs point → AreMet rows point → ⊥
 
 -- a refuted form's number is one of those of the box's forms: x - low and high - x for each variable, and the rows
 abbrev pub IsAmongForms : CostBox → List Form → Solved → Type 0
@@ -107,19 +103,29 @@ pub record Shift : Type 0 where
 
 abbrev pub low_shift : CostBox → CostBox → ℕ → Shift
 low_shift old new var =
-    record { costs = between old new var var; member = Low var (slice_index old.low var); fall = pos (slice_index new.low var) -ℤ pos (slice_index old.low var) }
+    record {
+      costs = between old new var var;
+      member = Low var (slice_index old.low var);
+      fall = pos (slice_index new.low var) -ℤ pos (slice_index old.low var);
+    }
 
 abbrev pub high_shift : CostBox → CostBox → ℕ → Shift
 high_shift old new var =
-    record { costs = between old new (suc var) var; member = High var (slice_index old.high var); fall = pos (slice_index old.high var) -ℤ pos (slice_index new.high var) }
+    record {
+      costs = between old new (suc var) var;
+      member = High var (slice_index old.high var);
+      fall = pos (slice_index old.high var) -ℤ pos (slice_index new.high var);
+    }
 
 -- The steps of a shift: its form's constant falls; or, where the form is in the basis, the others' constants rise.
 pub data IsShiftStep (rows : List Form) (basis : List Member) (shift : Shift) : StepName → Fraction → Fraction → Type 0 where
   constant : (es : List Fraction) → HasEntries shift.costs rows (moved shift.costs basis) shift.member es →
       IsShiftStep rows basis shift Sub (entry es 0) (whole shift.fall)
-  product : (j : ℕ) (f : Member) (fs : List Fraction) → slice_get (moved shift.costs basis) j ≡ Some shift.member → IsFormOf shift.costs rows f → HasEntries shift.costs rows (moved shift.costs basis) f fs →
+  product : (j : ℕ) (f : Member) (fs : List Fraction) → slice_get (moved shift.costs basis) j ≡ Some shift.member →
+      IsFormOf shift.costs rows f → HasEntries shift.costs rows (moved shift.costs basis) f fs →
       IsShiftStep rows basis shift Mul (entry fs (suc j)) (whole shift.fall)
-  sum : (j : ℕ) (f : Member) (fs : List Fraction) → slice_get (moved shift.costs basis) j ≡ Some shift.member → IsFormOf shift.costs rows f → HasEntries shift.costs rows (moved shift.costs basis) f fs →
+  sum : (j : ℕ) (f : Member) (fs : List Fraction) → slice_get (moved shift.costs basis) j ≡ Some shift.member →
+      IsFormOf shift.costs rows f → HasEntries shift.costs rows (moved shift.costs basis) f fs →
       IsShiftStep rows basis shift Add (entry fs 0) (times (entry fs (suc j)) (whole shift.fall))
 
 -- a step of the move to another box makes a whole number that passes the top
@@ -129,7 +135,8 @@ pub record IsWideMove (old : Held) (costs : CostBox) : Type 0 where
   pub step : StepName
   pub left : Fraction
   pub right : Fraction
-  pub is_step : IsShiftStep old.rows old.basis (low_shift old.costs costs var) step left right ⊎ IsShiftStep old.rows old.basis (high_shift old.costs costs var) step left right
+  pub is_step : IsShiftStep old.rows old.basis (low_shift old.costs costs var) step left right
+      ⊎ IsShiftStep old.rows old.basis (high_shift old.costs costs var) step left right
   pub passes : Any (λ n. old.top < n) (listed step left right)
 
 -- a tableau over another box with the same rows and this basis

@@ -3,6 +3,7 @@ use Rattle.std.specs.Prelude.{◌≡◌, ◌≢◌, ℕ, zero, suc, ◌+◌, ◌
 use Rattle.std.specs.List.{AllZip}
 use Rattle.cost_base.specs.Lists.{numbers_from}
 use Rattle.whole_numbers.specs.Fractions.{Fraction, StandsFor, whole}
+use Rattle.whole_numbers.specs.Lists.{number_at}
 use Rattle.path_rows.specs.declared.form.Form.{Form}
 use Rattle.path_rows.specs.declared.form.CostBox.{CostBox}
 use Rattle.path_rows.specs.declared.tree.Member.{Member}
@@ -17,9 +18,6 @@ use Rattle.fraction_table.specs.declared.stage.Stage.{Stage}
 use Rattle.fraction_table.specs.declared.stage.Stage.TheVariants.{Open, Ended, Stopped}
 use Rattle.fraction_table.specs.declared.stage.Solved.TheVariants.{Feasible, Refuted}
 use Rattle.fraction_table.specs.Tableaus.{FitsBox, Held, IsGoing}
-
-abbrev pub number_at : List ℤ → ℕ → ℤ
-number_at ts k = slice_index_or ts k (pos 0)
 
 -- the sum of the rows' numbers at a place, each times its coefficient
 abbrev pub from_lows : List ℤ → List (List ℤ) → ℕ → ℤ
@@ -59,7 +57,8 @@ high_member costs var = High var (slice_index costs.high var)
 -- the members of a box, in the order of its forms: x - low and then high - x for each variable, and the rows
 abbrev pub members_of : CostBox → ℕ → List Member
 members_of costs rows =
-    map (low_member costs) (numbers_from 0 (length costs.low)) ++ map (high_member costs) (numbers_from 0 (length costs.low)) ++ map (λ row. Row row) (numbers_from 0 rows)
+    map (low_member costs) (numbers_from 0 (length costs.low)) ++ map (high_member costs)
+    (numbers_from 0 (length costs.low)) ++ map (λ row. Row row) (numbers_from 0 rows)
 
 -- A line of the table: numbers of the table that stand for those of the member's form.
 pub record IsLine (top D : ℕ) (costs : CostBox) (rows : List Form) (lows : List (List ℤ)) (member : Member) (line : List Fraction) : Type 0 where
@@ -81,7 +80,8 @@ pub record IsUnboxed (top : ℕ) (costs : CostBox) (rows : List Form) (basis : L
   pub long : AllLong (suc (length costs.low)) lows
   pub mixtures : AreMixtures common (forms_of costs rows basis) (low_forms (length costs.low) 0 costs.low) lows
   pub own : (k : ℕ) → k < length costs.low → number_of common costs.low lows (slice_index_or (forms_of costs rows basis) k no_form) (suc k) ≡ pos common
-  pub elsewhere : (k place : ℕ) → k < length costs.low → place ≤ length costs.low → place ≢ suc k → number_of common costs.low lows (slice_index_or (forms_of costs rows basis) k no_form) place ≡ pos 0
+  pub elsewhere : (k place : ℕ) → k < length costs.low → place ≤ length costs.low → place ≢ suc k →
+      number_of common costs.low lows (slice_index_or (forms_of costs rows basis) k no_form) place ≡ pos 0
   pub lead : (k : ℕ) → k < length costs.low → LeadsPositive (map (λ ts. number_at ts (suc k)) lows)
   pub lines : AllZip (IsLine top common costs rows lows) (members_of costs (length rows)) table
 

@@ -19,7 +19,9 @@ use wide_fraction::{Frac, Top, Wide};
 /// A form, and a line of zeros that is to become its line.
 #[derive(Drop)]
 pub struct BlankRow {
+    /// The form of the row that is to be added.
     pub form: Form,
+    /// The line of zeros.
     pub line: TableRow,
 }
 

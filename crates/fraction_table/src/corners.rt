@@ -4,10 +4,11 @@ ghost use Rattle.cost_base.specs.declared.StepName.TheVariants.{Scale};
 ghost use Rattle.whole_numbers.specs.Fractions.{whole};
 ghost use Rattle.path_rows.specs.Earnest.{IsLeast};
 ghost use Rattle.path_rows.specs.Steps.{IsTooWide, lcm_of, two_to_27};
+ghost use Rattle.path_rows.specs.Forms.{AreMet};
 ghost use Rattle.fraction_table.specs.Corners.{corner_entry, denominators_of, raised_by};
 ghost use Rattle.fraction_rows.specs.Entries.{IsPassing};
 ghost use Rattle.fraction_table.specs.Pivots.{AreHigh};
-ghost use Rattle.fraction_table.specs.Tableaus.{MeetsRows, wide_at};
+ghost use Rattle.fraction_table.specs.Tableaus.{wide_at};
 ghost use Rattle.fraction_table.specs.Wholes.{IsWholeTable};
 
 use crate::table::Table;
@@ -108,7 +109,7 @@ impl Table {
         requires whole { IsWholeTable self.now }
         requires high { AreHigh self.now }
         requires places { length into.old.values ≡ length self.now.costs.low }
-        ensures least { OnOk result (IsLeast (MeetsRows self.now.rows.items) self.now.costs into.new) }
+        ensures least { OnOk result (IsLeast (AreMet self.now.rows.items) self.now.costs into.new) }
         ensures small { OnOk result (into.new.scale < 2 ^ 100) }
         ensures kept { OnErr result (into.new ≡ into.old) }
         ensures wide { IfErr result (λ wide. IsTooWide self.now.top self.now.costs self.now.rows.items (wide_at wide self.now.basis.items)) }

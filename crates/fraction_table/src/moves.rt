@@ -1,6 +1,7 @@
 //! The move of a table to another box, bound by bound.
 ghost use Rattle.std.specs.Prelude.{◌≡◌, ℕ, suc, ◌^◌, ◌<◌, length, map, nat_abs, slice_set, IfErr, IfSome, OnErr, OnOk};
-ghost use Rattle.fraction_table.specs.Moves.{HasShape, IsColumnOf, IsMoved, IsRaiseStep, IsShifted, IsShiftedWide, IsWideShift, KeepsRows, RaisesWide, ShiftsWide, high_shift_of, low_shift_of, put_at, raised_line, shifted_lines};
+ghost use Rattle.fraction_table.specs.Moves.{HasShape, IsColumnOf, IsMoved, IsRaiseStep, IsShifted, IsShiftedWide, IsWideShift, KeepsRows, RaisesWide};
+ghost use Rattle.fraction_table.specs.Moves.{ShiftsWide, high_shift_of, low_shift_of, put_at, raised_line, shifted_lines};
 ghost use Rattle.fraction_table.specs.Pivots.{KeepsForms};
 ghost use Rattle.fraction_rows.specs.TableRows.{AreNumbers, IsNumber, IsWideStep};
 ghost use Rattle.fraction_rows.specs.Entries.{IsPassing};

@@ -6,7 +6,8 @@ ghost use Rattle.wide_fraction.specs.Widths.{IsWithin};
 ghost use Rattle.path_rows.specs.Boxes.{Refutes};
 ghost use Rattle.path_rows.specs.Steps.{IsStuck, unless_zero};
 ghost use Rattle.fraction_rows.specs.Entries.{AllNumbers, IsPassing};
-ghost use Rattle.fraction_table.specs.Multipliers.{AreParts, IsMultiplierStep, IsTallyStep, IsToldOf, IsWideMultiplier, common_of, fractions, fractions_of, numbered, whole_parts, wholes};
+ghost use Rattle.fraction_table.specs.Multipliers.{AreParts, IsMultiplierStep, IsTallyStep, IsToldOf, IsWideMultiplier, common_of};
+ghost use Rattle.fraction_table.specs.Multipliers.{fractions, fractions_of, numbered, whole_parts, wholes};
 ghost use Rattle.fraction_table.specs.Pivots.{line_at, member_at};
 ghost use Rattle.fraction_table.specs.Wholes.{HasRoom, IsWholeTable};
 

@@ -140,7 +140,9 @@ fn push_high_rows(
     requires same { length high.now ≡ length low.now }
     requires few { length low.now < 2 ^ 32 }
     requires numbers { AreRows top (suc (length low.now)) rows.old.items }
-    ensures rows { OnOk result (rows.new.items ≡ rows.old.items ++ map (λ v. whole (pos (slice_index high.now v) -ℤ pos (slice_index low.now v)) ∷ map whole (unit (length low.now) v (negsuc 0))) (numbers_from 0 (length low.now))) }
+    ensures rows { OnOk result (rows.new.items ≡ rows.old.items ++
+        map (λ v. whole (pos (slice_index high.now v) -ℤ pos (slice_index low.now v)) ∷ map whole (unit (length low.now) v (negsuc 0)))
+        (numbers_from 0 (length low.now))) }
     ensures numbers { OnOk result (AreRows top (suc (length low.now)) rows.new.items) }
 {
     let width = low.len() as u32;
@@ -166,6 +168,10 @@ pub fn bound_rows(alloc: Global, costs: &CostBox, top: Top) -> Result<Vec<TableR
 }
 
 /// The table of a box without rows, at the basis of the forms x - low.
+///
+/// # Errors
+///
+/// `OutOfMemory`.
 pub fn starting_table(alloc: Global, costs: &CostBox, top: Top) -> Result<Table, OutOfMemory>
     requires ranges { IsBox (length costs.now.low) costs.now }
     requires few { length costs.now.low < 2 ^ 32 }

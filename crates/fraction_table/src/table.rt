@@ -15,12 +15,19 @@ use wide_fraction::{Top, Wide};
 /// no memory.
 #[derive(Drop)]
 pub struct Table {
+    /// The greatest size of a whole number of a step.
     pub top: Top,
+    /// The box.
     pub costs: CostBox,
+    /// The forms of the rows.
     pub rows: Vec<Form>,
+    /// The forms at 0, one for each column.
     pub basis: Vec<Member>,
+    /// For each form of the box and the rows, its entries over the basis.
     pub lines: Vec<TableRow>,
+    /// Room for a pivot: the pivot's row over the pivot.
     pub quotients: TableRow,
+    /// Room for a pivot: the row that is being turned.
     pub scratch: TableRow,
 }
 

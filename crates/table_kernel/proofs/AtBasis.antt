@@ -1,5 +1,5 @@
 -- A basis with the numbers of x - low over one denominator, apart from any lines; and a kernel that is made of them.
-use Rattle.std.proofs.Common.{◌≡◌, ◌≢◌, ℕ, zero, suc, ◌+◌, ◌*◌, ◌^◌, ◌<◌, ◌≤◌, refl, sym, ◌∙◌, ap, subst, List, [], ◌∷◌, map, length, arith}
+use Rattle.std.proofs.Common.{◌≡◌, ◌≢◌, ℕ, zero, suc, ◌*◌, ◌^◌, ◌<◌, ◌≤◌, refl, sym, ◌∙◌, ap, subst, List, [], ◌∷◌, map, length, arith}
 use native.Mathlib.Nat.{zero-mul}
 use Rattle.std.specs.Prelude.{ℤ, pos, negsuc, ◌+ℤ◌, ◌*ℤ◌, neg_ℤ, nat_abs, slice_index_or, All}
 use Rattle.std.specs.List.{AllZip}
@@ -9,6 +9,7 @@ use Rattle.cost_base.specs.Lists.{numbers_from}
 use Rattle.whole_numbers.specs.Fractions.{Fraction}
 use Rattle.whole_numbers.proofs.Ring.{var, num, ◌⊕◌, ◌⊗◌, ring}
 use Rattle.whole_numbers.proofs.FractionLaws.{cancel}
+use Rattle.whole_numbers.specs.Lists.{number_at}
 use Rattle.path_rows.specs.declared.form.Form.{Form}
 use Rattle.path_rows.specs.declared.form.CostBox.{CostBox}
 use Rattle.path_rows.specs.declared.tree.Member.{Member}
@@ -18,14 +19,15 @@ use Rattle.path_rows.specs.Boxes.{IsBox}
 use Rattle.path_rows.specs.Forms.{no_form, value}
 use Rattle.fraction_table.specs.Pivots.{member_at}
 use Rattle.fraction_table.specs.Tableaus.{FitsBox}
-use Rattle.fraction_table.specs.Wholes.{AllLong, AreMixtures, IsLine, IsUnboxed, from_lows, low_forms, members_of, number_at, number_of}
+use Rattle.fraction_table.specs.Wholes.{AllLong, AreMixtures, IsLine, IsUnboxed, from_lows, low_forms, members_of, number_of}
 use Rattle.fraction_table.proofs.theory.Zips.{zip_from}
+use Rattle.integer_pivots.proofs.Sizes.{number_within, size_most, size_positive}
 use Rattle.table_kernel.specs.declared.kernel.Kernel.{Kernel}
 use Rattle.table_kernel.specs.Kernels.{IsBounded, IsKernel, IsMoving, IsShaped, lines_of, lows_of, stated, width_of}
 use Rattle.table_kernel.specs.Numbers.{fraction_line}
 use Rattle.table_kernel.specs.Turns.{form_in}
-use Rattle.table_kernel.proofs.Columns.{column_number, number_within, place_number_within}
-use Rattle.table_kernel.proofs.OverCommon.{over_numbers, over_stand, pos_size, size_most, size_positive}
+use Rattle.table_kernel.proofs.Columns.{column_number, place_number_within}
+use Rattle.table_kernel.proofs.OverCommon.{over_numbers, over_stand, pos_size}
 
 -- what a table keeps at a basis, but for its lines
 pub record AreAtBasis (costs : CostBox) (rows : List Form) (basis : List Member) (D : ℕ) (lows : List (List ℤ)) : Type 0 where
@@ -37,10 +39,12 @@ pub record AreAtBasis (costs : CostBox) (rows : List Form) (basis : List Member)
   pub long : AllLong (suc (length costs.low)) lows
   pub mixtures : AreMixtures D (forms_of costs rows basis) (low_forms (length costs.low) 0 costs.low) lows
   pub own : (k : ℕ) → k < length costs.low → number_of D costs.low lows (slice_index_or (forms_of costs rows basis) k no_form) (suc k) ≡ pos D
-  pub elsewhere : (k place : ℕ) → k < length costs.low → place ≤ length costs.low → place ≢ suc k → number_of D costs.low lows (slice_index_or (forms_of costs rows basis) k no_form) place ≡ pos 0
+  pub elsewhere : (k place : ℕ) → k < length costs.low → place ≤ length costs.low → place ≢ suc k →
+      number_of D costs.low lows (slice_index_or (forms_of costs rows basis) k no_form) place ≡ pos 0
   pub lead : (k : ℕ) → k < length costs.low → LeadsPositive (map (λ ts. number_at ts (suc k)) lows)
 
-pub at_basis : (top : ℕ) (costs : CostBox) (rows : List Form) (basis : List Member) (table : List (List Fraction)) (u : IsUnboxed top costs rows basis table) → AreAtBasis costs rows basis u.common u.lows
+pub at_basis : (top : ℕ) (costs : CostBox) (rows : List Form) (basis : List Member) (table : List (List Fraction))
+    (u : IsUnboxed top costs rows basis table) → AreAtBasis costs rows basis u.common u.lows
 at_basis top costs rows basis table u = record {
   high_count = u.high_count;
   counts = u.counts;
@@ -55,7 +59,9 @@ at_basis top costs rows basis table u = record {
 }
 
 -- with lines it is a table's
-abbrev pub unboxed_of : (top D : ℕ) (costs : CostBox) (rows : List Form) (basis : List Member) (lows : List (List ℤ)) (table : List (List Fraction)) → AreAtBasis costs rows basis D lows → AllZip (IsLine top D costs rows lows) (members_of costs (length rows)) table → IsUnboxed top costs rows basis table
+abbrev pub unboxed_of : (top D : ℕ) (costs : CostBox) (rows : List Form) (basis : List Member) (lows : List (List ℤ))
+    (table : List (List Fraction)) → AreAtBasis costs rows basis D lows →
+    AllZip (IsLine top D costs rows lows) (members_of costs (length rows)) table → IsUnboxed top costs rows basis table
 unboxed_of top D costs rows basis lows table b lines = record {
   high_count = b.high_count;
   counts = b.counts;
@@ -94,7 +100,8 @@ lows_up g (c ∷ cs) (ts ∷ lows) place =
     ∙ ring (c ∷ number_at ts place ∷ pos g ∷ from_lows cs lows place ∷ []) (var 0 ⊗ (var 1 ⊗ var 2) ⊕ var 3 ⊗ var 2) ((var 0 ⊗ var 1 ⊕ var 3) ⊗ var 2) refl
 
 -- the numbers of any form are multiplied, too
-pub number_up : (D g : ℕ) (low : List ℕ) (lows : List (List ℤ)) (f : Form) (place : ℕ) → number_of (D * g) low (map (scaled_by g) lows) f place ≡ (number_of D low lows f place *ℤ pos g)
+pub number_up : (D g : ℕ) (low : List ℕ) (lows : List (List ℤ)) (f : Form) (place : ℕ) →
+    number_of (D * g) low (map (scaled_by g) lows) f place ≡ (number_of D low lows f place *ℤ pos g)
 number_up D g low lows f zero =
     ap (λ z. (pos (D * g) *ℤ value f low) +ℤ z) (lows_up g f.coefficients lows 0)
     ∙ ring (pos D ∷ pos g ∷ value f low ∷ from_lows f.coefficients lows 0 ∷ []) ((var 0 ⊗ var 1) ⊗ var 2 ⊕ var 3 ⊗ var 1) ((var 0 ⊗ var 2 ⊕ var 3) ⊗ var 1) refl
@@ -132,14 +139,18 @@ lead_less (suc g) (negsuc n) zs ms g_positive rest leads =
     not_negative (suc n * suc g) zs product leads
 lead_less zero z zs ms g_positive rest leads = absurd (omega arith)
 
-lead_down : (g place : ℕ) (lows : List (List ℤ)) → 0 < g → LeadsPositive (map (λ ts. number_at ts place) (map (scaled_by g) lows)) → LeadsPositive (map (λ ts. number_at ts place) lows)
+lead_down : (g place : ℕ) (lows : List (List ℤ)) → 0 < g →
+    LeadsPositive (map (λ ts. number_at ts place) (map (scaled_by g) lows)) →
+    LeadsPositive (map (λ ts. number_at ts place) lows)
 lead_down g place [] g_positive leads = leads
 lead_down g place (ts ∷ lows) g_positive leads =
-    lead_less g (number_at ts place) (map (λ us. number_at us place) (map (scaled_by g) lows)) (map (λ us. number_at us place) lows) g_positive (lead_down g place lows g_positive)
+    lead_less g (number_at ts place) (map (λ us. number_at us place) (map (scaled_by g) lows))
+    (map (λ us. number_at us place) lows) g_positive (lead_down g place lows g_positive)
     (subst (λ (z : ℤ). LeadsPositive (z ∷ map (λ us. number_at us place) (map (scaled_by g) lows))) (number_scaled g ts place) leads)
 
 -- numbers and denominator over a common factor
-pub scaled_down : (costs : CostBox) (rows : List Form) (basis : List Member) (D g : ℕ) (lows : List (List ℤ)) → 0 < D → 0 < g → AreAtBasis costs rows basis (D * g) (map (map (λ z. z *ℤ pos g)) lows) → AreAtBasis costs rows basis D lows
+pub scaled_down : (costs : CostBox) (rows : List Form) (basis : List Member) (D g : ℕ) (lows : List (List ℤ)) → 0 < D →
+    0 < g → AreAtBasis costs rows basis (D * g) (map (map (λ z. z *ℤ pos g)) lows) → AreAtBasis costs rows basis D lows
 scaled_down costs rows basis D g lows D_positive g_positive b = record {
   high_count = b.high_count;
   counts = b.counts;
@@ -149,7 +160,10 @@ scaled_down costs rows basis D g lows D_positive g_positive b = record {
   long = long_down (suc (length costs.low)) g lows b.long;
   mixtures = mixtures_down D g (forms_of costs rows basis) (low_forms (length costs.low) 0 costs.low) lows g_positive b.mixtures;
   own = λ k k_in. cancel g _ _ g_positive (sym (number_up D g costs.low lows (slice_index_or (forms_of costs rows basis) k no_form) (suc k)) ∙ b.own k k_in);
-  elsewhere = λ k place k_in place_in other. cancel g _ _ g_positive (sym (number_up D g costs.low lows (slice_index_or (forms_of costs rows basis) k no_form) place) ∙ b.elsewhere k place k_in place_in other ∙ none g);
+  elsewhere = λ k place k_in place_in other.
+      cancel g _ _ g_positive (sym
+      (number_up D g costs.low lows (slice_index_or (forms_of costs rows basis) k no_form) place)
+      ∙ b.elsewhere k place k_in place_in other ∙ none g);
   lead = λ k k_in. lead_down g (suc k) lows g_positive (b.lead k k_in);
 }
   where
@@ -167,7 +181,8 @@ stated_lines k s =
 
 -- the constants that a kernel holds are those of its forms
 abbrev pub ConstantsAre : Kernel → Type 0
-ConstantsAre k = (place : ℕ) → place < length k.constants.items → number_at k.constants.items place ≡ number_of (nat_abs k.common) k.table.costs.low (lows_of k) (form_in k place) 0
+ConstantsAre k = (place : ℕ) → place < length k.constants.items →
+    number_at k.constants.items place ≡ number_of (nat_abs k.common) k.table.costs.low (lows_of k) (form_in k place) 0
 
 -- the basis of a kernel, and a kernel of a basis
 pub moving_basis : (k : Kernel) → IsMoving k → AreAtBasis k.table.costs k.table.rows.items k.table.basis.items (nat_abs k.common) (lows_of k) × ConstantsAre k
@@ -194,7 +209,9 @@ pub kernel_basis : (k : Kernel) → IsKernel k → AreAtBasis k.table.costs k.ta
 kernel_basis k m = moving_basis k (kernel_moves k m)
 
 -- no number of a place's form is greater than the limit of constants
-number_small : (k : Kernel) (s : IsShaped k) (b : IsBounded k) (c : ConstantsAre k) (line : ℕ) → line < length k.constants.items → (place : ℕ) → nat_abs (number_of (nat_abs k.common) k.table.costs.low (lows_of k) (form_in k line) place) ≤ 2 ^ 39
+number_small : (k : Kernel) (s : IsShaped k) (b : IsBounded k) (c : ConstantsAre k) (line : ℕ) →
+    line < length k.constants.items → (place : ℕ) →
+    nat_abs (number_of (nat_abs k.common) k.table.costs.low (lows_of k) (form_in k line) place) ≤ 2 ^ 39
 number_small k s b c line line_in zero =
     subst (λ (z : ℤ). nat_abs z ≤ 2 ^ 39) (c line line_in) (number_within (2 ^ 39) k.constants.items line b.constants)
 number_small k s b c line line_in (suc column) =
@@ -202,7 +219,9 @@ number_small k s b c line line_in (suc column) =
     subst (λ (z : ℤ). nat_abs z ≤ 2 ^ 39) (sym (column_number k s (nat_abs k.common) k.table.costs.low (form_in k line) column)) (omega (arith, small))
 
 -- the line of a place
-pub line_is : (k : Kernel) → IsShaped k → IsBounded k → ConstantsAre k → (line : ℕ) → line < length k.constants.items → IsLine k.table.top (nat_abs k.common) k.table.costs k.table.rows.items (lows_of k) (member_at k.table line) (fraction_line (nat_abs k.common) k.table.costs k.table.rows.items (lows_of k) (member_at k.table line))
+pub line_is : (k : Kernel) → IsShaped k → IsBounded k → ConstantsAre k → (line : ℕ) → line < length k.constants.items →
+    IsLine k.table.top (nat_abs k.common) k.table.costs k.table.rows.items (lows_of k) (member_at k.table line)
+    (fraction_line (nat_abs k.common) k.table.costs k.table.rows.items (lows_of k) (member_at k.table line))
 line_is k s b c line line_in =
     let D = nat_abs k.common in
     let positive : 0 < D = size_positive k.common b.positive in
@@ -214,19 +233,25 @@ line_is k s b c line line_in =
       stand = over_stand D (map number (numbers_from 0 (suc (width_of k)))) positive;
     }
 
-lines_are : (k : Kernel) → IsShaped k → IsBounded k → ConstantsAre k → AllZip (IsLine k.table.top (nat_abs k.common) k.table.costs k.table.rows.items (lows_of k)) (members_of k.table.costs (length k.table.rows.items)) (lines_of k)
+lines_are : (k : Kernel) → IsShaped k → IsBounded k → ConstantsAre k →
+    AllZip (IsLine k.table.top (nat_abs k.common) k.table.costs k.table.rows.items (lows_of k))
+    (members_of k.table.costs (length k.table.rows.items)) (lines_of k)
 lines_are k s b c =
     let members = members_of k.table.costs (length k.table.rows.items) in
     let line_of = fraction_line (nat_abs k.common) k.table.costs k.table.rows.items (lows_of k) in
     zip_from (IsLine k.table.top (nat_abs k.common) k.table.costs k.table.rows.items (lows_of k)) members (lines_of k) (Low 0 0) []
     (sym (length-map members line_of))
-    (λ line line_in. subst (IsLine k.table.top (nat_abs k.common) k.table.costs k.table.rows.items (lows_of k) (member_at k.table line)) (sym (get_or-map line_of members line (Low 0 0) [] line_in))
+    (λ line line_in. subst (IsLine k.table.top (nat_abs k.common) k.table.costs k.table.rows.items (lows_of k)
+    (member_at k.table line)) (sym (get_or-map line_of members line (Low 0 0) [] line_in))
     (line_is k s b c line (subst (λ (n : ℕ). line < n) (sym s.constants) line_in)))
 
-pub basis_moving : (k : Kernel) → IsShaped k → IsBounded k → AreAtBasis k.table.costs k.table.rows.items k.table.basis.items (nat_abs k.common) (lows_of k) → ConstantsAre k → IsMoving k
+pub basis_moving : (k : Kernel) → IsShaped k → IsBounded k →
+    AreAtBasis k.table.costs k.table.rows.items k.table.basis.items (nat_abs k.common) (lows_of k) →
+    ConstantsAre k → IsMoving k
 basis_moving k s b a c =
     let D = nat_abs k.common in
-    let lines = subst (AllZip (IsLine k.table.top D k.table.costs k.table.rows.items (lows_of k)) (members_of k.table.costs (length k.table.rows.items))) (sym (stated_lines k s)) (lines_are k s b c) in
+    let lines = subst (AllZip (IsLine k.table.top D k.table.costs k.table.rows.items (lows_of k))
+    (members_of k.table.costs (length k.table.rows.items))) (sym (stated_lines k s)) (lines_are k s b c) in
     record {
       shaped = s;
       bounded = b;
@@ -234,5 +259,8 @@ basis_moving k s b a c =
       numbers = record { common = pos_size k.common (omega (arith, ints, b.positive)); lows = refl; constants = c };
     }
 
-pub basis_kernel : (k : Kernel) → IsShaped k → IsBounded k → IsBox (width_of k) k.table.costs → All (FitsBox k.table.costs) k.table.rows.items → AreAtBasis k.table.costs k.table.rows.items k.table.basis.items (nat_abs k.common) (lows_of k) → ConstantsAre k → IsKernel k
+pub basis_kernel : (k : Kernel) → IsShaped k → IsBounded k → IsBox (width_of k) k.table.costs →
+    All (FitsBox k.table.costs) k.table.rows.items →
+    AreAtBasis k.table.costs k.table.rows.items k.table.basis.items (nat_abs k.common) (lows_of k) →
+    ConstantsAre k → IsKernel k
 basis_kernel k s b box fit a c = moved_kernel k (basis_moving k s b a c) box fit

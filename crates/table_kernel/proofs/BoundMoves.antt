@@ -31,8 +31,11 @@ rest_moved : (k : Kernel) (m : IsMoving k) (column : Option ℕ) (fall : ℤ) �
 rest_moved k m None fall = ap (map rest) m.numbers.lows ∙ rest_lows k.constants.items k.lows.items (lows_few k m.shaped)
 rest_moved k m (Some j) fall = rest_raised j fall m.unboxed.lows ∙ ap (map rest) m.numbers.lows ∙ rest_lows k.constants.items k.lows.items (lows_few k m.shaped)
 
-low_move_of : (k : Kernel) (m : IsMoving k) (v bound : ℕ) (column : Option ℕ) → v < width_of k → IsColumnOf k.table.basis.items (Low v (slice_index k.table.costs.low v)) column → IsKernelMove k m (with_low k.table.costs v bound)
-    (lowered_rows v (pos m.unboxed.common *ℤ (pos bound -ℤ pos (slice_index k.table.costs.low v))) (raised_rows column (pos bound -ℤ pos (slice_index k.table.costs.low v)) m.unboxed.lows))
+low_move_of : (k : Kernel) (m : IsMoving k) (v bound : ℕ) (column : Option ℕ) → v < width_of k →
+    IsColumnOf k.table.basis.items (Low v (slice_index k.table.costs.low v)) column →
+    IsKernelMove k m (with_low k.table.costs v bound)
+    (lowered_rows v (pos m.unboxed.common *ℤ (pos bound -ℤ pos (slice_index k.table.costs.low v)))
+    (raised_rows column (pos bound -ℤ pos (slice_index k.table.costs.low v)) m.unboxed.lows))
     (Low v (slice_index k.table.costs.low v)) (Low v bound) (pos bound -ℤ pos (slice_index k.table.costs.low v)) column v
 low_move_of k m v bound column v_in found =
     let costs = k.table.costs in
@@ -45,13 +48,18 @@ low_move_of k m v bound column v_in found =
     record {
       falls = low_fall costs rows v bound u.high_count v_in;
       found = found;
-      numbers = low_moved u.common costs.low u.lows bs column fall v bound (column_inside basis before column (length bs) (sym (length-map basis (member_form (length costs.low) rows))) found) v_in (omega (arith, length-raised column fall u.lows, lows_many (stated k) u, v_in)) (numbered (stated k) u);
+      numbers = low_moved u.common costs.low u.lows bs column fall v bound
+          (column_inside basis before column (length bs) (sym (length-map basis (member_form (length costs.low) rows)))
+          found) v_in (omega (arith, length-raised column fall u.lows, lows_many (stated k) u, v_in))
+          (numbered (stated k) u);
       own_in = omega (arith, forms_many k m, v_in);
       own_is = members_begin costs (length rows) v (Low 0 0) v_in;
       rests = rest_lowered v (pos u.common *ℤ fall) (raised_rows column fall u.lows) ∙ rest_moved k m column fall;
     }
 
-high_move_of : (k : Kernel) (m : IsMoving k) (v bound : ℕ) (column : Option ℕ) → v < width_of k → IsColumnOf k.table.basis.items (High v (slice_index k.table.costs.high v)) column → IsKernelMove k m (with_high k.table.costs v bound)
+high_move_of : (k : Kernel) (m : IsMoving k) (v bound : ℕ) (column : Option ℕ) → v < width_of k →
+    IsColumnOf k.table.basis.items (High v (slice_index k.table.costs.high v)) column →
+    IsKernelMove k m (with_high k.table.costs v bound)
     (raised_rows column (pos (slice_index k.table.costs.high v) -ℤ pos bound) m.unboxed.lows)
     (High v (slice_index k.table.costs.high v)) (High v bound) (pos (slice_index k.table.costs.high v) -ℤ pos bound) column (width_of k + v)
 high_move_of k m v bound column v_in found =
@@ -65,7 +73,9 @@ high_move_of k m v bound column v_in found =
     record {
       falls = high_fall costs rows v bound u.high_count v_in;
       found = found;
-      numbers = high_moved u.common costs.low u.lows bs column fall (column_inside basis before column (length bs) (sym (length-map basis (member_form (length costs.low) rows))) found) (numbered (stated k) u);
+      numbers = high_moved u.common costs.low u.lows bs column fall
+          (column_inside basis before column (length bs) (sym (length-map basis (member_form (length costs.low) rows)))
+          found) (numbered (stated k) u);
       own_in = omega (arith, forms_many k m, v_in);
       own_is = high_place costs (length rows) v (Low 0 0) v_in;
       rests = rest_moved k m column fall;
@@ -73,40 +83,138 @@ high_move_of k m v bound column v_in found =
 
 -- a kernel with other lower bounds, and with other upper ones
 abbrev pub put_lows : Kernel → List ℕ → Kernel
-put_lows s now = record { table = record { top = s.table.top; costs = record { low = now; high = s.table.costs.high }; rows = s.table.rows; basis = s.table.basis; lines = s.table.lines; quotients = s.table.quotients; scratch = s.table.scratch }; common = s.common; reach = s.reach; weight = s.weight; lows = s.lows; leads = s.leads; constants = s.constants; uses = s.uses; left = s.left; line = s.line; along = s.along }
+put_lows s now = record {
+  table = record {
+    top = s.table.top;
+    costs = record { low = now; high = s.table.costs.high };
+    rows = s.table.rows;
+    basis = s.table.basis;
+    lines = s.table.lines;
+    quotients = s.table.quotients;
+    scratch =
+        s.table.scratch;
+  };
+  common = s.common;
+  reach = s.reach;
+  weight = s.weight;
+  lows = s.lows;
+  leads = s.leads;
+  constants = s.constants;
+  uses = s.uses;
+  left = s.left;
+  line = s.line;
+  along = s.along;
+}
 
 abbrev pub put_highs : Kernel → List ℕ → Kernel
-put_highs s now = record { table = record { top = s.table.top; costs = record { low = s.table.costs.low; high = now }; rows = s.table.rows; basis = s.table.basis; lines = s.table.lines; quotients = s.table.quotients; scratch = s.table.scratch }; common = s.common; reach = s.reach; weight = s.weight; lows = s.lows; leads = s.leads; constants = s.constants; uses = s.uses; left = s.left; line = s.line; along = s.along }
+put_highs s now = record {
+  table = record {
+    top = s.table.top;
+    costs = record { low = s.table.costs.low; high = now };
+    rows = s.table.rows;
+    basis = s.table.basis;
+    lines = s.table.lines;
+    quotients = s.table.quotients;
+    scratch =
+        s.table.scratch;
+  };
+  common = s.common;
+  reach = s.reach;
+  weight = s.weight;
+  lows = s.lows;
+  leads = s.leads;
+  constants = s.constants;
+  uses = s.uses;
+  left = s.left;
+  line = s.line;
+  along = s.along;
+}
 
 others_lows : (k s : Kernel) (now : List ℕ) → KeepsOthers k s → KeepsOthers k (put_lows s now)
-others_lows k s now o = record { top = o.top; rows = o.rows; lines = o.lines; quotients = o.quotients; scratch = o.scratch; common = o.common; reach = o.reach; weight = o.weight; lows = o.lows; leads = o.leads; uses = o.uses; line = o.line; along = o.along; left = o.left }
+others_lows k s now o = record {
+  top = o.top;
+  rows = o.rows;
+  lines = o.lines;
+  quotients = o.quotients;
+  scratch = o.scratch;
+  common = o.common;
+  reach = o.reach;
+  weight = o.weight;
+  lows = o.lows;
+  leads = o.leads;
+  uses =
+      o.uses;
+  line = o.line;
+  along = o.along;
+  left = o.left;
+}
 
 others_highs : (k s : Kernel) (now : List ℕ) → KeepsOthers k s → KeepsOthers k (put_highs s now)
-others_highs k s now o = record { top = o.top; rows = o.rows; lines = o.lines; quotients = o.quotients; scratch = o.scratch; common = o.common; reach = o.reach; weight = o.weight; lows = o.lows; leads = o.leads; uses = o.uses; line = o.line; along = o.along; left = o.left }
+others_highs k s now o = record {
+  top = o.top;
+  rows = o.rows;
+  lines = o.lines;
+  quotients = o.quotients;
+  scratch = o.scratch;
+  common = o.common;
+  reach = o.reach;
+  weight = o.weight;
+  lows = o.lows;
+  leads = o.leads;
+  uses =
+      o.uses;
+  line = o.line;
+  along = o.along;
+  left = o.left;
+}
 
-pub low_moves : (k s : Kernel) (m : IsMoving k) (v bound low : ℕ) (fall : ℤ) (now : List ℕ) → v < width_of k → KeepsOthers k s → s.table.costs ≡ k.table.costs → low ≡ slice_index k.table.costs.low v → fall ≡ (pos bound -ℤ pos low) → IsShifted k s v (Low v low) (Low v bound) fall → now ≡ slice_set s.table.costs.low v bound → MayMove k (nat_abs (pos bound -ℤ pos (slice_index k.table.costs.low v))) → IsMoving (put_lows s now) × IsMoved (stated k) (with_low k.table.costs v bound) (stated (put_lows s now))
+pub low_moves : (k s : Kernel) (m : IsMoving k) (v bound low : ℕ) (fall : ℤ) (now : List ℕ) → v < width_of k →
+    KeepsOthers k s → s.table.costs ≡ k.table.costs → low ≡ slice_index k.table.costs.low v →
+    fall ≡ (pos bound -ℤ pos low) → IsShifted k s v (Low v low) (Low v bound) fall →
+    now ≡ slice_set s.table.costs.low v bound →
+    MayMove k (nat_abs (pos bound -ℤ pos (slice_index k.table.costs.low v))) →
+    IsMoving (put_lows s now) × IsMoved (stated k) (with_low k.table.costs v bound) (stated (put_lows s now))
 low_moves k s m v bound low fall now v_in keeps costs_same low_is fall_is shifted now_is may =
     let fall_at : fall ≡ (pos bound -ℤ pos (slice_index k.table.costs.low v)) = fall_is ∙ ap (λ (l : ℕ). pos bound -ℤ pos l) low_is in
-    let sh = subst (λ (l : ℕ). IsShifted k s v (Low v l) (Low v bound) (pos bound -ℤ pos (slice_index k.table.costs.low v))) low_is (subst (λ z. IsShifted k s v (Low v low) (Low v bound) z) fall_at shifted) in
+    let sh = subst (λ (l : ℕ). IsShifted k s v (Low v l) (Low v bound)
+    (pos bound -ℤ pos (slice_index k.table.costs.low v))) low_is
+    (subst (λ z. IsShifted k s v (Low v low) (Low v bound) z) fall_at shifted) in
     let costs_are : record { low = now; high = s.table.costs.high } ≡ with_low k.table.costs v bound =
     ap (λ (bs : List ℕ). record { low = bs; high = s.table.costs.high }) now_is ∙ ap (λ (costs : CostBox). with_low costs v bound) costs_same in
-    moved_moving k (put_lows s now) m (with_low k.table.costs v bound) _ (Low v (slice_index k.table.costs.low v)) (Low v bound) (pos bound -ℤ pos (slice_index k.table.costs.low v)) sh.column v (low_move_of k m v bound sh.column v_in sh.found)
+    moved_moving k (put_lows s now) m (with_low k.table.costs v bound) _ (Low v (slice_index k.table.costs.low v))
+    (Low v bound) (pos bound -ℤ pos (slice_index k.table.costs.low v)) sh.column v
+    (low_move_of k m v bound sh.column v_in sh.found)
     (record { keeps = others_lows k s now keeps; costs = costs_are; basis = sh.basis; constants = sh.constants }) may
 
-pub high_moves : (k s : Kernel) (m : IsMoving k) (v bound high own : ℕ) (fall : ℤ) (now : List ℕ) → v < width_of k → own ≡ width_of k + v → KeepsOthers k s → s.table.costs ≡ k.table.costs → high ≡ slice_index k.table.costs.high v → fall ≡ (pos high -ℤ pos bound) → IsShifted k s own (High v high) (High v bound) fall → now ≡ slice_set s.table.costs.high v bound → MayMove k (nat_abs (pos (slice_index k.table.costs.high v) -ℤ pos bound)) → IsMoving (put_highs s now) × IsMoved (stated k) (with_high k.table.costs v bound) (stated (put_highs s now))
+pub high_moves : (k s : Kernel) (m : IsMoving k) (v bound high own : ℕ) (fall : ℤ) (now : List ℕ) → v < width_of k →
+    own ≡ width_of k + v → KeepsOthers k s → s.table.costs ≡ k.table.costs → high ≡ slice_index k.table.costs.high v →
+    fall ≡ (pos high -ℤ pos bound) → IsShifted k s own (High v high) (High v bound) fall →
+    now ≡ slice_set s.table.costs.high v bound →
+    MayMove k (nat_abs (pos (slice_index k.table.costs.high v) -ℤ pos bound)) → IsMoving (put_highs s now)
+    × IsMoved (stated k) (with_high k.table.costs v bound) (stated (put_highs s now))
 high_moves k s m v bound high own fall now v_in own_is keeps costs_same high_is fall_is shifted now_is may =
     let fall_at : fall ≡ (pos (slice_index k.table.costs.high v) -ℤ pos bound) = fall_is ∙ ap (λ (h : ℕ). pos h -ℤ pos bound) high_is in
-    let sh = subst (λ (place : ℕ). IsShifted k s place (High v (slice_index k.table.costs.high v)) (High v bound) (pos (slice_index k.table.costs.high v) -ℤ pos bound)) own_is (subst (λ (h : ℕ). IsShifted k s own (High v h) (High v bound) (pos (slice_index k.table.costs.high v) -ℤ pos bound)) high_is (subst (λ z. IsShifted k s own (High v high) (High v bound) z) fall_at shifted)) in
+    let sh = subst (λ (place : ℕ). IsShifted k s place (High v (slice_index k.table.costs.high v)) (High v bound)
+    (pos (slice_index k.table.costs.high v) -ℤ pos bound)) own_is
+    (subst (λ (h : ℕ). IsShifted k s own (High v h) (High v bound)
+    (pos (slice_index k.table.costs.high v) -ℤ pos bound)) high_is
+    (subst (λ z. IsShifted k s own (High v high) (High v bound) z) fall_at shifted)) in
     let costs_are : record { low = s.table.costs.low; high = now } ≡ with_high k.table.costs v bound =
     ap (λ (bs : List ℕ). record { low = s.table.costs.low; high = bs }) now_is ∙ ap (λ (costs : CostBox). with_high costs v bound) costs_same in
-    moved_moving k (put_highs s now) m (with_high k.table.costs v bound) _ (High v (slice_index k.table.costs.high v)) (High v bound) (pos (slice_index k.table.costs.high v) -ℤ pos bound) sh.column (width_of k + v) (high_move_of k m v bound sh.column v_in sh.found)
+    moved_moving k (put_highs s now) m (with_high k.table.costs v bound) _ (High v (slice_index k.table.costs.high v))
+    (High v bound) (pos (slice_index k.table.costs.high v) -ℤ pos bound) sh.column (width_of k + v)
+    (high_move_of k m v bound sh.column v_in sh.found)
     (record { keeps = others_highs k s now keeps; costs = costs_are; basis = sh.basis; constants = sh.constants }) may
 
 -- the room that is left
-pub shift_room : (k s : Kernel) (m : IsMoving k) (own : ℕ) (before after : Member) (fall : ℤ) (far more : ℕ) → own < length k.constants.items → KeepsOthers k s → IsShifted k s own before after fall → nat_abs fall ≡ far → MayMove k (far + more) → MayMove s more
+pub shift_room : (k s : Kernel) (m : IsMoving k) (own : ℕ) (before after : Member) (fall : ℤ) (far more : ℕ) →
+    own < length k.constants.items → KeepsOthers k s → IsShifted k s own before after fall → nat_abs fall ≡ far →
+    MayMove k (far + more) → MayMove s more
 shift_room k s m own before after fall far more own_in keeps shifted far_is may =
     let step_is : step_of s ≡ step_of k =
-    ap (λ (z : ℤ). nat_abs z * nat_abs s.weight + nat_abs s.common) keeps.reach ∙ ap (λ (z : ℤ). nat_abs k.reach * nat_abs z + nat_abs s.common) keeps.weight ∙ ap (λ (z : ℤ). nat_abs k.reach * nat_abs k.weight + nat_abs z) keeps.common in
+    ap (λ (z : ℤ). nat_abs z * nat_abs s.weight + nat_abs s.common) keeps.reach
+    ∙ ap (λ (z : ℤ). nat_abs k.reach * nat_abs z + nat_abs s.common) keeps.weight
+    ∙ ap (λ (z : ℤ). nat_abs k.reach * nat_abs k.weight + nat_abs z) keeps.common in
     room_left k s shifted.column own fall more m.shaped m.bounded own_in shifted.constants step_is (subst (λ (d : ℕ). MayMove k (d + more)) (sym far_is) may)
 
 -- a bound that falls falls by little

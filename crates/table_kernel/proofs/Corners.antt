@@ -11,12 +11,12 @@ use Rattle.whole_numbers.specs.Fractions.{Fraction, gcd}
 use Rattle.whole_numbers.proofs.Divisors.{gcd_is}
 use Rattle.whole_numbers.proofs.Ring.{var, ◌⊗◌, ring}
 use Rattle.area_graph.specs.declared.Point.{Point}
+use Rattle.whole_numbers.specs.Lists.{number_at}
 use Rattle.path_rows.specs.Basis.{entry, member_form}
 use Rattle.path_rows.specs.Earnest.{IsLeast}
+use Rattle.path_rows.specs.Forms.{AreMet}
 use Rattle.fraction_rows.proofs.RowLaws.{number_at as number_there}
 use Rattle.fraction_table.specs.Pivots.{AreHigh, line_at, line_numbers, member_at}
-use Rattle.fraction_table.specs.Tableaus.{MeetsRows}
-use Rattle.fraction_table.specs.Wholes.{number_at}
 use Rattle.fraction_table.proofs.CornerLeast.{corner_is_least}
 use Rattle.fraction_table.proofs.CornerPoints.{same_point}
 use Rattle.fraction_table.proofs.CornerScales.{corner_at, same_sum}
@@ -25,14 +25,15 @@ use Rattle.fraction_table.proofs.Solutions.{corner_long, corner_of, corner_point
 use Rattle.fraction_table.proofs.WholeTurns.{stand_at}
 use Rattle.fraction_table.proofs.theory.TurnedNumbers.{numbers_at, numbers_long}
 use Rattle.fraction_table.proofs.theory.Zips.{zip_from}
+use Rattle.integer_pivots.proofs.Sizes.{number_within, read_number}
 use Rattle.table_kernel.specs.declared.kernel.Kernel.{Kernel}
 use Rattle.table_kernel.specs.Kernels.{IsKernel, stated, width_of}
 use Rattle.table_kernel.specs.Numbers.{lows_by}
-use Rattle.table_kernel.proofs.Columns.{number_within}
-use Rattle.table_kernel.proofs.Sizes.{read_number}
 
 -- the size of a constant, as code reads it
-pub constant_read : (k : Kernel) → IsKernel k → (v size : ℕ) (z : ℤ) → v < width_of k → z ≡ slice_index_or k.constants.items v z → size ≡ nat_abs (to_z w64 (of_z w64 z)) → (size ≡ nat_abs (number_at k.constants.items v)) × (size ≤ 2 ^ 39)
+pub constant_read : (k : Kernel) → IsKernel k → (v size : ℕ) (z : ℤ) → v < width_of k →
+    z ≡ slice_index_or k.constants.items v z → size ≡ nat_abs (to_z w64 (of_z w64 z)) →
+    (size ≡ nat_abs (number_at k.constants.items v)) × (size ≤ 2 ^ 39)
 constant_read k m v size z v_in z_is size_is =
     let place_in : v < length k.constants.items = omega (arith, v_in, m.shaped.constants, members_long k.table.costs (length k.table.rows.items)) in
     let same : z ≡ number_at k.constants.items v = z_is ∙ get_or_default k.constants.items v z (pos 0) place_in in
@@ -41,7 +42,8 @@ constant_read k m v size z v_in z_is size_is =
     size_is ∙ ap (λ (y : ℤ). nat_abs (to_z w64 (of_z w64 y))) same ∙ ap nat_abs (read_number (number_at k.constants.items v) (omega (arith, small))) in
     (is, omega (arith, is, small))
 
-pub common_read : (k : Kernel) → IsKernel k → (size : ℕ) → size ≡ nat_abs (to_z w64 (of_z w64 k.common)) → (size ≡ nat_abs k.common) × (size ≤ 2 ^ 22) × (0 < size)
+pub common_read : (k : Kernel) → IsKernel k → (size : ℕ) → size ≡ nat_abs (to_z w64 (of_z w64 k.common)) →
+    (size ≡ nat_abs k.common) × (size ≤ 2 ^ 22) × (0 < size)
 common_read k m size size_is =
     let small : nat_abs k.common ≤ 2 ^ 22 = omega (arith, ints, m.bounded.positive, m.bounded.common) in
     let some : 0 < nat_abs k.common = omega (arith, ints, m.bounded.positive) in
@@ -62,7 +64,9 @@ divisor_first common constants divisor positive is =
       parts = λ v v_in. absurd (omega (arith, v_in));
     }
 
-pub divisor_more : (common : ℤ) (constants : List ℤ) (count size divisor new : ℕ) → size ≡ nat_abs (number_at constants count) → new ≡ gcd size divisor → (0 < divisor → 0 < new) → IsDivisor common constants count divisor → IsDivisor common constants (count + 1) new
+pub divisor_more : (common : ℤ) (constants : List ℤ) (count size divisor new : ℕ) →
+    size ≡ nat_abs (number_at constants count) → new ≡ gcd size divisor → (0 < divisor → 0 < new) →
+    IsDivisor common constants count divisor → IsDivisor common constants (count + 1) new
 divisor_more common constants count size divisor new size_is new_is stays d =
     let is = gcd_is size divisor in
     let here : new ∣ size = subst (λ (n : ℕ). n ∣ size) (sym new_is) is.0 in
@@ -72,7 +76,8 @@ divisor_more common constants count size divisor new size_is new_is stays d =
       whole = dvd_trans new before d.whole;
       parts = λ v v_in. elim (cases_lt v count) [
         | inl less ↦ dvd_trans new before (d.parts v less)
-        | inr more ↦ subst (λ (u : ℕ). new ∣ nat_abs (number_at constants u)) (let e : count ≡ v = omega (arith, more, v_in) in e) (subst (λ (n : ℕ). new ∣ n) size_is here)
+        | inr more ↦ subst (λ (u : ℕ). new ∣ nat_abs (number_at constants u)) (let e : count ≡ v =
+            omega (arith, more, v_in) in e) (subst (λ (n : ℕ). new ∣ n) size_is here)
       ];
     }
 
@@ -80,7 +85,9 @@ divisor_more common constants count size divisor new size_is new_is stays d =
 abbrev pub value_over : Kernel → ℕ → ℕ → ℕ → ℕ
 value_over k divisor scale v = slice_index k.table.costs.low v * scale + nat_abs (number_at k.constants.items v) / divisor
 
-pub values_more : (k : Kernel) (divisor scale v value : ℕ) (old new : List ℕ) → v < length old → ((j : ℕ) → j < v → slice_index old j ≡ value_over k divisor scale j) → value ≡ value_over k divisor scale v → new ≡ slice_set old v value → (j : ℕ) → j < v + 1 → slice_index new j ≡ value_over k divisor scale j
+pub values_more : (k : Kernel) (divisor scale v value : ℕ) (old new : List ℕ) → v < length old →
+    ((j : ℕ) → j < v → slice_index old j ≡ value_over k divisor scale j) → value ≡ value_over k divisor scale v →
+    new ≡ slice_set old v value → (j : ℕ) → j < v + 1 → slice_index new j ≡ value_over k divisor scale j
 values_more k divisor scale v value old new v_in before value_is new_is j j_in =
     ap (λ (xs : List ℕ). slice_index xs j) new_is
     ∙ elim (cases_eq j v) [
@@ -92,7 +99,8 @@ values_more k divisor scale v value old new v_in before value_is new_is j j_in =
     earlier other = elim (cases_lt j v) [ inl less ↦ less | inr more ↦ absurd (other (omega (arith, more, j_in))) ]
 
 -- the kernel's table stands at its corner where no constant is negative
-high_at : (k : Kernel) (m : IsKernel k) → All (λ z. pos 0 ≤ℤ z) k.constants.items → (line : ℕ) → line < length (stated k).lines.items → pos 0 ≤ℤ (entry (line_at (stated k) line) 0).numerator
+high_at : (k : Kernel) (m : IsKernel k) → All (λ z. pos 0 ≤ℤ z) k.constants.items → (line : ℕ) →
+    line < length (stated k).lines.items → pos 0 ≤ℤ (entry (line_at (stated k) line) 0).numerator
 high_at k m high line line_in =
     let t = stated k in
     let w = m.whole in
@@ -100,17 +108,27 @@ high_at k m high line line_in =
     let f = member_form n k.table.rows.items (member_at t line) in
     let l = whole_line t w line line_in in
     let here = number_there t.top (line_at t line) 0 l.numbers (omega (arith, line_long t w line line_in)) in
-    let stands = stand_at w.unboxed.common (line_at t line) (line_numbers t w line) 0 l.stand (omega (arith, numbers_long n w.unboxed.common t.costs.low w.unboxed.lows f)) in
-    let place_in : line < length k.constants.items = omega (arith, line_in, lines_long t w, m.shaped.constants, members_long k.table.costs (length k.table.rows.items)) in
+    let stands = stand_at w.unboxed.common (line_at t line) (line_numbers t w line) 0 l.stand
+    (omega (arith, numbers_long n w.unboxed.common t.costs.low w.unboxed.lows f)) in
+    let place_in : line < length k.constants.items =
+    omega (
+      arith,
+      line_in,
+      lines_long t w,
+      m.shaped.constants,
+      members_long k.table.costs (length k.table.rows.items),
+    ) in
     let is = m.numbers.constants line place_in ∙ sym (numbers_at n w.unboxed.common t.costs.low w.unboxed.lows f 0 (omega arith)) in
     let number : pos 0 ≤ℤ number_at (line_numbers t w line) 0 = subst (λ (z : ℤ). pos 0 ≤ℤ z) is (high line (pos 0) place_in) in
-    high_number (number_at (line_numbers t w line) 0) (entry (line_at t line) 0).numerator w.unboxed.common (entry (line_at t line) 0).denominator w.unboxed.positive here.lowest.positive (sym stands) number
+    high_number (number_at (line_numbers t w line) 0) (entry (line_at t line) 0).numerator w.unboxed.common
+    (entry (line_at t line) 0).denominator w.unboxed.positive here.lowest.positive (sym stands) number
 
 stated_high : (k : Kernel) (m : IsKernel k) → All (λ z. pos 0 ≤ℤ z) k.constants.items → AreHigh (stated k)
 stated_high k m high line d line_in =
     subst (λ (row : List Fraction). pos 0 ≤ℤ (entry row 0).numerator) (get_or_default (stated k).lines.items line [] d line_in) (high_at k m high line line_in)
 
-lows_first : (constants : List ℤ) (rows : List (List ℤ)) (v : ℕ) → v < length rows → v < length constants → number_at (slice_index_or (lows_by constants rows) v []) 0 ≡ number_at constants v
+lows_first : (constants : List ℤ) (rows : List (List ℤ)) (v : ℕ) → v < length rows → v < length constants →
+    number_at (slice_index_or (lows_by constants rows) v []) 0 ≡ number_at constants v
 lows_first constants [] v v_in z_in = absurd (omega (arith, v_in))
 lows_first [] (row ∷ rows) v v_in z_in = absurd (omega (arith, z_in))
 lows_first (z ∷ constants) (row ∷ rows) zero v_in z_in = refl
@@ -142,7 +160,11 @@ quotient_positive D divisor positive whole =
     ]
 
 -- the point that was put is the least
-pub corner_least : (k : Kernel) (m : IsKernel k) → All (λ z. pos 0 ≤ℤ z) k.constants.items → (divisor : ℕ) (p : Point) → IsDivisor k.common k.constants.items (width_of k) divisor → p.scale ≡ nat_abs k.common / divisor → length p.values ≡ width_of k → ((v : ℕ) → v < width_of k → slice_index p.values v ≡ value_over k divisor p.scale v) → IsLeast (MeetsRows k.table.rows.items) k.table.costs p
+pub corner_least : (k : Kernel) (m : IsKernel k) → All (λ z. pos 0 ≤ℤ z) k.constants.items → (divisor : ℕ) (p : Point) →
+    IsDivisor k.common k.constants.items (width_of k) divisor → p.scale ≡ nat_abs k.common / divisor →
+    length p.values ≡ width_of k →
+    ((v : ℕ) → v < width_of k → slice_index p.values v ≡ value_over k divisor p.scale v) →
+    IsLeast (AreMet k.table.rows.items) k.table.costs p
 corner_least k m high divisor p d scale_is counted values =
     let t = stated k in
     let w = m.whole in
@@ -154,7 +176,9 @@ corner_least k m high divisor p d scale_is counted values =
     (zip_from (λ y z. y * q.scale ≡ z * p.scale) p.values q.values 0 0 (counted ∙ sym long) (λ v v_in. here v (omega (arith, v_in, counted))))
     (corner_is_least t w (stated_high k m high))
   where
-    here : (v : ℕ) → v < width_of k → slice_index p.values v * m.whole.unboxed.common ≡ slice_index (corner_of m.whole.unboxed.common k.table.costs.low m.whole.unboxed.lows) v * p.scale
+    here : (v : ℕ) → v < width_of k →
+        slice_index p.values v * m.whole.unboxed.common
+        ≡ slice_index (corner_of m.whole.unboxed.common k.table.costs.low m.whole.unboxed.lows) v * p.scale
     here v v_in =
         let D = nat_abs k.common in
         let low = slice_index k.table.costs.low v in
@@ -162,7 +186,8 @@ corner_least k m high divisor p d scale_is counted values =
         let common : m.whole.unboxed.common ≡ D = ap nat_abs m.numbers.common in
         let place_in : v < length k.constants.items = omega (arith, v_in, m.shaped.constants, members_long k.table.costs (length k.table.rows.items)) in
         let number : number_at (slice_index_or m.whole.unboxed.lows v []) 0 ≡ z =
-        ap (λ (rows : List (List ℤ)). number_at (slice_index_or rows v []) 0) m.numbers.lows ∙ lows_first k.constants.items k.lows.items v (omega (arith, v_in, m.shaped.lows)) place_in in
+        ap (λ (rows : List (List ℤ)). number_at (slice_index_or rows v []) 0) m.numbers.lows
+        ∙ lows_first k.constants.items k.lows.items v (omega (arith, v_in, m.shaped.lows)) place_in in
         let there : slice_index (corner_of m.whole.unboxed.common k.table.costs.low m.whole.unboxed.lows) v ≡ low * D + nat_abs z =
         corner_at m.whole.unboxed.common k.table.costs.low m.whole.unboxed.lows v v_in (counted_lows (stated k) m.whole)
         ∙ ap (λ (x : ℕ). low * x + nat_abs (number_at (slice_index_or m.whole.unboxed.lows v []) 0)) common

@@ -4,15 +4,16 @@ use Rattle.std.specs.Prelude.{ℤ, pos, ◌<ℤ◌, nat_abs, slice_set}
 use Rattle.std.proofs.lemmas.List.{get_or-map, length-map}
 use Rattle.cost_base.specs.Lists.{numbers_from}
 use Rattle.whole_numbers.specs.Fractions.{Fraction}
+use Rattle.whole_numbers.specs.Lists.{number_at}
 use Rattle.path_rows.specs.Basis.{entry}
 use Rattle.fraction_rows.specs.TableRows.{AreNumbers, nothing}
-use Rattle.fraction_rows.proofs.Filled.{length-mapped}
-use Rattle.fraction_table.specs.Wholes.{number_at}
-use Rattle.fraction_table.proofs.Between.{all_written, length-written, unwritten, written_next}
+use Rattle.fraction_rows.proofs.FilledRows.{length-mapped}
+use Rattle.fraction_table.proofs.BetweenBoxes.{all_written, length-written, unwritten, written_next}
 use Rattle.fraction_table.proofs.StartLines.{blank_at, cleared_is, constant_set}
-use Rattle.table_kernel.specs.Numbers.{AllWithin, over}
-use Rattle.table_kernel.proofs.OverCommon.{over_all, over_number, size_positive}
-use Rattle.table_kernel.proofs.Sizes.{wider}
+use Rattle.integer_pivots.specs.Numbers.{AllWithin}
+use Rattle.integer_pivots.proofs.Sizes.{size_positive, wider}
+use Rattle.table_kernel.specs.Numbers.{over}
+use Rattle.table_kernel.proofs.OverCommon.{over_all, over_number}
 
 abbrev pub blank : ℕ → List Fraction
 blank n = nothing ∷ map (λ column. nothing) (numbers_from 0 n)
@@ -24,12 +25,16 @@ filled_to D z zs count = take (suc count) (map (over D) (z ∷ zs)) ++ drop (suc
 same_length : (D : ℕ) (z : ℤ) (zs : List ℤ) → length (blank (length zs)) ≡ length (map (over D) (z ∷ zs))
 same_length D z zs = ap suc (length-mapped (λ column. nothing) 0 (length zs)) ∙ sym (length-map (z ∷ zs) (over D))
 
-pub fill_first : (D : ℕ) (z : ℤ) (zs : List ℤ) (old line new : List Fraction) (q : Fraction) → length old ≡ suc (length zs) → line ≡ nothing ∷ map (λ column. nothing) (numbers_from 0 (length old - 1)) → new ≡ slice_set line 0 q → q ≡ over D z → new ≡ filled_to D z zs 0
+pub fill_first : (D : ℕ) (z : ℤ) (zs : List ℤ) (old line new : List Fraction) (q : Fraction) →
+    length old ≡ suc (length zs) → line ≡ nothing ∷ map (λ column. nothing) (numbers_from 0 (length old - 1)) →
+    new ≡ slice_set line 0 q → q ≡ over D z → new ≡ filled_to D z zs 0
 fill_first D z zs old line new q long line_is new_is q_is =
     constant_set line new (length zs) q (cleared_is old line (length zs) long line_is) new_is
     ∙ ap (λ (p : Fraction). p ∷ map (λ column. nothing) (numbers_from 0 (length zs))) q_is
 
-pub fill_next : (D : ℕ) (z : ℤ) (zs : List ℤ) (column : ℕ) (line new : List Fraction) (q : Fraction) → column < length zs → q ≡ over D (number_at zs column) → line ≡ filled_to D z zs column → new ≡ slice_set line (suc column) q → new ≡ filled_to D z zs (column + 1)
+pub fill_next : (D : ℕ) (z : ℤ) (zs : List ℤ) (column : ℕ) (line new : List Fraction) (q : Fraction) →
+    column < length zs → q ≡ over D (number_at zs column) → line ≡ filled_to D z zs column →
+    new ≡ slice_set line (suc column) q → new ≡ filled_to D z zs (column + 1)
 fill_next D z zs column line new q column_in q_is line_is new_is =
     let xs = blank (length zs) in
     let ys = map (over D) (z ∷ zs) in
@@ -42,7 +47,8 @@ fill_next D z zs column line new q column_in q_is line_is new_is =
     ∙ ap (λ k. take k ys ++ drop k xs) next
 
 -- behind them there are zeros
-pub fill_behind : (D : ℕ) (z : ℤ) (zs : List ℤ) (column : ℕ) (line : List Fraction) → line ≡ filled_to D z zs column → (later : ℕ) → column ≤ later → entry line (suc later) ≡ nothing
+pub fill_behind : (D : ℕ) (z : ℤ) (zs : List ℤ) (column : ℕ) (line : List Fraction) → line ≡ filled_to D z zs column →
+    (later : ℕ) → column ≤ later → entry line (suc later) ≡ nothing
 fill_behind D z zs column line line_is later from =
     ap (λ (l : List Fraction). entry l (suc later)) line_is
     ∙ unwritten (blank (length zs)) (map (over D) (z ∷ zs)) (suc column) (suc later) nothing (omega (arith, from)) (same_length D z zs)
@@ -54,19 +60,23 @@ fill_long D z zs column line line_is =
     ∙ length-written (blank (length zs)) (map (over D) (z ∷ zs)) (suc column) (same_length D z zs)
     ∙ ap suc (length-mapped (λ column. nothing) 0 (length zs))
 
-pub fill_done : (D : ℕ) (z : ℤ) (zs : List ℤ) (column : ℕ) (line : List Fraction) → column ≡ length zs → line ≡ filled_to D z zs column → line ≡ map (over D) (z ∷ zs)
+pub fill_done : (D : ℕ) (z : ℤ) (zs : List ℤ) (column : ℕ) (line : List Fraction) → column ≡ length zs →
+    line ≡ filled_to D z zs column → line ≡ map (over D) (z ∷ zs)
 fill_done D z zs column line all line_is =
     let xs = blank (length zs) in
     let ys = map (over D) (z ∷ zs) in
     line_is
-    ∙ all_written xs ys (suc column) (ap suc (length-mapped (λ column. nothing) 0 (length zs)) ∙ ap suc (sym all)) (length-map (z ∷ zs) (over D) ∙ ap suc (sym all))
+    ∙ all_written xs ys (suc column) (ap suc (length-mapped (λ column. nothing) 0 (length zs)) ∙ ap suc (sym all))
+    (length-map (z ∷ zs) (over D) ∙ ap suc (sym all))
 
 pub filled_as : (D E : ℕ) (y z : ℤ) (zs : List ℤ) → D ≡ E → y ≡ z → map (over D) (y ∷ zs) ≡ map (over E) (z ∷ zs)
 filled_as D E y z zs D_is y_is =
     ap (λ (n : ℕ). map (over n) (y ∷ zs)) D_is ∙ ap (λ (x : ℤ). map (over E) (x ∷ zs)) y_is
 
 -- its fractions are numbers of the table
-pub filled_numbers : (top : ℕ) (common z : ℤ) (zs : List ℤ) (line : List Fraction) → 2 ^ 39 ≤ top → pos 0 <ℤ common → nat_abs common ≤ 2 ^ 22 → nat_abs z ≤ 2 ^ 39 → AllWithin (2 ^ 22) zs → line ≡ map (over (nat_abs common)) (z ∷ zs) → AreNumbers top line
+pub filled_numbers : (top : ℕ) (common z : ℤ) (zs : List ℤ) (line : List Fraction) → 2 ^ 39 ≤ top → pos 0 <ℤ common →
+    nat_abs common ≤ 2 ^ 22 → nat_abs z ≤ 2 ^ 39 → AllWithin (2 ^ 22) zs → line ≡ map (over (nat_abs common)) (z ∷ zs) →
+    AreNumbers top line
 filled_numbers top common z zs line wide high small constant numbers line_is =
     let positive = size_positive common high in
     let within : nat_abs common ≤ top = omega (arith, wide, small) in

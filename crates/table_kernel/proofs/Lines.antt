@@ -1,38 +1,33 @@
 -- The numbers of a form at all columns, and of all forms at a column, place by place.
-use Rattle.std.proofs.Common.{◌≡◌, ℕ, ◌+◌, ◌-◌, ◌*◌, ◌^◌, ◌<◌, ◌≤◌, refl, sym, subst, ◌∙◌, ap, List, [], ◌∷◌, ◌++◌, map, length, get_or, take, drop, arith, inl, inr, FitsSigned, w64}
+use Rattle.std.proofs.Common.{◌≡◌, ℕ, ◌+◌, ◌-◌, ◌*◌, ◌^◌, ◌<◌, ◌≤◌, refl, sym, subst, ◌∙◌, ap, List, [], ◌∷◌, map, length, get_or, arith, inl, inr, FitsSigned, w64}
 use Rattle.std.specs.Prelude.{◌⊎◌, ℤ, pos, negsuc, ◌-ℤ◌, ◌*ℤ◌, ◌≤ℤ◌, neg_ℤ, nat_abs, All, slice_index, slice_index_or}
 use Rattle.std.proofs.Math.Nat.{mul-le-mul_left}
 use Rattle.std.proofs.lemmas.Bool.{cases_lt}
 use Rattle.std.proofs.lemmas.Int.{fits_signed_from_abs, ints}
-use Rattle.std.proofs.lemmas.List.{drop_all, append-nil, ext_get_or, get_or-map, length-map, take_all}
+use Rattle.std.proofs.lemmas.List.{ext_get_or, get_or-map, length-map}
 use Rattle.std.proofs.lemmas.List.Elements.{All-map, All-weaker}
 use Rattle.cost_base.specs.Lists.{numbers_from}
 use Rattle.cost_base.proofs.ListLemmas.{get_or-map-numbers_from, length-map-numbers_from}
 use Rattle.whole_numbers.proofs.Ring.{var, num, neg, ◌⊖◌, ◌⊗◌, ring}
+use Rattle.whole_numbers.specs.Lists.{number_at}
 use Rattle.path_rows.specs.declared.form.Form.{Form}
 use Rattle.path_rows.specs.declared.tree.Member.{Member}
 use Rattle.path_rows.specs.declared.tree.Member.TheVariants.{Low, High, Row}
 use Rattle.path_rows.specs.Forms.{no_form}
 use Rattle.path_rows.specs.Basis.{member_form}
 use Rattle.fraction_table.specs.Pivots.{member_at}
-use Rattle.fraction_table.specs.Wholes.{members_of, number_at}
+use Rattle.fraction_table.specs.Wholes.{members_of}
 use Rattle.fraction_table.proofs.Bases.{members_begin}
 use Rattle.fraction_table.proofs.Pivots.{high_place, members_long, row_place}
-use Rattle.fraction_table.proofs.Starts.{members_are}
+use Rattle.fraction_table.proofs.StartingTables.{members_are}
+use Rattle.integer_pivots.specs.Numbers.{AllWithin, weight_of}
+use Rattle.integer_pivots.proofs.Sizes.{number_within, read, read_number, wider}
 use Rattle.table_kernel.specs.declared.kernel.Kernel.{Kernel}
 use Rattle.table_kernel.specs.Kernels.{IsBounded, IsShaped, width_of}
-use Rattle.table_kernel.specs.Numbers.{AllWithin, number_in, weight_of}
+use Rattle.table_kernel.specs.Numbers.{number_in}
 use Rattle.table_kernel.specs.Turns.{along_numbers, column_of, form_in, line_numbers}
-use Rattle.table_kernel.proofs.Columns.{column_at, column_long, form_number_within, high_number_in, low_number_in, number_within, place_number_within, reach_within}
-use Rattle.table_kernel.proofs.LineSums.{read, sums_agree}
-use Rattle.table_kernel.proofs.Sizes.{read_number, wider}
-
--- what a slice of a whole vector ends as
-pub written : {X : Type 0} (n : ℕ) (news olds : List X) → length news ≡ length olds → n ≡ length olds → take n (news ++ drop (length news) olds) ≡ news
-written n news olds long counted =
-    ap (λ ys. take n (news ++ ys)) (drop_all (length news) olds (omega (arith, long)))
-    ∙ ap (take n) (append-nil news)
-    ∙ take_all n news (omega (arith, long, counted))
+use Rattle.table_kernel.proofs.Columns.{column_at, column_long, form_number_within, high_number_in, low_number_in, place_number_within, reach_within}
+use Rattle.table_kernel.proofs.LineSums.{sums_agree}
 
 -- what bounds a kernel bounds each number by the limit
 small_weight : (reach weight : ℤ) → pos 1 ≤ℤ reach → nat_abs weight * nat_abs reach ≤ 2 ^ 22 → nat_abs weight ≤ 2 ^ 22
@@ -49,7 +44,9 @@ rows_light k b =
     (λ f light. omega (arith, light, small_weight k.reach k.weight b.reach b.product)) k.table.rows.items b.rows
 
 -- a variable's number at a column, as code reads it
-pub bound_entry : (k : Kernel) → IsShaped k → IsBounded k → (v column : ℕ) (row d : List ℤ) → v < width_of k → row ≡ get_or k.lows.items v d → (number_at row column ≡ number_at (column_of k column) v) × (nat_abs (number_at row column) ≤ 2 ^ 22)
+pub bound_entry : (k : Kernel) → IsShaped k → IsBounded k → (v column : ℕ) (row d : List ℤ) → v < width_of k →
+    row ≡ get_or k.lows.items v d → (number_at row column ≡ number_at (column_of k column) v)
+    × (nat_abs (number_at row column) ≤ 2 ^ 22)
 bound_entry k s b v column row d v_in is =
     let within : AllWithin (2 ^ 22) row = subst (AllWithin (2 ^ 22)) (sym is) (lows_small k b v d (omega (arith, s.lows, v_in))) in
     (ap (λ (r : List ℤ). number_at r column) is ∙ sym (column_at k s column v d v_in), number_within (2 ^ 22) row column within)
@@ -63,7 +60,9 @@ negated z small =
     (fits_signed_from_abs w64 (pos 0 -ℤ read z) fits, read_number (pos 0 -ℤ read z) fits ∙ opposite)
 
 -- a line is told by its columns
-pub line_is : (k : Kernel) (place : ℕ) (new : List ℤ) → length new ≡ width_of k → ((column : ℕ) → column < width_of k → number_at new column ≡ number_in (form_in k place) (column_of k column)) → new ≡ line_numbers k place
+pub line_is : (k : Kernel) (place : ℕ) (new : List ℤ) → length new ≡ width_of k →
+    ((column : ℕ) → column < width_of k → number_at new column ≡ number_in (form_in k place) (column_of k column)) →
+    new ≡ line_numbers k place
 line_is k place new long each =
     let number = λ (column : ℕ). number_in (form_in k place) (column_of k column) in
     ext_get_or (pos 0) new (line_numbers k place) (omega (arith, long, length-map-numbers_from number 0 (width_of k)))
@@ -105,7 +104,10 @@ module _ (k : Kernel) (s : IsShaped k) (place v bound : ℕ) (row d new : List �
       ∙ sym (high_number_in (width_of k) k.table.rows.items v bound (column_of k column) v_in (sym (column_long k s column)))
       ∙ ap (λ (m : Member). number_in (member_form (width_of k) k.table.rows.items m) (column_of k column)) member)
 
-pub row_line : (k : Kernel) (place row : ℕ) (f : Form) (new : List ℤ) → Row row ≡ member_at k.table place → f ≡ slice_index_or k.table.rows.items row no_form → length new ≡ width_of k → ((column : ℕ) → column < width_of k → number_at new column ≡ number_in f (column_of k column)) → new ≡ line_numbers k place
+pub row_line : (k : Kernel) (place row : ℕ) (f : Form) (new : List ℤ) → Row row ≡ member_at k.table place →
+    f ≡ slice_index_or k.table.rows.items row no_form → length new ≡ width_of k →
+    ((column : ℕ) → column < width_of k → number_at new column ≡ number_in f (column_of k column)) →
+    new ≡ line_numbers k place
 row_line k place row f new member is long each =
     line_is k place new long
     (λ column column_in.
@@ -125,7 +127,12 @@ place_cases n r i i_in =
     ]
 
 -- the numbers of all forms are told by the places of the box and of the rows
-pub along_is : (k : Kernel) → IsShaped k → (column : ℕ) (new : List ℤ) → length new ≡ length k.constants.items → ((v : ℕ) → v < width_of k → number_at new v ≡ number_at (column_of k column) v) → ((v : ℕ) → v < width_of k → number_at new (width_of k + v) ≡ neg_ℤ (number_at (column_of k column) v)) → ((row : ℕ) → row < length k.table.rows.items → number_at new (width_of k + width_of k + row) ≡ number_in (slice_index_or k.table.rows.items row no_form) (column_of k column)) → new ≡ along_numbers k column
+pub along_is : (k : Kernel) → IsShaped k → (column : ℕ) (new : List ℤ) → length new ≡ length k.constants.items →
+    ((v : ℕ) → v < width_of k → number_at new v ≡ number_at (column_of k column) v) →
+    ((v : ℕ) → v < width_of k → number_at new (width_of k + v) ≡ neg_ℤ (number_at (column_of k column) v)) →
+    ((row : ℕ) → row < length k.table.rows.items →
+    number_at new (width_of k + width_of k + row) ≡ number_in (slice_index_or k.table.rows.items row no_form)
+    (column_of k column)) → new ≡ along_numbers k column
 along_is k s column new long lows highs rows =
     let n = width_of k in
     let many = length k.table.rows.items in
@@ -139,7 +146,9 @@ along_is k s column new long lows highs rows =
     let read : number_at (along_numbers k column) i ≡ number (slice_index_or members i (Low 0 0)) = get_or-map number members i (Low 0 0) (pos 0) inside in
     elim (place_cases n many i (omega (arith, inside, members_long k.table.costs many))) [
       | inl low ↦
-          lows i low ∙ sym (low_number_in n k.table.rows.items i (slice_index k.table.costs.low i) here low (sym (column_long k s column))) ∙ sym (read ∙ ap number (members_begin k.table.costs many i (Low 0 0) low))
+          lows i low ∙ sym (low_number_in n k.table.rows.items i (slice_index k.table.costs.low i) here low
+          (sym (column_long k s column)))
+          ∙ sym (read ∙ ap number (members_begin k.table.costs many i (Low 0 0) low))
       | inr (inl high) ↦
           ap (number_at new) (sym high.2)
           ∙ highs high.0 high.1
@@ -162,7 +171,11 @@ along_small k s b column =
     (λ i d i_in. form_number_within k s b (get_or members i d) (members_are k.table.costs k.table.rows.items i d i_in) column)
 
 -- what stands in front of the rows is small where the numbers of x - low are
-pub bounds_small : (lows : List (List ℤ)) (along : List ℤ) (column : ℕ) → All (AllWithin (2 ^ 22)) lows → ((v : ℕ) → v < length lows → number_at along v ≡ number_at (slice_index_or lows v []) column) → ((v : ℕ) → v < length lows → number_at along (length lows + v) ≡ neg_ℤ (number_at (slice_index_or lows v []) column)) → (v : ℕ) → v < length lows + length lows → nat_abs (number_at along v) ≤ 2 ^ 22
+pub bounds_small : (lows : List (List ℤ)) (along : List ℤ) (column : ℕ) → All (AllWithin (2 ^ 22)) lows →
+    ((v : ℕ) → v < length lows → number_at along v ≡ number_at (slice_index_or lows v []) column) →
+    ((v : ℕ) → v < length lows →
+    number_at along (length lows + v) ≡ neg_ℤ (number_at (slice_index_or lows v []) column)) → (v : ℕ) →
+    v < length lows + length lows → nat_abs (number_at along v) ≤ 2 ^ 22
 bounds_small lows along column small low high v v_in =
     elim (cases_lt v (length lows)) [
       | inl before ↦ subst (λ (z : ℤ). nat_abs z ≤ 2 ^ 22) (sym (low v before)) (number_within (2 ^ 22) (slice_index_or lows v []) column (small v [] before))
@@ -170,20 +183,32 @@ bounds_small lows along column small low high v v_in =
           let w = v - length lows in
           let w_in : w < length lows = omega (arith, past, v_in) in
           let there : length lows + w ≡ v = omega (arith, past) in
-          let size : nat_abs (neg_ℤ (number_at (slice_index_or lows w []) column)) ≤ 2 ^ 22 = omega (arith, ints, number_within (2 ^ 22) (slice_index_or lows w []) column (small w [] w_in)) in
+          let size : nat_abs (neg_ℤ (number_at (slice_index_or lows w []) column)) ≤ 2 ^ 22 =
+          omega (arith, ints, number_within (2 ^ 22) (slice_index_or lows w []) column (small w [] w_in)) in
           subst (λ (z : ℤ). nat_abs z ≤ 2 ^ 22) (sym (ap (number_at along) (sym there) ∙ high w w_in)) size
     ]
 
 -- a row's number by what stands first is that by the column
-pub by_column : (lows : List (List ℤ)) (along : List ℤ) (column : ℕ) (f : Form) → length f.coefficients ≤ length lows → length lows ≤ length along → ((v : ℕ) → v < length lows → number_at along v ≡ number_at (slice_index_or lows v []) column) → number_in f along ≡ number_in f (map (λ row. number_at row column) lows)
+pub by_column : (lows : List (List ℤ)) (along : List ℤ) (column : ℕ) (f : Form) → length f.coefficients ≤ length lows →
+    length lows ≤ length along →
+    ((v : ℕ) → v < length lows → number_at along v ≡ number_at (slice_index_or lows v []) column) →
+    number_in f along ≡ number_in f (map (λ row. number_at row column) lows)
 by_column lows along column f few room low =
-    sums_agree f.coefficients along (map (λ row. number_at row column) lows) (omega (arith, few, room)) (omega (arith, few, length-map lows (λ (row : List ℤ). number_at row column)))
+    sums_agree f.coefficients along (map (λ row. number_at row column) lows) (omega (arith, few, room))
+    (omega (arith, few, length-map lows (λ (row : List ℤ). number_at row column)))
     (λ v v_in.
     let inside : v < length lows = omega (arith, v_in, few) in
     low v inside ∙ sym (get_or-map (λ (row : List ℤ). number_at row column) lows v [] (pos 0) inside))
 
 -- what code puts, by the lists that it reads
-pub put_all : (k : Kernel) → IsShaped k → (column : ℕ) (new : List ℤ) (lows : List (List ℤ)) (rows : List Form) → length new ≡ length k.constants.items → lows ≡ k.lows.items → rows ≡ k.table.rows.items → ((v : ℕ) → v < length lows → number_at new v ≡ number_at (slice_index_or lows v []) column) → ((v : ℕ) → v < length lows → number_at new (length lows + v) ≡ neg_ℤ (number_at (slice_index_or lows v []) column)) → ((row : ℕ) → row < length rows → number_at new (length lows + length lows + row) ≡ number_in (slice_index_or rows row no_form) (map (λ r. number_at r column) lows)) → new ≡ along_numbers k column
+pub put_all : (k : Kernel) → IsShaped k → (column : ℕ) (new : List ℤ) (lows : List (List ℤ)) (rows : List Form) →
+    length new ≡ length k.constants.items → lows ≡ k.lows.items → rows ≡ k.table.rows.items →
+    ((v : ℕ) → v < length lows → number_at new v ≡ number_at (slice_index_or lows v []) column) →
+    ((v : ℕ) → v < length lows →
+    number_at new (length lows + v) ≡ neg_ℤ (number_at (slice_index_or lows v []) column)) →
+    ((row : ℕ) → row < length rows →
+    number_at new (length lows + length lows + row) ≡ number_in (slice_index_or rows row no_form)
+    (map (λ r. number_at r column) lows)) → new ≡ along_numbers k column
 put_all k s column new lows rows long lows_are rows_are low high each =
     let n_is : length lows ≡ width_of k = ap length lows_are ∙ s.lows in
     let here : (v : ℕ) → v < width_of k → number_at (slice_index_or lows v []) column ≡ number_at (column_of k column) v = λ v v_in.

@@ -3,10 +3,10 @@ use Rattle.std.proofs.Common.{◌≡◌, ℕ, ◌+◌, ◌*◌, ◌/◌, ◌^◌
 use Rattle.std.specs.Prelude.{ℤ, pos, negsuc, ◌+ℤ◌, ◌-ℤ◌, ◌*ℤ◌, ◌<ℤ◌, ◌≤ℤ◌, nat_abs, int_div, int_le, IsTrue}
 use Rattle.std.proofs.Math.Nat.{le-div_iff_mul-le, mul-le-mul, mul-le-mul_right}
 use Rattle.std.proofs.lemmas.Int.{fits_signed_from_abs, ints, to_z-of_z, unsigned_abs-mul}
+use Rattle.integer_pivots.proofs.Sizes.{read_number, test_natural}
 use Rattle.table_kernel.specs.declared.kernel.Kernel.{Kernel}
 use Rattle.table_kernel.specs.Kernels.{IsBounded}
 use Rattle.table_kernel.specs.Turns.{step_of}
-use Rattle.table_kernel.proofs.Sizes.{read_number, test_natural}
 
 -- the numbers of a kernel that a step is made of
 pub record AreParts (reach weight common : ℤ) : Type 0 where
@@ -43,7 +43,9 @@ product_read reach weight common p =
 pub product_fits : (reach weight common : ℤ) → AreParts reach weight common → nat_abs (to_z w64 (of_z w64 reach) *ℤ to_z w64 (of_z w64 weight)) ≤ 2 ^ 22
 product_fits reach weight common p = omega (arith, ap nat_abs (product_read reach weight common p), product_small reach weight common p)
 
-pub sum_read : (reach weight common : ℤ) → AreParts reach weight common → (to_z w64 (of_z w64 (to_z w64 (of_z w64 reach) *ℤ to_z w64 (of_z w64 weight))) +ℤ to_z w64 (of_z w64 common)) ≡ pos (nat_abs reach * nat_abs weight + nat_abs common)
+pub sum_read : (reach weight common : ℤ) → AreParts reach weight common →
+    (to_z w64 (of_z w64 (to_z w64 (of_z w64 reach) *ℤ to_z w64 (of_z w64 weight))) +ℤ to_z w64 (of_z w64 common))
+    ≡ pos (nat_abs reach * nat_abs weight + nat_abs common)
 sum_read reach weight common p =
     ap (λ z. to_z w64 (of_z w64 z) +ℤ to_z w64 (of_z w64 common)) (product_read reach weight common p)
     ∙ ap (λ z. z +ℤ to_z w64 (of_z w64 common)) (read_number (reach *ℤ weight) (omega (arith, product_small reach weight common p)))
@@ -53,7 +55,9 @@ sum_read reach weight common p =
 pub step_small : (reach weight common : ℤ) → AreParts reach weight common → nat_abs reach * nat_abs weight + nat_abs common ≤ 2 ^ 23
 step_small reach weight common p = omega (arith, ints, p.product, p.positive, p.within)
 
-pub step_read : (reach weight common : ℤ) → AreParts reach weight common → to_z w64 (of_z w64 (to_z w64 (of_z w64 (to_z w64 (of_z w64 reach) *ℤ to_z w64 (of_z w64 weight))) +ℤ to_z w64 (of_z w64 common))) ≡ pos (nat_abs reach * nat_abs weight + nat_abs common)
+pub step_read : (reach weight common : ℤ) → AreParts reach weight common →
+    to_z w64 (of_z w64 (to_z w64 (of_z w64 (to_z w64 (of_z w64 reach) *ℤ to_z w64 (of_z w64 weight)))
+    +ℤ to_z w64 (of_z w64 common))) ≡ pos (nat_abs reach * nat_abs weight + nat_abs common)
 step_read reach weight common p =
     ap (λ z. to_z w64 (of_z w64 z)) (sum_read reach weight common p)
     ∙ read_number (pos (nat_abs reach * nat_abs weight + nat_abs common)) (omega (arith, step_small reach weight common p))
@@ -68,7 +72,11 @@ pub kernel_step : (k : Kernel) → IsBounded k → step_of k ≤ 2 ^ 23
 kernel_step k b = step_small k.reach k.weight k.common (kernel_parts k b)
 
 -- a number is at most a quotient where, times what that is over, it is at most the whole
-pub within_quotient : (steps step room : ℤ) → pos 0 ≤ℤ steps → pos 0 <ℤ step → pos 0 ≤ℤ room → SFits w64 steps → SFits w64 step → SFits w64 room → IsTrue (int_le (to_z w64 (of_z w64 steps)) (to_z w64 (of_z w64 (int_div (to_z w64 (of_z w64 room)) (to_z w64 (of_z w64 step)))))) ↔ (nat_abs steps * nat_abs step ≤ nat_abs room)
+pub within_quotient : (steps step room : ℤ) → pos 0 ≤ℤ steps → pos 0 <ℤ step → pos 0 ≤ℤ room → SFits w64 steps →
+    SFits w64 step → SFits w64 room →
+    IsTrue (int_le (to_z w64 (of_z w64 steps))
+    (to_z w64 (of_z w64 (int_div (to_z w64 (of_z w64 room)) (to_z w64 (of_z w64 step))))))
+    ↔ (nat_abs steps * nat_abs step ≤ nat_abs room)
 within_quotient (negsuc a) step room from some space a_fits b_fits c_fits = absurd (omega (arith, ints, from))
 within_quotient (pos a) (negsuc b) room from some space a_fits b_fits c_fits = absurd (omega (arith, ints, some))
 within_quotient (pos a) (pos b) (negsuc c) from some space a_fits b_fits c_fits = absurd (omega (arith, ints, space))
@@ -84,7 +92,11 @@ within_quotient (pos a) (pos b) (pos c) from some space a_fits b_fits c_fits =
     (λ holds. law.0 (test.0 holds), λ fits. test.1 (law.1 fits))
 
 -- whether the steps of a whole move fit behind the greatest constant
-pub all_fit : (lows highs step most : ℤ) (a b s : ℕ) → lows ≡ pos a → highs ≡ pos b → step ≡ pos s → lows ≤ℤ pos (2 ^ 60) → highs ≤ℤ pos (2 ^ 60) → s < 2 ^ 63 → pos 0 ≤ℤ most → nat_abs most ≤ 2 ^ 39 → (nat_abs (to_z w64 (of_z w64 (to_z w64 (of_z w64 lows) +ℤ to_z w64 (of_z w64 highs)))) * nat_abs (to_z w64 (of_z w64 step)) ≤ nat_abs (to_z w64 (of_z w64 (pos (2 ^ 39) -ℤ to_z w64 (of_z w64 most))))) ↔ (nat_abs most + (a + b) * s ≤ 2 ^ 39)
+pub all_fit : (lows highs step most : ℤ) (a b s : ℕ) → lows ≡ pos a → highs ≡ pos b → step ≡ pos s →
+    lows ≤ℤ pos (2 ^ 60) → highs ≤ℤ pos (2 ^ 60) → s < 2 ^ 63 → pos 0 ≤ℤ most → nat_abs most ≤ 2 ^ 39 →
+    (nat_abs (to_z w64 (of_z w64 (to_z w64 (of_z w64 lows) +ℤ to_z w64 (of_z w64 highs)))) * nat_abs
+    (to_z w64 (of_z w64 step)) ≤ nat_abs (to_z w64 (of_z w64 (pos (2 ^ 39) -ℤ to_z w64 (of_z w64 most)))))
+    ↔ (nat_abs most + (a + b) * s ≤ 2 ^ 39)
 all_fit lows highs step most a b s lows_is highs_is step_is lows_small highs_small s_small most_from most_small =
     let lows_at : nat_abs lows ≤ 2 ^ 60 = omega (arith, ints, lows_small, lows_is) in
     let highs_at : nat_abs highs ≤ 2 ^ 60 = omega (arith, ints, highs_small, highs_is) in
@@ -108,7 +120,8 @@ all_fit lows highs step most a b s lows_is highs_is step_is lows_small highs_sma
           omega (arith, fits, room_size),
       λ small.
           let fits : (a + b) * s ≤ nat_abs (pos (2 ^ 39) -ℤ most) = omega (arith, small, room_size) in
-          subst (λ n. n ≤ nat_abs (to_z w64 (of_z w64 (pos (2 ^ 39) -ℤ to_z w64 (of_z w64 most))))) (sym product_is) (subst (λ n. (a + b) * s ≤ n) (sym room_at) fits),
+          subst (λ n. n ≤ nat_abs (to_z w64 (of_z w64 (pos (2 ^ 39) -ℤ to_z w64 (of_z w64 most))))) (sym product_is)
+          (subst (λ n. (a + b) * s ≤ n) (sym room_at) fits),
     )
 
 -- a constant that falls, as 64 bits hold it
@@ -117,14 +130,17 @@ fall_product common fall common_small fall_small = omega (arith, unsigned_abs-mu
 
 fall_factors : (common fall : ℤ) → nat_abs common ≤ 2 ^ 22 → nat_abs fall ≤ 2 ^ 22 → (to_z w64 (of_z w64 common) *ℤ to_z w64 (of_z w64 fall)) ≡ (common *ℤ fall)
 fall_factors common fall common_small fall_small =
-    ap (λ z. z *ℤ to_z w64 (of_z w64 fall)) (read_number common (omega (arith, common_small))) ∙ ap (λ z. common *ℤ z) (read_number fall (omega (arith, fall_small)))
+    ap (λ z. z *ℤ to_z w64 (of_z w64 fall)) (read_number common (omega (arith, common_small)))
+    ∙ ap (λ z. common *ℤ z) (read_number fall (omega (arith, fall_small)))
 
 pub fall_fits : (common fall : ℤ) → nat_abs common ≤ 2 ^ 22 → nat_abs fall ≤ 2 ^ 22 → SFits w64 (to_z w64 (of_z w64 common) *ℤ to_z w64 (of_z w64 fall))
 fall_fits common fall common_small fall_small =
     subst (λ z. SFits w64 z) (sym (fall_factors common fall common_small fall_small))
     (fits_signed_from_abs w64 (common *ℤ fall) (omega (arith, fall_product common fall common_small fall_small)))
 
-lowered_is : (x common fall : ℤ) → nat_abs x ≤ 2 ^ 39 → nat_abs common ≤ 2 ^ 22 → nat_abs fall ≤ 2 ^ 22 → (to_z w64 (of_z w64 x) -ℤ to_z w64 (of_z w64 (to_z w64 (of_z w64 common) *ℤ to_z w64 (of_z w64 fall)))) ≡ (x -ℤ (common *ℤ fall))
+lowered_is : (x common fall : ℤ) → nat_abs x ≤ 2 ^ 39 → nat_abs common ≤ 2 ^ 22 → nat_abs fall ≤ 2 ^ 22 →
+    (to_z w64 (of_z w64 x) -ℤ to_z w64 (of_z w64 (to_z w64 (of_z w64 common) *ℤ to_z w64 (of_z w64 fall))))
+    ≡ (x -ℤ (common *ℤ fall))
 lowered_is x common fall x_small common_small fall_small =
     ap (λ z. z -ℤ to_z w64 (of_z w64 (to_z w64 (of_z w64 common) *ℤ to_z w64 (of_z w64 fall)))) (read_number x (omega (arith, x_small)))
     ∙ ap (λ z. x -ℤ to_z w64 (of_z w64 z)) (fall_factors common fall common_small fall_small)
@@ -133,12 +149,15 @@ lowered_is x common fall x_small common_small fall_small =
 lowered_small : (x y : ℤ) → nat_abs x ≤ 2 ^ 39 → nat_abs y ≤ 2 ^ 44 → nat_abs (x -ℤ y) < 2 ^ 63
 lowered_small x y x_small y_small = omega (arith, ints, x_small, y_small)
 
-pub lowered_fits : (x common fall : ℤ) → nat_abs x ≤ 2 ^ 39 → nat_abs common ≤ 2 ^ 22 → nat_abs fall ≤ 2 ^ 22 → SFits w64 (to_z w64 (of_z w64 x) -ℤ to_z w64 (of_z w64 (to_z w64 (of_z w64 common) *ℤ to_z w64 (of_z w64 fall))))
+pub lowered_fits : (x common fall : ℤ) → nat_abs x ≤ 2 ^ 39 → nat_abs common ≤ 2 ^ 22 → nat_abs fall ≤ 2 ^ 22 →
+    SFits w64 (to_z w64 (of_z w64 x) -ℤ to_z w64 (of_z w64 (to_z w64 (of_z w64 common) *ℤ to_z w64 (of_z w64 fall))))
 lowered_fits x common fall x_small common_small fall_small =
     subst (λ z. SFits w64 z) (sym (lowered_is x common fall x_small common_small fall_small))
     (fits_signed_from_abs w64 (x -ℤ (common *ℤ fall)) (lowered_small x (common *ℤ fall) x_small (fall_product common fall common_small fall_small)))
 
-pub lowered_read : (x common fall : ℤ) → nat_abs x ≤ 2 ^ 39 → nat_abs common ≤ 2 ^ 22 → nat_abs fall ≤ 2 ^ 22 → to_z w64 (of_z w64 (to_z w64 (of_z w64 x) -ℤ to_z w64 (of_z w64 (to_z w64 (of_z w64 common) *ℤ to_z w64 (of_z w64 fall))))) ≡ (x -ℤ (common *ℤ fall))
+pub lowered_read : (x common fall : ℤ) → nat_abs x ≤ 2 ^ 39 → nat_abs common ≤ 2 ^ 22 → nat_abs fall ≤ 2 ^ 22 →
+    to_z w64 (of_z w64 (to_z w64 (of_z w64 x)
+    -ℤ to_z w64 (of_z w64 (to_z w64 (of_z w64 common) *ℤ to_z w64 (of_z w64 fall))))) ≡ (x -ℤ (common *ℤ fall))
 lowered_read x common fall x_small common_small fall_small =
     ap (λ z. to_z w64 (of_z w64 z)) (lowered_is x common fall x_small common_small fall_small)
     ∙ read_number (x -ℤ (common *ℤ fall)) (lowered_small x (common *ℤ fall) x_small (fall_product common fall common_small fall_small))

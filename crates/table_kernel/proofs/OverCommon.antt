@@ -1,6 +1,6 @@
 -- Numbers over a common denominator, in lowest terms.
 use Rattle.std.proofs.Common.{◌≡◌, ℕ, zero, suc, ◌+◌, ◌<◌, ◌≤◌, refl, sym, ◌∙◌, ap, subst, List, [], ◌∷◌, map, arith}
-use Rattle.std.specs.Prelude.{ℤ, pos, negsuc, ◌<ℤ◌, ◌≤ℤ◌, nat_abs}
+use Rattle.std.specs.Prelude.{ℤ, pos, negsuc, ◌≤ℤ◌, nat_abs}
 use Rattle.std.proofs.Math.Nat.{div-le_self}
 use Rattle.std.proofs.lemmas.Int.{ints}
 use Rattle.std.proofs.lemmas.List.Elements.{All-tail}
@@ -9,20 +9,13 @@ use Rattle.whole_numbers.specs.Fractions.{gcd}
 use Rattle.whole_numbers.proofs.FractionLaws.{nat_abs-over, reduced_lowest, reduced_stands}
 use Rattle.fraction_rows.specs.TableRows.{AreNumbers, IsNumber}
 use Rattle.fraction_table.specs.Wholes.{Stand}
-use Rattle.table_kernel.specs.Numbers.{AllWithin, over}
+use Rattle.integer_pivots.specs.Numbers.{AllWithin}
+use Rattle.table_kernel.specs.Numbers.{over}
 
 -- a number that isn't negative is its size
 pub pos_size : (z : ℤ) → pos 0 ≤ℤ z → pos (nat_abs z) ≡ z
 pos_size (pos n) high = refl
 pos_size (negsuc n) high = absurd (omega (arith, ints))
-
-pub size_positive : (z : ℤ) → pos 0 <ℤ z → 0 < nat_abs z
-size_positive (pos n) high = omega (arith, ints)
-size_positive (negsuc n) high = absurd (omega (arith, ints))
-
-pub size_most : (z : ℤ) (n : ℕ) → pos 0 <ℤ z → z ≤ℤ pos n → nat_abs z ≤ n
-size_most (pos m) n high low = omega (arith, ints)
-size_most (negsuc m) n high low = absurd (omega (arith, ints))
 
 pub over_as : (D E : ℕ) (y z : ℤ) → D ≡ E → y ≡ z → over D y ≡ over E z
 over_as D E y z D_is y_is = ap (λ (n : ℕ). over n y) D_is ∙ ap (over E) y_is
@@ -39,7 +32,8 @@ over_number top D z D_positive D_small z_small =
       };
     }
 
-pub over_numbers : (top D : ℕ) (f : ℕ → ℤ) (a m : ℕ) → 0 < D → D ≤ top → ((place : ℕ) → nat_abs (f place) ≤ top) → AreNumbers top (map (over D) (map f (numbers_from a m)))
+pub over_numbers : (top D : ℕ) (f : ℕ → ℤ) (a m : ℕ) → 0 < D → D ≤ top → ((place : ℕ) → nat_abs (f place) ≤ top) →
+    AreNumbers top (map (over D) (map f (numbers_from a m)))
 over_numbers top D f a zero D_positive D_small small = tt
 over_numbers top D f a (suc m) D_positive D_small small =
     (over_number top D (f a) D_positive D_small (small a), over_numbers top D f (a + 1) m D_positive D_small small)

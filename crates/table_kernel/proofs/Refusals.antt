@@ -3,18 +3,22 @@ use Rattle.std.specs.declared.alloc.Global.{Global}
 use Rattle.std.specs.declared.result.Result.TheVariants.{Ok, Err}
 use Rattle.std.proofs.Common.{Vec, ◌≡◌, ℕ, ◌^◌, ◌<◌, ◌≤◌, sym, ◌∙◌, ap, subst, length, arith}
 use Rattle.std.specs.Prelude.{ℤ, Option, Result, Some, OnErr, pos, nat_abs, slice_index_or}
+use Rattle.whole_numbers.specs.Lists.{number_at}
 use Rattle.fraction_table.specs.declared.stage.Solved.{Solved}
-use Rattle.fraction_table.specs.Wholes.{number_at}
-use Rattle.table_kernel.specs.declared.bounds.OutOfRange.{OutOfRange}
+use Rattle.integer_pivots.specs.Turns.{turn_of}
+use Rattle.integer_pivots.proofs.Crossings.{item_is, positive_size}
+use Rattle.integer_pivots.proofs.Sizes.{read, read_number}
+use Rattle.table_kernel.specs.declared.kernel.OutOfRange.{OutOfRange}
 use Rattle.table_kernel.specs.declared.kernel.Kernel.{Kernel}
 use Rattle.table_kernel.specs.Turns.{IsBestOf, IsFoundNegative, KeepsNumbers, along_numbers, line_numbers}
-use Rattle.table_kernel.specs.Turnings.{IsHeldUp, IsReady, IsRefusedAt, MayTurn, turn_at, turn_of}
-use Rattle.table_kernel.proofs.Crossings.{item_is, positive_size, read}
-use Rattle.table_kernel.proofs.Rooms.{rebuilt}
-use Rattle.table_kernel.proofs.Sizes.{read_number}
+use Rattle.table_kernel.specs.Turnings.{IsHeldUp, IsReady, IsRefusedAt, MayTurn, turn_at}
+use Rattle.table_kernel.proofs.SameButRoom.{rebuilt}
 
 -- what is read of the line, of the denominator and of the constants is the turn at a place and a column
-pub turn_at_is : (k : Kernel) (place column : ℕ) (pivot across : ℤ) → IsReady k → place < length k.constants.items → column < length k.line.items → pivot ≡ slice_index_or k.line.items column pivot → across ≡ slice_index_or k.constants.items place across → turn_of (read pivot) (read k.common) (read across) ≡ turn_at k place column
+pub turn_at_is : (k : Kernel) (place column : ℕ) (pivot across : ℤ) → IsReady k → place < length k.constants.items →
+    column < length k.line.items → pivot ≡ slice_index_or k.line.items column pivot →
+    across ≡ slice_index_or k.constants.items place across →
+    turn_of (read pivot) (read k.common) (read across) ≡ turn_at k place column
 turn_at_is k place column pivot across r place_in column_in pivot_is across_is =
     let p = number_at k.line.items column in
     let z = number_at k.constants.items place in
@@ -31,7 +35,9 @@ on_err (Ok value) fact = tt
 on_err (Err error) fact = fact
 
 -- once the numbers at the column stand along
-pub refused_at : (k m : Kernel) (place column : ℕ) → KeepsNumbers k m → m.line ≡ k.line → k.line.items ≡ line_numbers k place → IsBestOf k (Some column) → m.along.items ≡ along_numbers k column → (MayTurn m place column → ⊥) → IsRefusedAt m place column
+pub refused_at : (k m : Kernel) (place column : ℕ) → KeepsNumbers k m → m.line ≡ k.line →
+    k.line.items ≡ line_numbers k place → IsBestOf k (Some column) → m.along.items ≡ along_numbers k column →
+    (MayTurn m place column → ⊥) → IsRefusedAt m place column
 refused_at k m place column keeps line_kept line_is best along_is refused =
     let same = rebuilt k m keeps in
     record {
@@ -43,7 +49,9 @@ refused_at k m place column keeps line_kept line_is best along_is refused =
     }
 
 -- at the first form with a negative constant
-pub held_up : (old new : Kernel) (place : ℕ) (found : Result (Option Solved) OutOfRange) → IsFoundNegative old (Some place) → OnErr found (KeepsNumbers old new) → OnErr found ((column : ℕ) × IsRefusedAt new place column) → OnErr found (IsHeldUp new)
+pub held_up : (old new : Kernel) (place : ℕ) (found : Result (Option Solved) OutOfRange) →
+    IsFoundNegative old (Some place) → OnErr found (KeepsNumbers old new) →
+    OnErr found ((column : ℕ) × IsRefusedAt new place column) → OnErr found (IsHeldUp new)
 held_up old new place (Ok solved) first keeps refused = tt
 held_up old new place (Err out) first keeps refused =
     record {

@@ -1,17 +1,19 @@
 -- Lines are put into a kernel's table, place by place.
 use Rattle.std.proofs.Common.{◌≡◌, ℕ, suc, ◌+◌, ◌<◌, refl, sym, ◌∙◌, ap, subst, List, [], ◌∷◌, ◌++◌, map, take, drop, length, arith}
 use Rattle.std.specs.Prelude.{ℤ, nat_abs, slice_index_or, slice_set, All}
+use Rattle.std.specs.Vec.{with_item}
 use Rattle.std.proofs.lemmas.List.{get_or-map, length-map}
 use Rattle.std.proofs.lemmas.List.Elements.{All-append, All-drop, All-map, All-take}
 use Rattle.cost_base.specs.Lists.{numbers_from}
 use Rattle.whole_numbers.specs.Fractions.{Fraction}
+use Rattle.whole_numbers.specs.Lists.{number_at}
 use Rattle.path_rows.specs.declared.tree.Member.{Member}
 use Rattle.path_rows.specs.declared.tree.Member.TheVariants.{Low}
 use Rattle.path_rows.specs.Basis.{member_form}
-use Rattle.fraction_rows.proofs.Filled.{length-mapped, mapped_same}
+use Rattle.fraction_rows.proofs.FilledRows.{length-mapped, mapped_same}
 use Rattle.fraction_table.specs.RowLines.{HasPlace}
-use Rattle.fraction_table.specs.Wholes.{HasRoom, IsWhole, IsWholeTable, members_of, number_at, number_of, numbers_of}
-use Rattle.fraction_table.proofs.Between.{all_written, length-written, written_next}
+use Rattle.fraction_table.specs.Wholes.{HasRoom, IsWhole, IsWholeTable, members_of, number_of, numbers_of}
+use Rattle.fraction_table.proofs.BetweenBoxes.{all_written, length-written, written_next}
 use Rattle.fraction_table.proofs.Restarts.{keeps_lines}
 use Rattle.fraction_table.proofs.theory.Blends.{shifted}
 use Rattle.table_kernel.specs.declared.kernel.Kernel.{Kernel}
@@ -23,25 +25,34 @@ use Rattle.table_kernel.proofs.AtBasis.{AreAtBasis, ConstantsAre, basis_moving, 
 use Rattle.table_kernel.proofs.Columns.{column_number}
 
 -- the numbers of a place's form are its constant and those at the columns
-pub place_numbers : (k : Kernel) → IsShaped k → ConstantsAre k → (place : ℕ) → place < length k.constants.items → numbers_of (width_of k) (nat_abs k.common) k.table.costs.low (lows_of k) (form_in k place) ≡ number_at k.constants.items place ∷ line_numbers k place
+pub place_numbers : (k : Kernel) → IsShaped k → ConstantsAre k → (place : ℕ) → place < length k.constants.items →
+    numbers_of (width_of k) (nat_abs k.common) k.table.costs.low (lows_of k) (form_in k place)
+    ≡ number_at k.constants.items place ∷ line_numbers k place
 place_numbers k s c place place_in =
     let number = number_of (nat_abs k.common) k.table.costs.low (lows_of k) (form_in k place) in
     ap (λ (z : ℤ). z ∷ map number (numbers_from 1 (width_of k))) (sym (c place place_in))
     ∙ ap (λ (zs : List ℤ). number_at k.constants.items place ∷ zs)
     (shifted number 0 (width_of k)
-    ∙ mapped_same (λ p. number (suc p)) (λ column. number_in (form_in k place) (column_of k column)) 0 (width_of k) (λ column from column_in. column_number k s (nat_abs k.common) k.table.costs.low (form_in k place) column))
+    ∙ mapped_same (λ p. number (suc p)) (λ column. number_in (form_in k place) (column_of k column)) 0 (width_of k)
+    (λ column from column_in. column_number k s (nat_abs k.common) k.table.costs.low (form_in k place) column))
 
 -- the line of a place, by its numbers
-pub line_of_place : (k : Kernel) → IsMoving k → (place : ℕ) → place < length k.constants.items → (line : List Fraction) → line ≡ map (over (nat_abs k.common)) (number_at k.constants.items place ∷ line_numbers k place) → line ≡ slice_index_or (lines_of k) place []
+pub line_of_place : (k : Kernel) → IsMoving k → (place : ℕ) → place < length k.constants.items →
+    (line : List Fraction) → line
+    ≡ map (over (nat_abs k.common)) (number_at k.constants.items place ∷ line_numbers k place) →
+    line ≡ slice_index_or (lines_of k) place []
 line_of_place k m place place_in line line_is =
     let basis = moving_basis k m in
     let members = members_of k.table.costs (length k.table.rows.items) in
     line_is
     ∙ ap (map (over (nat_abs k.common))) (sym (place_numbers k m.shaped basis.1 place place_in))
-    ∙ sym (get_or-map (fraction_line (nat_abs k.common) k.table.costs k.table.rows.items (lows_of k)) members place (Low 0 0) [] (subst (λ (n : ℕ). place < n) m.shaped.constants place_in))
+    ∙ sym (get_or-map (fraction_line (nat_abs k.common) k.table.costs k.table.rows.items (lows_of k)) members place
+    (Low 0 0) [] (subst (λ (n : ℕ). place < n) m.shaped.constants place_in))
 
 -- what the kernel holds stays
-pub basis_kept : (old new : Kernel) → KeepsAllButRoom old new → AreAtBasis old.table.costs old.table.rows.items old.table.basis.items (nat_abs old.common) (lows_of old) → AreAtBasis new.table.costs new.table.rows.items new.table.basis.items (nat_abs new.common) (lows_of new)
+pub basis_kept : (old new : Kernel) → KeepsAllButRoom old new →
+    AreAtBasis old.table.costs old.table.rows.items old.table.basis.items (nat_abs old.common) (lows_of old) →
+    AreAtBasis new.table.costs new.table.rows.items new.table.basis.items (nat_abs new.common) (lows_of new)
 basis_kept old new k a = rw (k.table.costs, k.table.rows, k.table.basis, k.common, k.lows, k.constants) a
 
 pub constants_kept : (old new : Kernel) → KeepsAllButRoom old new → ConstantsAre old → ConstantsAre new
@@ -64,10 +75,17 @@ bounded_kept old new k b =
       constants = rw k.constants b.constants;
     }
 
-pub shaped_kept : (old new : Kernel) → KeepsAllButRoom old new → length new.table.lines.items ≡ length old.table.lines.items → All (λ line. length line ≡ suc (width_of old)) new.table.lines.items → IsShaped old → IsShaped new
+pub shaped_kept : (old new : Kernel) → KeepsAllButRoom old new →
+    length new.table.lines.items ≡ length old.table.lines.items →
+    All (λ line. length line ≡ suc (width_of old)) new.table.lines.items → IsShaped old → IsShaped new
 shaped_kept old new k many wide s =
     record {
-      room = record { few = rw k.table.costs s.room.few; quotients = rw (k.table.quotients, k.table.costs) s.room.quotients; scratch = rw (k.table.scratch, k.table.costs) s.room.scratch };
+      room = record {
+        few = rw k.table.costs s.room.few;
+        quotients = rw (k.table.quotients, k.table.costs) s.room.quotients;
+        scratch =
+            rw (k.table.scratch, k.table.costs) s.room.scratch;
+      };
       lows = rw (k.lows, k.table.costs) s.lows;
       each = rw (k.lows, k.table.costs) s.each;
       leads = rw (k.leads, k.table.costs) s.leads;
@@ -81,14 +99,18 @@ shaped_kept old new k many wide s =
       wide = rw k.table.costs wide;
     }
 
-pub moving_kept : (old new : Kernel) → KeepsAllButRoom old new → length new.table.lines.items ≡ length old.table.lines.items → All (λ line. length line ≡ suc (width_of old)) new.table.lines.items → IsMoving old → IsMoving new
+pub moving_kept : (old new : Kernel) → KeepsAllButRoom old new →
+    length new.table.lines.items ≡ length old.table.lines.items →
+    All (λ line. length line ≡ suc (width_of old)) new.table.lines.items → IsMoving old → IsMoving new
 moving_kept old new k many wide m =
     let basis = moving_basis old m in
-    basis_moving new (shaped_kept old new k many wide m.shaped) (bounded_kept old new k m.bounded) (basis_kept old new k basis.0) (constants_kept old new k basis.1)
+    basis_moving new (shaped_kept old new k many wide m.shaped) (bounded_kept old new k m.bounded)
+    (basis_kept old new k basis.0) (constants_kept old new k basis.1)
 
--- where the table stays and there is other room
-pub keeps_room : (old new : Kernel) → KeepsNumbers old new → KeepsAllButRoom old new
-keeps_room old new k =
+-- where a line is put and there is other room
+pub keeps_room : (old mid : Kernel) (at : ℕ) (line : List Fraction) → KeepsNumbers old mid →
+    KeepsAllButRoom old (record mid { table = record mid.table { lines = with_item mid.table.lines at line } })
+keeps_room old mid at line k =
     record {
       table = record {
         top = ap (λ t. t.top) k.table;
@@ -108,8 +130,11 @@ keeps_room old new k =
       line = k.line;
       along = k.along;
       left = k.left;
-      place = subst HasPlace (sym k.table);
+      place = place;
     }
+  where
+    place : HasPlace old.table → HasPlace (record mid.table { lines = with_item mid.table.lines at line })
+    place there = let kept = subst HasPlace (sym k.table) there in record { rows = kept.rows; lines = kept.lines }
 
 pub keeps_both : (old mid new : Kernel) → KeepsAllButRoom old mid → KeepsAllButRoom mid new → KeepsAllButRoom old new
 keeps_both old mid new first second =
@@ -152,11 +177,14 @@ restated_to k place = take place (lines_of k) ++ drop place k.table.lines.items
 -- there is one for each constant
 pub lines_many : (k : Kernel) → IsShaped k → length (lines_of k) ≡ length k.constants.items
 lines_many k s =
-    length-map (members_of k.table.costs (length k.table.rows.items)) (fraction_line (nat_abs k.common) k.table.costs k.table.rows.items (lows_of k)) ∙ sym s.constants
+    length-map (members_of k.table.costs (length k.table.rows.items))
+    (fraction_line (nat_abs k.common) k.table.costs k.table.rows.items (lows_of k)) ∙ sym s.constants
 
 lines_wide : (k : Kernel) → All (λ line. length line ≡ suc (width_of k)) (lines_of k)
 lines_wide k =
-    All-map (λ line. length line ≡ suc (width_of k)) (fraction_line (nat_abs k.common) k.table.costs k.table.rows.items (lows_of k)) (members_of k.table.costs (length k.table.rows.items))
+    All-map (λ line. length line ≡ suc (width_of k))
+    (fraction_line (nat_abs k.common) k.table.costs k.table.rows.items (lows_of k))
+    (members_of k.table.costs (length k.table.rows.items))
     (λ place d place_in. wide (slice_index_or (members_of k.table.costs (length k.table.rows.items)) place d))
   where
     wide : (member : Member) → length (fraction_line (nat_abs k.common) k.table.costs k.table.rows.items (lows_of k) member) ≡ suc (width_of k)
@@ -175,14 +203,19 @@ restating old new place m k lines =
     (All-drop (λ line. length line ≡ suc (width_of old)) place old.table.lines.items m.shaped.wide)))
     m
 
-pub restated_next : (old mid : Kernel) (place : ℕ) (news : List (List Fraction)) → IsMoving old → KeepsAllButRoom old mid → place < length old.constants.items → mid.table.lines.items ≡ restated_to old place → news ≡ slice_set mid.table.lines.items place (slice_index_or (lines_of mid) place []) → news ≡ restated_to old (place + 1)
+pub restated_next : (old mid : Kernel) (place : ℕ) (news : List (List Fraction)) → IsMoving old →
+    KeepsAllButRoom old mid → place < length old.constants.items → mid.table.lines.items ≡ restated_to old place →
+    news ≡ slice_set mid.table.lines.items place (slice_index_or (lines_of mid) place []) →
+    news ≡ restated_to old (place + 1)
 restated_next old mid place news m k place_in lines news_are =
     news_are
     ∙ ap (λ ls. slice_set ls place (slice_index_or (lines_of mid) place [])) lines
-    ∙ written_next old.table.lines.items (lines_of old) place [] (slice_index_or (lines_of mid) place []) (omega (arith, place_in, m.shaped.lines)) (omega (arith, place_in, lines_many old m.shaped))
+    ∙ written_next old.table.lines.items (lines_of old) place [] (slice_index_or (lines_of mid) place [])
+    (omega (arith, place_in, m.shaped.lines)) (omega (arith, place_in, lines_many old m.shaped))
     (ap (λ ls. slice_index_or ls place []) (lines_kept old mid k))
 
-pub restated_all : (old : Kernel) (place : ℕ) (news : List (List Fraction)) → IsMoving old → place ≡ length old.constants.items → news ≡ restated_to old place → news ≡ lines_of old
+pub restated_all : (old : Kernel) (place : ℕ) (news : List (List Fraction)) → IsMoving old →
+    place ≡ length old.constants.items → news ≡ restated_to old place → news ≡ lines_of old
 restated_all old place news m all lines =
     lines ∙ all_written old.table.lines.items (lines_of old) place (m.shaped.lines ∙ sym all) (lines_many old m.shaped ∙ sym all)
 
@@ -197,4 +230,8 @@ restated_whole old new m k lines =
 pub restated_room : (old new : Kernel) → IsKernel old → KeepsAllButRoom old new → HasRoom new.table
 restated_room old new m k =
     let room = m.shaped.room in
-    record { few = rw k.table.costs room.few; quotients = rw (k.table.quotients, k.table.costs) room.quotients; scratch = rw (k.table.scratch, k.table.costs) room.scratch }
+    record {
+      few = rw k.table.costs room.few;
+      quotients = rw (k.table.quotients, k.table.costs) room.quotients;
+      scratch = rw (k.table.scratch, k.table.costs) room.scratch;
+    }

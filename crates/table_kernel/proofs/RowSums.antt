@@ -1,33 +1,29 @@
 -- The weight of a row, and its constant, as sums over its terms.
-use Rattle.std.proofs.Common.{◌≡◌, ℕ, ◌+◌, ◌*◌, ◌^◌, ◌<◌, ◌≤◌, sym, subst, ◌∙◌, ap, List, [], ◌∷◌, length, get_or, drop, arith, w64, to_z, of_z}
-use Rattle.std.proofs.Common.{le_trans, mul-one}
+use Rattle.std.proofs.Common.{◌≡◌, ℕ, ◌+◌, ◌*◌, ◌^◌, ◌<◌, ◌≤◌, sym, subst, ◌∙◌, ap, List, [], ◌∷◌, length, get_or, drop, arith, w64, to_z, of_z, le_trans, mul-one}
 use Rattle.std.specs.Prelude.{ℤ, pos, ◌+ℤ◌, ◌*ℤ◌, ◌≤ℤ◌, nat_abs, All, sum_by}
-use Rattle.std.proofs.Math.Nat.{mul-le-mul_left, mul-le-mul_right}
-use Rattle.std.proofs.lemmas.Int.{ints, unsigned_abs-mul}
+use Rattle.std.proofs.Math.Nat.{mul-le-mul_left}
+use Rattle.std.proofs.lemmas.Int.{ints}
 use Rattle.std.proofs.lemmas.List.{at_drop_all}
 use Rattle.std.proofs.lemmas.List.Elements.{All-tail}
 use Rattle.std.proofs.lemmas.List.Sums.{sum_by-cons}
+use Rattle.whole_numbers.specs.Lists.{number_at}
 use Rattle.path_rows.specs.declared.form.Term.{Term}
 use Rattle.path_rows.specs.Forms.{terms_from}
 use Rattle.path_rows.proofs.TermLaws.{total, total_more}
-use Rattle.fraction_table.specs.Wholes.{number_at}
-use Rattle.table_kernel.specs.Numbers.{product_sum}
-use Rattle.table_kernel.proofs.LineSums.{product_at, rest_weight, sum_by_terms, sum_size, term_size, terms_weight}
-use Rattle.table_kernel.proofs.Sizes.{read_number}
-
--- the size of a product
-pub product_within : (a b : ℤ) (m n : ℕ) → nat_abs a ≤ m → nat_abs b ≤ n → nat_abs (a *ℤ b) ≤ m * n
-product_within a b m n a_small b_small =
-    let times : nat_abs (a *ℤ b) ≡ nat_abs a * nat_abs b = unsigned_abs-mul a b in
-    subst (λ (k : ℕ). k ≤ m * n) (sym times) (le_trans (mul-le-mul_left (nat_abs a) b_small) (mul-le-mul_right n a_small))
+use Rattle.integer_pivots.proofs.Terms.{rest_weight, term_size, terms_weight}
+use Rattle.integer_pivots.proofs.Sizes.{read_number, sum_size}
+use Rattle.integer_pivots.proofs.Crossings.{product_small}
+use Rattle.integer_pivots.specs.Numbers.{product_sum}
+use Rattle.table_kernel.proofs.LineSums.{product_at, sum_by_terms}
 
 -- a product that 64 bits hold is read as it is
-pub read_product : (a b : ℤ) (m n : ℕ) → nat_abs a ≤ m → nat_abs b ≤ n → m < 2 ^ 63 → n < 2 ^ 63 → m * n < 2 ^ 63 → to_z w64 (of_z w64 (to_z w64 (of_z w64 a) *ℤ to_z w64 (of_z w64 b))) ≡ (a *ℤ b)
+pub read_product : (a b : ℤ) (m n : ℕ) → nat_abs a ≤ m → nat_abs b ≤ n → m < 2 ^ 63 → n < 2 ^ 63 → m * n < 2 ^ 63 →
+    to_z w64 (of_z w64 (to_z w64 (of_z w64 a) *ℤ to_z w64 (of_z w64 b))) ≡ (a *ℤ b)
 read_product a b m n a_small b_small m_small n_small small =
     let left = read_number a (omega (arith, a_small, m_small)) in
     let right = read_number b (omega (arith, b_small, n_small)) in
     let both : (to_z w64 (of_z w64 a) *ℤ to_z w64 (of_z w64 b)) ≡ (a *ℤ b) = ap (λ (z : ℤ). z *ℤ to_z w64 (of_z w64 b)) left ∙ ap (λ (z : ℤ). a *ℤ z) right in
-    ap (λ (z : ℤ). to_z w64 (of_z w64 z)) both ∙ read_number (a *ℤ b) (omega (arith, product_within a b m n a_small b_small, small))
+    ap (λ (z : ℤ). to_z w64 (of_z w64 z)) both ∙ read_number (a *ℤ b) (omega (arith, product_small m n a b a_small b_small, small))
 
 -- many small coefficients weigh little
 pub coefficients_light : (most : ℕ) (cs : List ℤ) → All (λ c. nat_abs c ≤ most) cs → sum_by nat_abs cs ≤ length cs * most
@@ -49,10 +45,12 @@ weighed_first ts cs terms few small =
     let most = coefficients_light (2 ^ 26) cs small in
     record { so_far = omega (arith, ints); from_zero = omega (arith, ints); light = omega (arith, weight, most, few) }
 
-pub weighed_small : (ts : List Term) (index : ℕ) (d : Term) (sum : ℤ) → index < length ts → IsWeighed ts index sum → nat_abs (get_or ts index d).coefficient ≤ 2 ^ 58
+pub weighed_small : (ts : List Term) (index : ℕ) (d : Term) (sum : ℤ) → index < length ts → IsWeighed ts index sum →
+    nat_abs (get_or ts index d).coefficient ≤ 2 ^ 58
 weighed_small ts index d sum index_in w = omega (arith, ints, rest_weight ts index d index_in, w.so_far, w.from_zero, w.light)
 
-pub weighed_more : (ts : List Term) (index : ℕ) (d : Term) (sum : ℤ) → index < length ts → IsWeighed ts index sum → IsWeighed ts (index + 1) (sum +ℤ pos (nat_abs (get_or ts index d).coefficient))
+pub weighed_more : (ts : List Term) (index : ℕ) (d : Term) (sum : ℤ) → index < length ts → IsWeighed ts index sum →
+    IsWeighed ts (index + 1) (sum +ℤ pos (nat_abs (get_or ts index d).coefficient))
 weighed_more ts index d sum index_in w =
     let rest = rest_weight ts index d index_in in
     record { so_far = omega (arith, ints, rest, w.so_far); from_zero = omega (arith, ints, w.from_zero); light = w.light }
@@ -60,7 +58,8 @@ weighed_more ts index d sum index_in w =
 pub weighed_sum : (ts : List Term) (index : ℕ) (sum : ℤ) → IsWeighed ts index sum → nat_abs sum ≤ 2 ^ 58
 weighed_sum ts index sum w = omega (arith, ints, w.so_far, w.from_zero, w.light)
 
-pub weighed_all : (ts : List Term) (index : ℕ) (sum : ℤ) (cs : List ℤ) → length ts ≤ index → ts ≡ terms_from 0 cs → IsWeighed ts index sum → sum ≡ pos (sum_by nat_abs cs)
+pub weighed_all : (ts : List Term) (index : ℕ) (sum : ℤ) (cs : List ℤ) → length ts ≤ index → ts ≡ terms_from 0 cs →
+    IsWeighed ts index sum → sum ≡ pos (sum_by nat_abs cs)
 weighed_all ts index sum cs past terms w =
     let none : sum_by term_size (drop index ts) ≡ 0 = at_drop_all (sum_by term_size) ts index past in
     let weight : sum_by term_size ts ≡ sum_by nat_abs cs = ap (sum_by term_size) terms ∙ terms_weight 0 cs in
@@ -76,14 +75,17 @@ gathered_first zs ts cs terms light =
     let weight : sum_by term_size ts ≡ sum_by nat_abs cs = ap (sum_by term_size) terms ∙ terms_weight 0 cs in
     record { so_far = omega (arith, ints); size = omega (arith, weight, light) }
 
-pub gathered_small : (zs : List ℤ) (ts : List Term) (index : ℕ) (d : Term) (sum : ℤ) → index < length ts → IsGathered zs ts index sum → nat_abs (get_or ts index d).coefficient ≤ 2 ^ 22
+pub gathered_small : (zs : List ℤ) (ts : List Term) (index : ℕ) (d : Term) (sum : ℤ) → index < length ts →
+    IsGathered zs ts index sum → nat_abs (get_or ts index d).coefficient ≤ 2 ^ 22
 gathered_small zs ts index d sum index_in g = omega (arith, rest_weight ts index d index_in, g.size)
 
-pub gathered_more : (zs : List ℤ) (ts : List Term) (index : ℕ) (d : Term) (sum : ℤ) → index < length ts → nat_abs (number_at zs (get_or ts index d).var) ≤ 2 ^ 39 → IsGathered zs ts index sum → IsGathered zs ts (index + 1) (sum +ℤ ((get_or ts index d).coefficient *ℤ number_at zs (get_or ts index d).var))
+pub gathered_more : (zs : List ℤ) (ts : List Term) (index : ℕ) (d : Term) (sum : ℤ) → index < length ts →
+    nat_abs (number_at zs (get_or ts index d).var) ≤ 2 ^ 39 → IsGathered zs ts index sum →
+    IsGathered zs ts (index + 1) (sum +ℤ ((get_or ts index d).coefficient *ℤ number_at zs (get_or ts index d).var))
 gathered_more zs ts index d sum index_in small g =
     let t = get_or ts index d in
     let more = total_more (product_at zs) ts index d index_in in
-    let here = product_within t.coefficient (number_at zs t.var) (nat_abs t.coefficient) (2 ^ 39) (omega arith) small in
+    let here = product_small (nat_abs t.coefficient) (2 ^ 39) t.coefficient (number_at zs t.var) (omega arith) small in
     let both = sum_size sum (t.coefficient *ℤ number_at zs t.var) in
     record {
       so_far = omega (arith, ints, more, g.so_far);
@@ -93,14 +95,19 @@ gathered_more zs ts index d sum index_in small g =
 pub gathered_sum : (zs : List ℤ) (ts : List Term) (index : ℕ) (sum : ℤ) → IsGathered zs ts index sum → nat_abs sum ≤ 2 ^ 61
 gathered_sum zs ts index sum g = omega (arith, g.size)
 
-pub gathered_all : (zs : List ℤ) (ts : List Term) (index : ℕ) (sum : ℤ) (cs : List ℤ) → length ts ≤ index → ts ≡ terms_from 0 cs → length cs ≤ length zs → IsGathered zs ts index sum → sum ≡ product_sum cs zs
+pub gathered_all : (zs : List ℤ) (ts : List Term) (index : ℕ) (sum : ℤ) (cs : List ℤ) → length ts ≤ index →
+    ts ≡ terms_from 0 cs → length cs ≤ length zs → IsGathered zs ts index sum → sum ≡ product_sum cs zs
 gathered_all zs ts index sum cs past terms counted g =
     let none : total (product_at zs) (drop index ts) ≡ pos 0 = at_drop_all (total (product_at zs)) ts index past in
     let whole : total (product_at zs) ts ≡ product_sum cs zs = ap (total (product_at zs)) terms ∙ sum_by_terms cs zs counted in
     omega (arith, ints, g.so_far, none, whole)
 
 -- one more term, as code reads it
-pub gathered_read : (zs : List ℤ) (ts : List Term) (index : ℕ) (d : Term) (sum added : ℤ) → index < length ts → nat_abs (number_at zs (get_or ts index d).var) ≤ 2 ^ 39 → IsGathered zs ts index sum → added ≡ (to_z w64 (of_z w64 (get_or ts index d).coefficient) *ℤ to_z w64 (of_z w64 (number_at zs (get_or ts index d).var))) → (nat_abs (sum +ℤ to_z w64 (of_z w64 added)) < 2 ^ 63) × IsGathered zs ts (index + 1) (to_z w64 (of_z w64 (sum +ℤ to_z w64 (of_z w64 added))))
+pub gathered_read : (zs : List ℤ) (ts : List Term) (index : ℕ) (d : Term) (sum added : ℤ) → index < length ts →
+    nat_abs (number_at zs (get_or ts index d).var) ≤ 2 ^ 39 → IsGathered zs ts index sum →
+    added ≡ (to_z w64 (of_z w64 (get_or ts index d).coefficient) *ℤ to_z w64
+    (of_z w64 (number_at zs (get_or ts index d).var))) → (nat_abs (sum +ℤ to_z w64 (of_z w64 added)) < 2 ^ 63)
+    × IsGathered zs ts (index + 1) (to_z w64 (of_z w64 (sum +ℤ to_z w64 (of_z w64 added))))
 gathered_read zs ts index d sum added index_in small g added_is =
     let c = (get_or ts index d).coefficient in
     let z = number_at zs (get_or ts index d).var in
@@ -109,7 +116,7 @@ gathered_read zs ts index d sum added index_in small g added_is =
     added_is
     ∙ ap (λ (x : ℤ). x *ℤ to_z w64 (of_z w64 z)) (read_number c (omega (arith, c_small)))
     ∙ ap (λ (x : ℤ). c *ℤ x) (read_number z (omega (arith, small))) in
-    let size = product_within c z (2 ^ 22) (2 ^ 39) c_small small in
+    let size = product_small (2 ^ 22) (2 ^ 39) c z c_small small in
     let term : to_z w64 (of_z w64 added) ≡ (c *ℤ z) = ap (λ (x : ℤ). to_z w64 (of_z w64 x)) read ∙ read_number (c *ℤ z) (omega (arith, size)) in
     let more = gathered_more zs ts index d sum index_in small g in
     let whole : (sum +ℤ to_z w64 (of_z w64 added)) ≡ (sum +ℤ (c *ℤ z)) = ap (λ (x : ℤ). sum +ℤ x) term in
@@ -119,7 +126,8 @@ gathered_read zs ts index d sum added index_in small g added_is =
     )
 
 -- a sum of two parts, as code reads it
-pub read_sum : (a b x y : ℤ) → a ≡ x → b ≡ y → nat_abs a ≤ 2 ^ 61 → nat_abs b ≤ 2 ^ 61 → to_z w64 (of_z w64 (to_z w64 (of_z w64 a) +ℤ to_z w64 (of_z w64 b))) ≡ (x +ℤ y)
+pub read_sum : (a b x y : ℤ) → a ≡ x → b ≡ y → nat_abs a ≤ 2 ^ 61 → nat_abs b ≤ 2 ^ 61 →
+    to_z w64 (of_z w64 (to_z w64 (of_z w64 a) +ℤ to_z w64 (of_z w64 b))) ≡ (x +ℤ y)
 read_sum a b x y a_is b_is a_small b_small =
     let left = read_number a (omega (arith, a_small)) in
     let right = read_number b (omega (arith, b_small)) in

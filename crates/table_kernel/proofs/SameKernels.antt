@@ -1,7 +1,6 @@
 -- A kernel that holds the same numbers in other room is one, too.
 use Rattle.std.specs.declared.alloc.Global.{Global}
 use Rattle.std.proofs.Common.{Vec, ◌≡◌, ℕ, suc, ◌*◌, ◌^◌, ◌≤◌, refl, sym, ◌∙◌, ap, subst, List, length, arith}
-use Rattle.table_kernel.proofs.UseLaws.{uses_kept}
 use Rattle.std.specs.Prelude.{ℤ, pos, ◌<ℤ◌, ◌≤ℤ◌, nat_abs, All}
 use Rattle.whole_numbers.specs.Fractions.{Fraction}
 use Rattle.path_rows.specs.declared.form.Form.{Form}
@@ -12,10 +11,12 @@ use Rattle.fraction_table.specs.declared.table.Table.{Table}
 use Rattle.fraction_table.specs.RowLines.{HoldsSame}
 use Rattle.fraction_table.specs.Tableaus.{FitsBox}
 use Rattle.fraction_table.specs.Wholes.{members_of}
+use Rattle.integer_pivots.proofs.UseLaws.{uses_kept}
+use Rattle.integer_pivots.specs.Leads.{AreLeads}
+use Rattle.integer_pivots.specs.Numbers.{AllWithin, weight_of}
 use Rattle.table_kernel.specs.declared.kernel.Kernel.{Kernel}
 use Rattle.table_kernel.specs.Kernels.{IsBounded, IsKernel, IsShaped, lines_of, lows_of, stated, width_of}
-use Rattle.table_kernel.specs.Leads.{AreLeads}
-use Rattle.table_kernel.specs.Numbers.{AllWithin, lows_by, weight_of}
+use Rattle.table_kernel.specs.Numbers.{lows_by}
 use Rattle.table_kernel.specs.Turns.{HoldsNumbers}
 use Rattle.table_kernel.proofs.AtBasis.{AreAtBasis, basis_kernel, kernel_basis, stated_lines}
 use Rattle.table_kernel.proofs.MoreRows.{AreConstants}
@@ -34,16 +35,19 @@ same_shaped old new t h s =
         scratch = ap length t.scratch ∙ s.room.scratch ∙ ap suc (sym width);
       };
       lows = ap length h.lows ∙ s.lows ∙ sym width;
-      each = subst (λ (m : ℕ). All (λ (row : List ℤ). length row ≡ m) new.lows.items) (sym width) (subst (All (λ (row : List ℤ). length row ≡ width_of old)) (sym h.lows) s.each);
+      each = subst (λ (m : ℕ). All (λ (row : List ℤ). length row ≡ m) new.lows.items) (sym width)
+          (subst (All (λ (row : List ℤ). length row ≡ width_of old)) (sym h.lows) s.each);
       leads = ap (λ (vs : Vec ℕ Global). length vs.items) h.leads ∙ s.leads ∙ sym width;
-      lead = subst (λ (rows : List (List ℤ)). AreLeads rows new.leads.items) (sym h.lows) (subst (λ (vs : Vec ℕ Global). AreLeads old.lows.items vs.items) (sym h.leads) s.lead);
+      lead = subst (λ (rows : List (List ℤ)). AreLeads rows new.leads.items) (sym h.lows)
+          (subst (λ (vs : Vec ℕ Global). AreLeads old.lows.items vs.items) (sym h.leads) s.lead);
       constants = constants ∙ s.constants ∙ sym counted;
       uses = uses_kept old.uses.items new.uses.items old.table.rows.items new.table.rows.items (width_of old) (width_of new) h.uses t.rows width s.uses;
       line = ap length h.line ∙ s.line ∙ sym width;
       left = omega (arith, width, s.left, h.left);
       along = ap length h.along ∙ s.along ∙ sym constants;
       lines = ap length t.lines ∙ s.lines ∙ sym constants;
-      wide = subst (λ (m : ℕ). All (λ (row : List Fraction). length row ≡ suc m) new.table.lines.items) (sym width) (subst (All (λ (row : List Fraction). length row ≡ suc (width_of old))) (sym t.lines) s.wide);
+      wide = subst (λ (m : ℕ). All (λ (row : List Fraction). length row ≡ suc m) new.table.lines.items) (sym width)
+          (subst (All (λ (row : List Fraction). length row ≡ suc (width_of old))) (sym t.lines) s.wide);
     }
 
 same_bounded : (old new : Kernel) → HoldsSame old.table new.table → HoldsNumbers old new → IsBounded old → IsBounded new
@@ -54,9 +58,11 @@ same_bounded old new t h b =
       common = subst (λ (z : ℤ). z ≤ℤ pos (2 ^ 22)) (sym h.common) b.common;
       reach = subst (λ (z : ℤ). pos 1 ≤ℤ z) (sym h.reach) b.reach;
       weight = subst (λ (z : ℤ). pos 1 ≤ℤ z) (sym h.weight) b.weight;
-      product = subst (λ (z : ℤ). nat_abs new.weight * nat_abs z ≤ 2 ^ 22) (sym h.reach) (subst (λ (z : ℤ). nat_abs z * nat_abs old.reach ≤ 2 ^ 22) (sym h.weight) b.product);
+      product = subst (λ (z : ℤ). nat_abs new.weight * nat_abs z ≤ 2 ^ 22) (sym h.reach)
+          (subst (λ (z : ℤ). nat_abs z * nat_abs old.reach ≤ 2 ^ 22) (sym h.weight) b.product);
       lows = subst (λ (z : ℤ). All (AllWithin (nat_abs z)) new.lows.items) (sym h.reach) (subst (All (AllWithin (nat_abs old.reach))) (sym h.lows) b.lows);
-      rows = subst (λ (z : ℤ). All (λ (row : Form). weight_of row ≤ nat_abs z) new.table.rows.items) (sym h.weight) (subst (All (λ (row : Form). weight_of row ≤ nat_abs old.weight)) (sym t.rows) b.rows);
+      rows = subst (λ (z : ℤ). All (λ (row : Form). weight_of row ≤ nat_abs z) new.table.rows.items) (sym h.weight)
+          (subst (All (λ (row : Form). weight_of row ≤ nat_abs old.weight)) (sym t.rows) b.rows);
       constants = subst (AllWithin (2 ^ 39)) (sym h.constants) b.constants;
     }
 

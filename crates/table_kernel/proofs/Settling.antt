@@ -4,11 +4,12 @@ use Rattle.std.specs.Prelude.{ℤ, None, pos, ◌<ℤ◌, ◌≤ℤ◌, All}
 use Rattle.std.proofs.lemmas.List.{get_or_default}
 use Rattle.cost_base.proofs.ListLemmas.{get_or-map-numbers_from}
 use Rattle.whole_numbers.specs.Fractions.{Fraction, StandsFor}
+use Rattle.whole_numbers.specs.Lists.{number_at}
 use Rattle.path_rows.specs.Basis.{entry}
 use Rattle.path_rows.specs.Steps.{IsStuck}
 use Rattle.fraction_table.specs.declared.table.Table.{Table}
 use Rattle.fraction_table.specs.Pivots.{line_at}
-use Rattle.fraction_table.specs.Wholes.{number_at, number_of}
+use Rattle.fraction_table.specs.Wholes.{number_of}
 use Rattle.fraction_rows.proofs.RowLaws.{number_at as number_there}
 use Rattle.fraction_table.proofs.Pivots.{line_long, lines_long, members_long, whole_line}
 use Rattle.fraction_table.proofs.Solutions.{high_number, low_number, negative_number}
@@ -33,8 +34,15 @@ module _ (k : Kernel) (m : IsKernel k) (place : ℕ) (place_in : place < length 
       let t = stated k in
       let w = m.whole in
       let l = whole_line t w place line_in in
-      subst (λ z. StandsFor (entry (line_at t place) j) z w.unboxed.common) (numbers_at (width_of k) w.unboxed.common t.costs.low w.unboxed.lows (form_in k place) j j_in)
-      (stand_at w.unboxed.common (line_at t place) _ j l.stand (omega (arith, numbers_long (width_of k) w.unboxed.common t.costs.low w.unboxed.lows (form_in k place), j_in)))
+      subst (λ z. StandsFor (entry (line_at t place) j) z w.unboxed.common)
+      (numbers_at (width_of k) w.unboxed.common t.costs.low w.unboxed.lows (form_in k place) j j_in)
+      (stand_at w.unboxed.common (line_at t place) _ j l.stand
+      (omega (
+        arith,
+        numbers_long (width_of k) w.unboxed.common t.costs.low w.unboxed.lows
+            (form_in k place),
+        j_in,
+      )))
 
   entry_over : (j : ℕ) → j < suc (width_of k) → 0 < (entry (line_at (stated k) place) j).denominator
   entry_over j j_in =
@@ -65,12 +73,15 @@ module _ (k : Kernel) (m : IsKernel k) (place : ℕ) (place_in : place < length 
 
   entry_low : (c : ℕ) → c < width_of k → number_at (line_numbers k place) c ≤ℤ pos 0 → (entry (line_at (stated k) place) (suc c)).numerator ≤ℤ pos 0
   entry_low c c_in low =
-      low_number (here (suc c)) (entry (line_at (stated k) place) (suc c)).numerator m.whole.unboxed.common (entry (line_at (stated k) place) (suc c)).denominator
+      low_number (here (suc c)) (entry (line_at (stated k) place) (suc c)).numerator m.whole.unboxed.common
+      (entry (line_at (stated k) place) (suc c)).denominator
       m.whole.unboxed.positive (entry_over (suc c) (omega (arith, c_in))) (sym (entry_stands (suc c) (omega (arith, c_in))))
       (subst (λ z. z ≤ℤ pos 0) (column_here c c_in) low)
 
   -- a line that is positive at no column is stuck, where its constant is negative
-  pub line_stuck : number_at k.constants.items place <ℤ pos 0 → ((c : ℕ) → c < width_of k → number_at (line_numbers k place) c ≤ℤ pos 0) → IsStuck (stated k).basis.items (line_at (stated k) place)
+  pub line_stuck : number_at k.constants.items place <ℤ pos 0 →
+      ((c : ℕ) → c < width_of k → number_at (line_numbers k place) c ≤ℤ pos 0) →
+      IsStuck (stated k).basis.items (line_at (stated k) place)
   line_stuck below low = record { below = entry_below below; none_above = none }
     where
       none : (j : ℕ) → 1 ≤ j → j ≤ length (stated k).basis.items → (entry (line_at (stated k) place) j).numerator ≤ℤ pos 0
@@ -82,12 +93,20 @@ module _ (k : Kernel) (m : IsKernel k) (place : ℕ) (place_in : place < length 
 -- where no constant is negative, no line's is
 pub lines_high : (k : Kernel) → IsKernel k → All (λ z. pos 0 ≤ℤ z) k.constants.items → All (λ line. pos 0 ≤ℤ (entry line 0).numerator) (stated k).lines.items
 lines_high k m high place d place_is =
-    let place_in : place < length k.constants.items = omega (arith, place_is, m.shaped.constants, members_long k.table.costs (length k.table.rows.items), lines_long (stated k) m.whole) in
+    let place_in : place < length k.constants.items =
+    omega (
+      arith,
+      place_is,
+      m.shaped.constants,
+      members_long k.table.costs (length k.table.rows.items),
+      lines_long (stated k) m.whole,
+    ) in
     subst (λ (line : List Fraction). pos 0 ≤ℤ (entry line 0).numerator) (get_or_default (stated k).lines.items place [] d place_is)
     (entry_high k m place place_in (high place (pos 0) place_in))
 
 -- a line that is put down, where it is positive at no column
-pub none_positive : (old new : Kernel) (place : ℕ) → KeepsNumbers old new → new.line.items ≡ line_numbers old place → IsBestOf new None → (c : ℕ) → c < width_of old → number_at (line_numbers old place) c ≤ℤ pos 0
+pub none_positive : (old new : Kernel) (place : ℕ) → KeepsNumbers old new → new.line.items ≡ line_numbers old place →
+    IsBestOf new None → (c : ℕ) → c < width_of old → number_at (line_numbers old place) c ≤ℤ pos 0
 none_positive old new place keeps line_is best c c_in =
     subst (λ (zs : List ℤ). number_at zs c ≤ℤ pos 0) line_is
     (best c (subst (λ (t : Table). c < length t.costs.low) (sym keeps.table) c_in))

@@ -1,13 +1,13 @@
 -- At the starting basis a kernel holds the units over 1, and the ranges of the variables.
-use Rattle.table_kernel.specs.Uses.{held_in, uses_by}
 use Rattle.std.proofs.Common.{◌≡◌, ℕ, zero, suc, ◌+◌, ◌^◌, ◌<◌, ◌*◌, ◌≤◌, Bool, true, false, cond, refl, sym, ◌∙◌, ap, subst, List, [], ◌∷◌, ◌++◌, map, length, arith, append-nil, zero-add}
 use Rattle.std.specs.Prelude.{ℤ, pos, ◌-ℤ◌, ◌<ℤ◌, ◌≤ℤ◌, ◌==◌, nat_abs, slice_index, slice_index_or, vec_capacity, All}
 use Rattle.std.proofs.lemmas.Int.{ints}
 use Rattle.std.proofs.lemmas.List.{get_or-map, get_or_default, length-append, map-append}
 use Rattle.std.proofs.lemmas.Simd.{map-map}
 use Rattle.cost_base.specs.Lists.{numbers_from}
-use Rattle.cost_base.proofs.ListLemmas.{length-numbers_from}
+use Rattle.cost_base.proofs.ListLemmas.{length-numbers_from, get_or-numbers_from}
 use Rattle.whole_numbers.specs.Fractions.{Fraction}
+use Rattle.whole_numbers.specs.Lists.{number_at}
 use Rattle.path_rows.specs.declared.form.Form.{Form}
 use Rattle.path_rows.specs.declared.form.CostBox.{CostBox}
 use Rattle.path_rows.specs.declared.tree.Member.{Member}
@@ -15,32 +15,54 @@ use Rattle.path_rows.specs.declared.tree.Member.TheVariants.{Low}
 use Rattle.path_rows.specs.Forms.{value}
 use Rattle.path_rows.specs.Boxes.{IsBox}
 use Rattle.path_rows.specs.Basis.{IsFormOf, low_member, member_form, unit}
-use Rattle.fraction_rows.proofs.Filled.{length-mapped, mapped_same}
+use Rattle.fraction_rows.proofs.FilledRows.{length-mapped, mapped_same, mapped_at}
 use Rattle.fraction_table.specs.Tableaus.{FitsBox, Held, starting}
-use Rattle.fraction_table.specs.Wholes.{HasRoom, IsSound, IsWholeTable, high_member, held_of, members_of, number_at, number_of}
+use Rattle.fraction_table.specs.Wholes.{HasRoom, IsSound, IsWholeTable, high_member, held_of, members_of, number_of}
 use Rattle.fraction_table.specs.declared.stage.Stage.TheVariants.{Open}
 use Rattle.fraction_table.proofs.Pivots.{line_long, lines_long, members_long}
-use Rattle.fraction_table.proofs.Starts.{all_mapped, elsewhere_none, members_are, number_start, start_rows, starting_leads, starting_mixtures, starting_own, starts_long}
+use Rattle.fraction_table.proofs.StartingTables.{all_mapped, elsewhere_none, members_are, number_start, start_rows, starting_leads, starting_mixtures, starting_own, starts_long}
 use Rattle.fraction_table.proofs.WholeTurns.{coefficients_long}
-use Rattle.fraction_table.proofs.theory.Resolved.{unit_same}
+use Rattle.fraction_table.proofs.theory.Resolved.{unit_same, unit_other}
 use Rattle.fraction_table.proofs.theory.Units.{high_value, low_value}
+use Rattle.integer_pivots.specs.Uses.{held_in, uses_by}
+use Rattle.integer_pivots.specs.Leads.{AreLeads, IsLead}
+use Rattle.integer_pivots.specs.Numbers.{AllWithin, weight_of}
 use Rattle.table_kernel.specs.declared.kernel.Kernel.{Kernel}
 use Rattle.table_kernel.specs.Kernels.{IsBounded, IsKernel, IsShaped, lows_of, width_of}
-use Rattle.table_kernel.specs.Leads.{AreLeads}
-use Rattle.table_kernel.specs.Numbers.{AllWithin, lows_by, weight_of}
+use Rattle.table_kernel.specs.Numbers.{lows_by}
 use Rattle.table_kernel.proofs.AtBasis.{AreAtBasis, basis_kernel}
-use Rattle.table_kernel.proofs.ColumnLeads.{unit_leads}
+
+-- the units lead each at its own variable
+pub unit_leads : (n : ℕ) → AreLeads (map (λ v. unit n v (pos 1)) (numbers_from 0 n)) (numbers_from 0 n)
+unit_leads n c c_in =
+    let inside : c < n = omega (arith, c_in, length-numbers_from 0 n) in
+    let own : slice_index (numbers_from 0 n) c ≡ c = get_or-numbers_from 0 n c 0 inside ∙ zero-add c in
+    subst (IsLead (map (λ v. unit n v (pos 1)) (numbers_from 0 n)) c) (sym own)
+    record {
+      within = omega (arith, inside, length-mapped (λ v. unit n v (pos 1)) 0 n);
+      before = λ v before. entry v (omega (arith, before, inside)) ∙ unit_other n v c (λ same. omega (arith, same, before));
+      there = λ v_in none. one_some (sym (unit_same n c inside) ∙ sym (entry c inside) ∙ none);
+    }
+  where
+    one_some : pos 1 ≡ pos 0 → ⊥
+    one_some same = omega (arith, ints)
+
+    entry : (v : ℕ) → v < n → number_at (slice_index_or (map (λ u. unit n u (pos 1)) (numbers_from 0 n)) v []) c ≡ number_at (unit n v (pos 1)) c
+    entry v v_in = ap (λ (row : List ℤ). number_at row c) (mapped_at (λ u. unit n u (pos 1)) 0 n v [] v_in ∙ ap (λ u. unit n u (pos 1)) (zero-add v))
 
 -- the constants of x - low and of high - x at the low corner
 abbrev pub first_constants : CostBox → List ℤ
 first_constants costs =
-    map (λ v. pos 0) (numbers_from 0 (length costs.low)) ++ map (λ v. pos (slice_index costs.high v) -ℤ pos (slice_index costs.low v)) (numbers_from 0 (length costs.low))
+    map (λ v. pos 0) (numbers_from 0 (length costs.low))
+    ++ map (λ v. pos (slice_index costs.high v) -ℤ pos (slice_index costs.low v))
+    (numbers_from 0 (length costs.low))
 
 first_long : (costs : CostBox) → length (first_constants costs) ≡ length costs.low + length costs.low
 first_long costs =
     let n = length costs.low in
     length-append (map (λ v. pos 0) (numbers_from 0 n)) (map (λ v. pos (slice_index costs.high v) -ℤ pos (slice_index costs.low v)) (numbers_from 0 n))
-    ∙ ap (λ (k : ℕ). k + length (map (λ v. pos (slice_index costs.high v) -ℤ pos (slice_index costs.low v)) (numbers_from 0 n))) (length-mapped (λ v. pos 0) 0 n)
+    ∙ ap (λ (k : ℕ). k + length (map (λ v. pos (slice_index costs.high v) -ℤ pos (slice_index costs.low v))
+    (numbers_from 0 n))) (length-mapped (λ v. pos 0) 0 n)
     ∙ ap (λ (k : ℕ). n + k) (length-mapped (λ v. pos (slice_index costs.high v) -ℤ pos (slice_index costs.low v)) 0 n)
 
 -- they are the values of the box's forms there
@@ -52,23 +74,37 @@ values_first costs =
     let highs = map (high_member costs) (numbers_from 0 n) in
     ap (map at) (append-nil (lows ++ highs))
     ∙ map-append at lows highs
-    ∙ ap (λ zs. zs ++ map at highs) (map-map at (low_member costs) (numbers_from 0 n) ∙ mapped_same (λ v. at (low_member costs v)) (λ v. pos 0) 0 n (λ v from v_in. low_value costs.low [] v (omega (arith, v_in))))
-    ∙ ap (λ zs. map (λ v. pos 0) (numbers_from 0 n) ++ zs) (map-map at (high_member costs) (numbers_from 0 n) ∙ mapped_same (λ v. at (high_member costs v)) (λ v. pos (slice_index costs.high v) -ℤ pos (slice_index costs.low v)) 0 n (λ v from v_in. high_value costs.low [] v (slice_index costs.high v) (omega (arith, v_in))))
+    ∙ ap (λ zs. zs ++ map at highs) (map-map at (low_member costs) (numbers_from 0 n)
+    ∙ mapped_same (λ v. at (low_member costs v)) (λ v. pos 0) 0 n
+    (λ v from v_in. low_value costs.low [] v (omega (arith, v_in))))
+    ∙ ap (λ zs. map (λ v. pos 0) (numbers_from 0 n) ++ zs) (map-map at (high_member costs) (numbers_from 0 n)
+    ∙ mapped_same (λ v. at (high_member costs v))
+    (λ v. pos (slice_index costs.high v) -ℤ pos (slice_index costs.low v)) 0 n
+    (λ v from v_in. high_value costs.low [] v (slice_index costs.high v) (omega (arith, v_in))))
 
-first_at : (costs : CostBox) (rows : List Form) (place : ℕ) → rows ≡ [] → place < length (first_constants costs) → number_at (first_constants costs) place ≡ value (member_form (length costs.low) rows (slice_index_or (members_of costs (length rows)) place (Low 0 0))) costs.low
+first_at : (costs : CostBox) (rows : List Form) (place : ℕ) → rows ≡ [] → place < length (first_constants costs) →
+    number_at (first_constants costs) place
+    ≡ value (member_form (length costs.low) rows
+    (slice_index_or (members_of costs (length rows)) place (Low 0 0))) costs.low
 first_at costs rows place rows_are place_in =
     let n = length costs.low in
-    subst (λ (fs : List Form). number_at (first_constants costs) place ≡ value (member_form n fs (slice_index_or (members_of costs (length fs)) place (Low 0 0))) costs.low) (sym rows_are)
+    subst (λ (fs : List Form). number_at (first_constants costs) place
+    ≡ value (member_form n fs (slice_index_or (members_of costs (length fs)) place (Low 0 0))) costs.low)
+    (sym rows_are)
     (ap (λ zs. number_at zs place) (sym (values_first costs))
-    ∙ get_or-map (λ member. value (member_form n [] member) costs.low) (members_of costs 0) place (Low 0 0) (pos 0) (omega (arith, first_long costs, members_long costs 0, place_in)))
+    ∙ get_or-map (λ member. value (member_form n [] member) costs.low) (members_of costs 0) place (Low 0 0) (pos 0)
+    (omega (arith, first_long costs, members_long costs 0, place_in)))
 
 -- the numbers of x - low, by the units
-rows_by : (a m : ℕ) (f : ℕ → List ℤ) (more : List ℤ) → lows_by (map (λ v. pos 0) (numbers_from a m) ++ more) (map f (numbers_from a m)) ≡ map (λ v. pos 0 ∷ f v) (numbers_from a m)
+rows_by : (a m : ℕ) (f : ℕ → List ℤ) (more : List ℤ) →
+    lows_by (map (λ v. pos 0) (numbers_from a m) ++ more) (map f (numbers_from a m))
+    ≡ map (λ v. pos 0 ∷ f v) (numbers_from a m)
 rows_by a zero f more = refl
 rows_by a (suc m) f more = ap (λ rows. (pos 0 ∷ f a) ∷ rows) (rows_by (a + 1) m f more)
 
 -- the starting basis
-pub start_at_basis : (costs : CostBox) (rows : List Form) → IsBox (length costs.low) costs → All (FitsBox costs) rows → AreAtBasis costs rows (starting costs) 1 (start_rows (length costs.low) 0 (length costs.low))
+pub start_at_basis : (costs : CostBox) (rows : List Form) → IsBox (length costs.low) costs → All (FitsBox costs) rows →
+    AreAtBasis costs rows (starting costs) 1 (start_rows (length costs.low) 0 (length costs.low))
 start_at_basis costs rows box fit =
     let n = length costs.low in
     record {
@@ -114,9 +150,12 @@ starting_shaped k w room rows_are s =
     record {
       room = room;
       lows = ap length s.lows ∙ length-mapped (λ v. unit n v (pos 1)) 0 n;
-      each = subst (All (λ (row : List ℤ). length row ≡ n)) (sym s.lows) (all_mapped (λ (row : List ℤ). length row ≡ n) (λ v. unit n v (pos 1)) n (λ v v_in. length-mapped (λ j. cond (j == v) (pos 1) (pos 0)) 0 n));
+      each = subst (All (λ (row : List ℤ). length row ≡ n)) (sym s.lows)
+          (all_mapped (λ (row : List ℤ). length row ≡ n) (λ v. unit n v (pos 1)) n
+          (λ v v_in. length-mapped (λ j. cond (j == v) (pos 1) (pos 0)) 0 n));
       leads = ap length s.leads ∙ length-numbers_from 0 n;
-      lead = subst (λ (rows : List (List ℤ)). AreLeads rows k.leads.items) (sym s.lows) (subst (AreLeads (map (λ v. unit n v (pos 1)) (numbers_from 0 n))) (sym s.leads) (unit_leads n));
+      lead = subst (λ (rows : List (List ℤ)). AreLeads rows k.leads.items) (sym s.lows)
+          (subst (AreLeads (map (λ v. unit n v (pos 1)) (numbers_from 0 n))) (sym s.leads) (unit_leads n));
       constants = omega (arith, counted, many, none);
       uses = s.uses ∙ ap (λ (rows : List Form). uses_by rows n) (sym rows_are);
       line = s.line;
@@ -127,7 +166,8 @@ starting_shaped k w room rows_are s =
     }
   where
     line_wide : (i : ℕ) (d : List Fraction) → i < length k.table.lines.items → length (slice_index_or k.table.lines.items i d) ≡ suc (width_of k)
-    line_wide i d i_in = subst (λ (line : List Fraction). length line ≡ suc (width_of k)) (get_or_default k.table.lines.items i [] d i_in) (line_long k.table w i i_in)
+    line_wide i d i_in = subst (λ (line : List Fraction). length line ≡ suc (width_of k))
+        (get_or_default k.table.lines.items i [] d i_in) (line_long k.table w i i_in)
 
 starting_bounded : (k : Kernel) → 2 ^ 39 ≤ k.table.top → k.table.rows.items ≡ [] → IsStarting k k.table.costs → IsBounded k
 starting_bounded k top rows_are s =
@@ -146,7 +186,8 @@ starting_bounded k top rows_are s =
     }
 
 -- the kernel of a box without rows
-starting_is : (k : Kernel) → 2 ^ 39 ≤ k.table.top → IsWholeTable k.table → HasRoom k.table → k.table.rows.items ≡ [] → k.table.basis.items ≡ starting k.table.costs → IsStarting k k.table.costs → IsKernel k
+starting_is : (k : Kernel) → 2 ^ 39 ≤ k.table.top → IsWholeTable k.table → HasRoom k.table → k.table.rows.items ≡ [] →
+    k.table.basis.items ≡ starting k.table.costs → IsStarting k k.table.costs → IsKernel k
 starting_is k top w room rows_are basis_is s =
     let n = width_of k in
     let costs = k.table.costs in
@@ -172,7 +213,9 @@ starting_is k top w room rows_are basis_is s =
     ∙ ap (λ (D : ℕ). number_of D costs.low (start_rows n 0 n) f 0) (sym one)
     ∙ ap (λ lows. number_of (nat_abs k.common) costs.low lows f 0) (sym lows_are))
 
-pub started : (k : Kernel) (costs : CostBox) (top : ℕ) → held_of k.table Open ≡ record { top = top; costs = costs; rows = []; basis = starting costs; stage = Open } → IsSound k.table Open → IsStarting k costs → 2 ^ 39 ≤ top → IsKernel k
+pub started : (k : Kernel) (costs : CostBox) (top : ℕ) →
+    held_of k.table Open ≡ record { top = top; costs = costs; rows = []; basis = starting costs; stage = Open } →
+    IsSound k.table Open → IsStarting k costs → 2 ^ 39 ≤ top → IsKernel k
 started k costs top held sound s large =
     let costs_are : k.table.costs ≡ costs = ap (λ (h : Held). h.costs) held in
     starting_is k (subst (λ (m : ℕ). 2 ^ 39 ≤ m) (sym (ap (λ (h : Held). h.top) held)) large) (sound.whole tt) sound.room

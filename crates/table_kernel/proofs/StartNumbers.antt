@@ -5,12 +5,13 @@ use Rattle.std.proofs.lemmas.List.Elements.{All-append}
 use Rattle.cost_base.specs.Lists.{numbers_from}
 use Rattle.path_rows.specs.Basis.{unit}
 use Rattle.fraction_rows.proofs.Columns.{same_test, other_test}
-use Rattle.fraction_rows.proofs.Filled.{length-mapped, mapped_written}
-use Rattle.fraction_table.proofs.Starts.{all_mapped}
-use Rattle.table_kernel.specs.Numbers.{AllWithin}
+use Rattle.fraction_rows.proofs.FilledRows.{length-mapped, mapped_written}
+use Rattle.fraction_table.proofs.StartingTables.{all_mapped}
+use Rattle.integer_pivots.specs.Numbers.{AllWithin}
 
 -- zeros with a 1 at one place
-pub unit_written : (zeros new : List ℤ) (width v : ℕ) → v < width → zeros ≡ map (λ place. pos 0) (numbers_from 0 width) → new ≡ slice_set zeros v (pos 1) → new ≡ unit width v (pos 1)
+pub unit_written : (zeros new : List ℤ) (width v : ℕ) → v < width →
+    zeros ≡ map (λ place. pos 0) (numbers_from 0 width) → new ≡ slice_set zeros v (pos 1) → new ≡ unit width v (pos 1)
 unit_written zeros new width v v_in zeros_are new_is =
     new_is
     ∙ ap (λ zs. slice_set zs v (pos 1)) zeros_are

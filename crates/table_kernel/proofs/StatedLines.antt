@@ -3,11 +3,11 @@ use Rattle.std.proofs.Common.{◌≡◌, ℕ, suc, ◌<◌, refl, sym, ◌∙◌
 use Rattle.std.specs.Prelude.{ℤ, pos, nat_abs, slice_index_or}
 use Rattle.std.proofs.lemmas.List.{get_or-map, length-map}
 use Rattle.whole_numbers.specs.Fractions.{whole}
+use Rattle.whole_numbers.specs.Lists.{number_at}
 use Rattle.path_rows.specs.Basis.{entry}
 use Rattle.path_rows.specs.Steps.{IsStuck}
-use Rattle.fraction_rows.proofs.Filled.{length-mapped, mapped_at}
+use Rattle.fraction_rows.proofs.FilledRows.{length-mapped, mapped_at}
 use Rattle.fraction_table.specs.Pivots.{line_at}
-use Rattle.fraction_table.specs.Wholes.{number_at}
 use Rattle.fraction_table.proofs.Refuting.{IsStuckLine}
 use Rattle.table_kernel.specs.declared.kernel.Kernel.{Kernel}
 use Rattle.table_kernel.specs.Kernels.{IsKernel, IsMoving, stated, width_of}
@@ -17,21 +17,26 @@ use Rattle.table_kernel.proofs.AtBasis.{kernel_moves, stated_lines}
 use Rattle.table_kernel.proofs.Restated.{line_of_place, lines_many}
 
 -- the number of a place's form at a column
-pub line_number : (k : Kernel) (place column : ℕ) → column < width_of k → number_at (line_numbers k place) column ≡ number_in (form_in k place) (column_of k column)
+pub line_number : (k : Kernel) (place column : ℕ) → column < width_of k →
+    number_at (line_numbers k place) column ≡ number_in (form_in k place) (column_of k column)
 line_number k place column column_in =
     let number : ℕ → ℤ = λ c. number_in (form_in k place) (column_of k c) in
     mapped_at number 0 (width_of k) column (pos 0) column_in ∙ ap number (zero-add column)
 
-pub stated_line : (k : Kernel) → IsMoving k → (place : ℕ) → place < length k.constants.items → line_at (stated k) place ≡ map (over (nat_abs k.common)) (number_at k.constants.items place ∷ line_numbers k place)
+pub stated_line : (k : Kernel) → IsMoving k → (place : ℕ) → place < length k.constants.items →
+    line_at (stated k) place ≡ map (over (nat_abs k.common)) (number_at k.constants.items place ∷ line_numbers k place)
 stated_line k m place place_in =
     ap (λ lines. slice_index_or lines place []) (stated_lines k m.shaped)
     ∙ sym (line_of_place k m place place_in _ refl)
 
-pub stated_entry : (k : Kernel) → IsMoving k → (place column : ℕ) → place < length k.constants.items → column < width_of k → entry (line_at (stated k) place) (suc column) ≡ over (nat_abs k.common) (number_in (form_in k place) (column_of k column))
+pub stated_entry : (k : Kernel) → IsMoving k → (place column : ℕ) → place < length k.constants.items →
+    column < width_of k → entry (line_at (stated k) place) (suc column)
+    ≡ over (nat_abs k.common) (number_in (form_in k place) (column_of k column))
 stated_entry k m place column place_in column_in =
     let number : ℕ → ℤ = λ c. number_in (form_in k place) (column_of k c) in
     ap (λ line. entry line (suc column)) (stated_line k m place place_in)
-    ∙ get_or-map (over (nat_abs k.common)) (line_numbers k place) column (pos 0) (whole (pos 0)) (subst (λ (n : ℕ). column < n) (sym (length-mapped number 0 (width_of k))) column_in)
+    ∙ get_or-map (over (nat_abs k.common)) (line_numbers k place) column (pos 0) (whole (pos 0))
+    (subst (λ (n : ℕ). column < n) (sym (length-mapped number 0 (width_of k))) column_in)
     ∙ ap (over (nat_abs k.common)) (line_number k place column column_in)
 
 pub stated_long : (k : Kernel) → IsMoving k → (place : ℕ) → place < length k.constants.items → length (line_at (stated k) place) ≡ suc (width_of k)
@@ -45,7 +50,8 @@ pub stated_many : (k : Kernel) → IsMoving k → length (stated k).lines.items 
 stated_many k m = ap length (stated_lines k m.shaped) ∙ lines_many k m.shaped
 
 -- a place whose form is stuck is a line that is
-pub stated_stuck : (k : Kernel) (place : ℕ) → IsKernel k → place < length k.constants.items → IsStuck k.table.basis.items (line_at (stated k) place) → IsStuckLine (stated k) place
+pub stated_stuck : (k : Kernel) (place : ℕ) → IsKernel k → place < length k.constants.items →
+    IsStuck k.table.basis.items (line_at (stated k) place) → IsStuckLine (stated k) place
 stated_stuck k place m place_in stuck =
     record {
       whole = m.whole;

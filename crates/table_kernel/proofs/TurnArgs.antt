@@ -4,12 +4,13 @@ use Rattle.std.specs.Prelude.{ℤ, pos, nat_abs, ◌<ℤ◌, ◌≤ℤ◌, slice
 use Rattle.std.proofs.Math.Nat.{mul-le-mul_left, mul-le-mul_right}
 use Rattle.std.proofs.lemmas.Int.{ints}
 use Rattle.std.proofs.lemmas.List.{get_or_default}
-use Rattle.fraction_table.specs.Wholes.{number_at}
+use Rattle.whole_numbers.specs.Lists.{number_at}
+use Rattle.integer_pivots.specs.Numbers.{AllWithin}
+use Rattle.integer_pivots.specs.Turns.{AreSmallTurns}
+use Rattle.integer_pivots.proofs.Sizes.{read, read_number, wider}
+use Rattle.integer_pivots.proofs.Crossings.{item_is}
 use Rattle.table_kernel.specs.declared.kernel.Kernel.{Kernel}
-use Rattle.table_kernel.specs.Numbers.{AllWithin}
-use Rattle.table_kernel.specs.Turnings.{AreSmallTurns, IsReady}
-use Rattle.table_kernel.proofs.Sizes.{read_number, wider}
-use Rattle.table_kernel.proofs.Crossings.{item_is, read}
+use Rattle.table_kernel.specs.Turnings.{IsReady}
 
 pub along_number : (k : Kernel) → IsReady k → (var : ℕ) → var < length k.lows.items → nat_abs (number_at k.along.items var) ≤ 2 ^ 22
 along_number k r var var_in = r.along var (pos 0) (omega (arith, var_in, r.lows))
@@ -22,22 +23,30 @@ pub record IsRowRead (k : Kernel) (var : ℕ) (d w : ℤ) (across row : List ℤ
   pub row_is : row ≡ slice_index_or k.lows.items var []
   pub columns_is : columns ≡ k.left.items
 
-pub row_read : (k : Kernel) (var : ℕ) (d w : ℤ) (across row other : List ℤ) (columns : List ℕ) → IsReady k → var < length k.lows.items → d ≡ k.common → w ≡ slice_index_or k.along.items var w → across ≡ k.line.items → row ≡ slice_index_or k.lows.items var other → columns ≡ k.left.items → IsRowRead k var d (read w) across row columns
+pub row_read : (k : Kernel) (var : ℕ) (d w : ℤ) (across row other : List ℤ) (columns : List ℕ) → IsReady k →
+    var < length k.lows.items → d ≡ k.common → w ≡ slice_index_or k.along.items var w → across ≡ k.line.items →
+    row ≡ slice_index_or k.lows.items var other → columns ≡ k.left.items → IsRowRead k var d (read w) across row columns
 row_read k var d w across row other columns r var_in common_is w_is across_is row_is columns_is =
     record {
       common_is = common_is;
-      along_is = ap read (item_is k.along.items var w w_is (omega (arith, var_in, r.lows))) ∙ read_number (number_at k.along.items var) (omega (arith, along_number k r var var_in));
+      along_is = ap read (item_is k.along.items var w w_is (omega (arith, var_in, r.lows)))
+          ∙ read_number (number_at k.along.items var) (omega (arith, along_number k r var var_in));
       across_is = across_is;
       row_is = row_is ∙ get_or_default k.lows.items var other [] var_in;
       columns_is = columns_is;
     }
 
 -- what holds of the kernel's numbers holds of them as they are read, and the other way round
-pub row_to_read : (P : ℤ → ℤ → List ℤ → List ℤ → List ℕ → Type 0) (k : Kernel) (var : ℕ) (d w : ℤ) (across row : List ℤ) (columns : List ℕ) → IsRowRead k var d w across row columns → P k.common (number_at k.along.items var) k.line.items (slice_index_or k.lows.items var []) k.left.items → P d w across row columns
+pub row_to_read : (P : ℤ → ℤ → List ℤ → List ℤ → List ℕ → Type 0) (k : Kernel) (var : ℕ) (d w : ℤ) (across row : List ℤ)
+    (columns : List ℕ) → IsRowRead k var d w across row columns →
+    P k.common (number_at k.along.items var) k.line.items (slice_index_or k.lows.items var []) k.left.items →
+    P d w across row columns
 row_to_read P k var d w across row columns a holds =
     rw (a.common_is, a.along_is, a.across_is, a.row_is, a.columns_is) holds
 
-pub row_from_read : (P : ℤ → ℤ → List ℤ → List ℤ → List ℕ → Type 0) (k : Kernel) (var : ℕ) (d w : ℤ) (across row : List ℤ) (columns : List ℕ) → IsRowRead k var d w across row columns → P d w across row columns → P k.common (number_at k.along.items var) k.line.items (slice_index_or k.lows.items var []) k.left.items
+pub row_from_read : (P : ℤ → ℤ → List ℤ → List ℤ → List ℕ → Type 0) (k : Kernel) (var : ℕ) (d w : ℤ)
+    (across row : List ℤ) (columns : List ℕ) → IsRowRead k var d w across row columns → P d w across row columns →
+    P k.common (number_at k.along.items var) k.line.items (slice_index_or k.lows.items var []) k.left.items
 row_from_read P k var d w across row columns a holds =
     rw (sym a.common_is, sym a.along_is, sym a.across_is, sym a.row_is, sym a.columns_is) holds
 
@@ -56,7 +65,9 @@ weight_small k r = small k.reach k.weight r.reach r.product
     small reach weight some product = omega (arith, product, mul-le-mul_left (nat_abs weight) (let e : 1 ≤ nat_abs reach = omega (arith, ints, some) in e))
 
 -- the turns of a row of a kernel are small
-pub row_small : (k : Kernel) (p : ℤ) (var : ℕ) → IsReady k → (pos 0 <ℤ p) × (p ≤ℤ pos (2 ^ 22)) → var < length k.lows.items → AllWithin (nat_abs k.reach) (slice_index_or k.lows.items var []) → AreSmallTurns p k.common (number_at k.along.items var) k.line.items (slice_index_or k.lows.items var [])
+pub row_small : (k : Kernel) (p : ℤ) (var : ℕ) → IsReady k → (pos 0 <ℤ p) × (p ≤ℤ pos (2 ^ 22)) →
+    var < length k.lows.items → AllWithin (nat_abs k.reach) (slice_index_or k.lows.items var []) →
+    AreSmallTurns p k.common (number_at k.along.items var) k.line.items (slice_index_or k.lows.items var [])
 row_small k p var r p_small var_in row =
     record {
       count = r.each var [] var_in;

@@ -7,28 +7,30 @@ use Rattle.std.proofs.lemmas.List.{ext_get_or, get_or-map, length-map, length-se
 use Rattle.std.proofs.lemmas.List.Elements.{All-set}
 use Rattle.whole_numbers.proofs.FractionLaws.{cancel}
 use Rattle.whole_numbers.proofs.Ring.{var, ◌⊖◌, ◌⊗◌, ring}
+use Rattle.whole_numbers.specs.Lists.{number_at}
 use Rattle.path_rows.specs.declared.form.Form.{Form}
 use Rattle.path_rows.specs.declared.form.CostBox.{CostBox}
 use Rattle.path_rows.specs.declared.tree.Member.{Member}
 use Rattle.path_rows.specs.declared.tree.Member.TheVariants.{Low, High, Row}
 use Rattle.path_rows.specs.Basis.{IsFormOf, IsMixture, forms_of, member_form}
 use Rattle.path_rows.specs.Forms.{no_form}
-use Rattle.fraction_rows.proofs.Filled.{length-mapped}
+use Rattle.fraction_rows.proofs.FilledRows.{length-mapped}
 use Rattle.fraction_table.specs.Pivots.{IsLeast}
-use Rattle.fraction_table.specs.Wholes.{AllLong, low_forms, number_at, number_of, numbers_of}
+use Rattle.fraction_table.specs.Wholes.{AllLong, low_forms, number_of, numbers_of}
 use Rattle.fraction_table.proofs.theory.Blends.{form_mixture}
 use Rattle.fraction_table.proofs.theory.Pivot.{crossed, crossed_at, length-crossed, turned}
 use Rattle.fraction_table.proofs.theory.Resolved.{resolved}
 use Rattle.fraction_table.proofs.theory.TurnedLeads.{leads_turned}
 use Rattle.fraction_table.proofs.theory.TurnedNumbers.{IsEntry, elsewhere_turned, long_turned, mixtures_turned, numbers_at, numbers_long, own_turned}
 use Rattle.fraction_table.proofs.theory.Turns.{number_other, turned_rows}
+use Rattle.integer_pivots.specs.Turns.{IsTurned, IsTurnedRow, turn_of}
 use Rattle.table_kernel.specs.Numbers.{lows_by}
-use Rattle.table_kernel.specs.Turns.{IsTurned}
-use Rattle.table_kernel.specs.Turnings.{IsTurnedRow, turn_of}
 use Rattle.table_kernel.proofs.AtBasis.{AreAtBasis, number_up, scaled_by, scaled_down}
 
 -- a form of the box has a coefficient for each variable
-pub form_long : (costs : CostBox) (rows : List Form) (member : Member) → All (λ f. length f.coefficients ≡ length costs.low) rows → IsFormOf costs rows member → length (member_form (length costs.low) rows member).coefficients ≡ length costs.low
+pub form_long : (costs : CostBox) (rows : List Form) (member : Member) →
+    All (λ f. length f.coefficients ≡ length costs.low) rows → IsFormOf costs rows member →
+    length (member_form (length costs.low) rows member).coefficients ≡ length costs.low
 form_long costs rows (Low v bound) counts is = length-mapped _ 0 (length costs.low)
 form_long costs rows (High v bound) counts is = length-mapped _ 0 (length costs.low)
 form_long costs rows (Row row) counts is = counts row no_form is
@@ -47,7 +49,10 @@ abbrev pub entering_numbers : CostBox → List Form → ℕ → List (List ℤ) 
 entering_numbers costs rows D lows entering = numbers_of (length costs.low) D costs.low lows (member_form (length costs.low) rows entering)
 
 -- the basis after the pivot, with the numbers over the product of both denominators
-pub basis_turned : (costs : CostBox) (rows : List Form) (basis : List Member) (D : ℕ) (lows : List (List ℤ)) (entering : Member) (j a : ℕ) → AreAtBasis costs rows basis D lows → IsTurnOf costs rows D lows entering j a → AreAtBasis costs rows (slice_set basis j entering) (D * a) (turned_rows lows (entering_numbers costs rows D lows entering) (suc j) D)
+pub basis_turned : (costs : CostBox) (rows : List Form) (basis : List Member) (D : ℕ) (lows : List (List ℤ))
+    (entering : Member) (j a : ℕ) → AreAtBasis costs rows basis D lows → IsTurnOf costs rows D lows entering j a →
+    AreAtBasis costs rows (slice_set basis j entering) (D * a)
+    (turned_rows lows (entering_numbers costs rows D lows entering) (suc j) D)
 basis_turned costs rows basis D lows entering j a b p =
     let n = length costs.low in
     let f = member_form n rows entering in
@@ -75,17 +80,24 @@ basis_turned costs rows basis D lows entering j a b p =
       members = All-set (IsFormOf costs rows) basis j entering p.member b.members;
       positive = grind (arith, b.positive, p.positive);
       long = subst (λ (m : ℕ). AllLong m (turned_rows lows rs (suc j) D)) counted (long_turned D (suc j) rs lows long);
-      mixtures = rw forms_are (mixtures_turned D a bs j f rs (low_forms n 0 costs.low) lows (omega (arith, as_many, p.j_in)) (counted ∙ ap suc (sym as_many)) at_j mixture_is (subst (λ (m : ℕ). AllLong (suc m) lows) (sym as_many) b.long) b.mixtures);
+      mixtures = rw forms_are (mixtures_turned D a bs j f rs (low_forms n 0 costs.low) lows
+          (omega (arith, as_many, p.j_in)) (counted ∙ ap suc (sym as_many)) at_j mixture_is
+          (subst (λ (m : ℕ). AllLong (suc m) lows) (sym as_many) b.long) b.mixtures);
       own = rw forms_are (own_turned n D a costs.low lows bs f rs j entry_is as_many b.own b.elsewhere);
       elsewhere = rw forms_are (elsewhere_turned n D a costs.low lows bs f rs j entry_is as_many b.elsewhere);
-      lead = leads_turned n a D lows rs (slice_index_or bs j no_form).coefficients j counted long at_j p.positive b.positive p.j_in (b.own j p.j_in) (λ k k_in other. b.elsewhere j (suc k) p.j_in (omega (arith, k_in)) (next_apart other)) p.least b.lead;
+      lead = leads_turned n a D lows rs (slice_index_or bs j no_form).coefficients j counted long at_j p.positive
+          b.positive p.j_in (b.own j p.j_in)
+          (λ k k_in other. b.elsewhere j (suc k) p.j_in (omega (arith, k_in)) (next_apart other)) p.least b.lead;
     }
   where
     next_apart : {x y : ℕ} → x ≢ y → suc x ≢ suc y
     next_apart {x} {y} apart h = apart (omega (arith, h))
 
 -- and with numbers over the new one alone, of which the turned ones are multiples
-pub basis_after : (costs : CostBox) (rows : List Form) (basis : List Member) (D : ℕ) (lows news : List (List ℤ)) (entering : Member) (j a : ℕ) → AreAtBasis costs rows basis D lows → IsTurnOf costs rows D lows entering j a → turned_rows lows (entering_numbers costs rows D lows entering) (suc j) D ≡ map (scaled_by D) news → AreAtBasis costs rows (slice_set basis j entering) a news
+pub basis_after : (costs : CostBox) (rows : List Form) (basis : List Member) (D : ℕ) (lows news : List (List ℤ))
+    (entering : Member) (j a : ℕ) → AreAtBasis costs rows basis D lows → IsTurnOf costs rows D lows entering j a →
+    turned_rows lows (entering_numbers costs rows D lows entering) (suc j) D ≡ map (scaled_by D) news →
+    AreAtBasis costs rows (slice_set basis j entering) a news
 basis_after costs rows basis D lows news entering j a b p news_are =
     scaled_down costs rows (slice_set basis j entering) a D news p.positive b.positive
     (subst (λ (m : ℕ). AreAtBasis costs rows (slice_set basis j entering) m (map (scaled_by D) news)) (mul_comm D a)
@@ -93,7 +105,12 @@ basis_after costs rows basis D lows news entering j a b p news_are =
     (basis_turned costs rows basis D lows entering j a b p)))
 
 -- the constant of any form turns as the numbers do
-pub constant_after : (costs : CostBox) (rows : List Form) (basis : List Member) (D : ℕ) (lows news : List (List ℤ)) (entering : Member) (j a : ℕ) (f : Form) (z y r new : ℤ) → AreAtBasis costs rows basis D lows → IsTurnOf costs rows D lows entering j a → turned_rows lows (entering_numbers costs rows D lows entering) (suc j) D ≡ map (scaled_by D) news → z ≡ number_of D costs.low lows f 0 → y ≡ number_of D costs.low lows f (suc j) → r ≡ number_of D costs.low lows (member_form (length costs.low) rows entering) 0 → IsTurned (turn_of (pos a) (pos D) r) z y new → new ≡ number_of a costs.low news f 0
+pub constant_after : (costs : CostBox) (rows : List Form) (basis : List Member) (D : ℕ) (lows news : List (List ℤ))
+    (entering : Member) (j a : ℕ) (f : Form) (z y r new : ℤ) → AreAtBasis costs rows basis D lows →
+    IsTurnOf costs rows D lows entering j a → turned_rows lows (entering_numbers costs rows D lows entering) (suc j) D
+    ≡ map (scaled_by D) news → z ≡ number_of D costs.low lows f 0 → y ≡ number_of D costs.low lows f (suc j) →
+    r ≡ number_of D costs.low lows (member_form (length costs.low) rows entering) 0 →
+    IsTurned (turn_of (pos a) (pos D) r) z y new → new ≡ number_of a costs.low news f 0
 constant_after costs rows basis D lows news entering j a f z y r new b p news_are z_is y_is r_is is =
     let n = length costs.low in
     let g = member_form n rows entering in
@@ -123,7 +140,9 @@ pub record IsTurnedEntry (D a j : ℕ) (r : ℤ) (line : List ℤ) (z new : ℤ)
   pub constant : IsTurned (turn_of (pos a) (pos D) r) z (number_at row j) new
 
 -- that is a row of the turned table over the old denominator
-row_turned : (D a j : ℕ) (r : ℤ) (line : List ℤ) (z new : ℤ) (row after : List ℤ) → j < length line → number_at line j ≡ pos a → IsTurnedEntry D a j r line z new row after → turned (z ∷ row) (r ∷ line) (suc j) D ≡ scaled_by D (new ∷ after)
+row_turned : (D a j : ℕ) (r : ℤ) (line : List ℤ) (z new : ℤ) (row after : List ℤ) → j < length line →
+    number_at line j ≡ pos a → IsTurnedEntry D a j r line z new row after →
+    turned (z ∷ row) (r ∷ line) (suc j) D ≡ scaled_by D (new ∷ after)
 row_turned D a j r line z new row after j_in at_j e =
     let y = number_at row j in
     let xs = crossed (number_at line j) y row line in
@@ -142,7 +161,9 @@ row_turned D a j r line z new row after j_in at_j e =
     there : (c : ℕ) → c < length after → number_at (scaled_by D after) c ≡ (number_at after c *ℤ pos D)
     there c c_in = get_or-map (λ x. x *ℤ pos D) after c (pos 0) (pos 0) c_in
 
-    here : (xs : List ℤ) → length xs ≡ length row → (c : ℕ) → c < length line → number_at (slice_set (crossed (number_at line j) (number_at row j) row line) j (number_at row j *ℤ pos D)) c ≡ number_at (scaled_by D after) c
+    here : (xs : List ℤ) → length xs ≡ length row → (c : ℕ) → c < length line →
+        number_at (slice_set (crossed (number_at line j) (number_at row j) row line) j (number_at row j *ℤ pos D)) c
+        ≡ number_at (scaled_by D after) c
     here xs xs_long c c_in =
         let ys = crossed (number_at line j) (number_at row j) row line in
         let ys_long : length ys ≡ length row = length-crossed (number_at line j) (number_at row j) row line e.long in
@@ -156,13 +177,19 @@ row_turned D a j r line z new row after j_in at_j e =
               get_or-set_other ys j c (number_at row j *ℤ pos D) (pos 0) other
               ∙ crossed_at (number_at line j) (number_at row j) row line c e.long (omega (arith, e.long, c_in))
               ∙ ap (λ x. (number_at row c *ℤ x) -ℤ (number_at row j *ℤ number_at line c)) at_j
-              ∙ ring (pos a ∷ number_at row c ∷ number_at row j ∷ number_at line c ∷ []) ((var 1 ⊗ var 0) ⊖ (var 2 ⊗ var 3)) ((var 0 ⊗ var 1) ⊖ (var 2 ⊗ var 3)) refl
+              ∙ ring (pos a ∷ number_at row c ∷ number_at row j ∷ number_at line c ∷ [])
+              ((var 1 ⊗ var 0) ⊖ (var 2 ⊗ var 3)) ((var 0 ⊗ var 1) ⊖ (var 2 ⊗ var 3)) refl
               ∙ sym (e.turn.others c c_in other)
               ∙ sym (there c (omega (arith, e.turn.count, e.long, c_in)))
         ]
 
 -- and so are all rows
-pub rows_turned : (D a j : ℕ) (r : ℤ) (line cs ds : List ℤ) (olds news : List (List ℤ)) → j < length line → number_at line j ≡ pos a → length news ≡ length olds → length olds ≤ length cs → length ds ≡ length cs → ((v : ℕ) → v < length olds → IsTurnedEntry D a j r line (number_at cs v) (number_at ds v) (slice_index_or olds v []) (slice_index_or news v [])) → turned_rows (lows_by cs olds) (r ∷ line) (suc j) D ≡ map (scaled_by D) (lows_by ds news)
+pub rows_turned : (D a j : ℕ) (r : ℤ) (line cs ds : List ℤ) (olds news : List (List ℤ)) → j < length line →
+    number_at line j ≡ pos a → length news ≡ length olds → length olds ≤ length cs → length ds ≡ length cs →
+    ((v : ℕ) → v < length olds →
+    IsTurnedEntry D a j r line (number_at cs v) (number_at ds v) (slice_index_or olds v [])
+    (slice_index_or news v [])) →
+    turned_rows (lows_by cs olds) (r ∷ line) (suc j) D ≡ map (scaled_by D) (lows_by ds news)
 rows_turned D a j r line cs ds [] [] j_in at_j same few as_many each = refl
 rows_turned D a j r line cs ds [] (after ∷ news) j_in at_j same few as_many each = absurd (omega (arith, same))
 rows_turned D a j r line cs ds (row ∷ olds) [] j_in at_j same few as_many each = absurd (omega (arith, same))
@@ -171,4 +198,5 @@ rows_turned D a j r line (z ∷ cs) [] (row ∷ olds) (after ∷ news) j_in at_j
 rows_turned D a j r line (z ∷ cs) (new ∷ ds) (row ∷ olds) (after ∷ news) j_in at_j same few as_many each =
     ap (λ ts. ts ∷ turned_rows (lows_by cs olds) (r ∷ line) (suc j) D) (row_turned D a j r line z new row after j_in at_j (each 0 (omega arith)))
     ∙ ap (λ rows. scaled_by D (new ∷ after) ∷ rows)
-    (rows_turned D a j r line cs ds olds news j_in at_j (omega (arith, same)) (omega (arith, few)) (omega (arith, as_many)) (λ v v_in. each (suc v) (omega (arith, v_in))))
+    (rows_turned D a j r line cs ds olds news j_in at_j (omega (arith, same)) (omega (arith, few))
+    (omega (arith, as_many)) (λ v v_in. each (suc v) (omega (arith, v_in))))

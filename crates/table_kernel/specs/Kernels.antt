@@ -2,15 +2,16 @@
 use Rattle.std.specs.Prelude.{◌≡◌, ℕ, suc, ◌*◌, ◌^◌, ◌<◌, ◌≤◌, List, ℤ, pos, ◌<ℤ◌, ◌≤ℤ◌, nat_abs, length, vec_capacity, All}
 use Rattle.std.specs.Vec.{with_items}
 use Rattle.whole_numbers.specs.Fractions.{Fraction}
-use Rattle.path_rows.specs.declared.form.Form.{Form}
+use Rattle.whole_numbers.specs.Lists.{number_at}
 use Rattle.path_rows.specs.Basis.{member_form}
 use Rattle.fraction_table.specs.declared.table.Table.{Table}
-use Rattle.fraction_table.specs.Wholes.{HasRoom, IsUnboxedTable, IsWholeTable, members_of, number_at, number_of}
+use Rattle.fraction_table.specs.Wholes.{HasRoom, IsUnboxedTable, IsWholeTable, members_of, number_of}
 use Rattle.fraction_table.specs.Pivots.{member_at}
+use Rattle.integer_pivots.specs.Leads.{AreLeads}
+use Rattle.integer_pivots.specs.Numbers.{AllWithin, weight_of}
+use Rattle.integer_pivots.specs.Uses.{held_in, uses_by}
 use Rattle.table_kernel.specs.declared.kernel.Kernel.{Kernel}
-use Rattle.table_kernel.specs.Leads.{AreLeads}
-use Rattle.table_kernel.specs.Numbers.{AllWithin, fraction_lines, lows_by, weight_of}
-use Rattle.table_kernel.specs.Uses.{held_in, uses_by}
+use Rattle.table_kernel.specs.Numbers.{fraction_lines, lows_by}
 
 -- how many variables the box has
 abbrev pub width_of : Kernel → ℕ
@@ -26,7 +27,15 @@ lines_of k = fraction_lines (nat_abs k.common) k.table.costs k.table.rows.items 
 
 -- the table in fractions that the kernel stands for
 abbrev pub stated : Kernel → Table
-stated k = record { top = k.table.top; costs = k.table.costs; rows = k.table.rows; basis = k.table.basis; lines = with_items k.table.lines (lines_of k); quotients = k.table.quotients; scratch = k.table.scratch }
+stated k = record {
+  top = k.table.top;
+  costs = k.table.costs;
+  rows = k.table.rows;
+  basis = k.table.basis;
+  lines = with_items k.table.lines (lines_of k);
+  quotients = k.table.quotients;
+  scratch = k.table.scratch;
+}
 
 -- how long the lists of a kernel are, where its columns lead, and that its uses are those of its rows
 pub record IsShaped (k : Kernel) : Type 0 where
@@ -59,7 +68,9 @@ pub record IsBounded (k : Kernel) : Type 0 where
 pub record AreNumbers (k : Kernel) (u : IsUnboxedTable (stated k)) : Type 0 where
   pub common : pos u.common ≡ k.common
   pub lows : u.lows ≡ lows_of k
-  pub constants : (place : ℕ) → place < length k.constants.items → number_at k.constants.items place ≡ number_of u.common k.table.costs.low u.lows (member_form (width_of k) k.table.rows.items (member_at k.table place)) 0
+  pub constants : (place : ℕ) → place < length k.constants.items →
+      number_at k.constants.items place ≡ number_of u.common k.table.costs.low u.lows
+      (member_form (width_of k) k.table.rows.items (member_at k.table place)) 0
 
 -- a kernel while its bounds move: the ranges may be empty
 pub record IsMoving (k : Kernel) : Type 0 where

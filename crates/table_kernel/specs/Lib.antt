@@ -1,7 +1,4 @@
 pub mod Numbers
-pub mod Leads
-pub mod Uses
-pub mod Reciprocals
 pub mod Kernels
 pub mod Turns
 pub mod Moves

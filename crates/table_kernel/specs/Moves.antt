@@ -1,10 +1,10 @@
--- What a bound that moves makes of a kernel.
+-- What a bound that moves makes of a kernel. No public clause cites it.
 use Rattle.std.specs.Prelude.{◌≡◌, ℕ, ◌≤◌, List, ℤ, pos, ◌-ℤ◌, ◌*ℤ◌, Option, None, Some, length, slice_set, vec_capacity}
+use Rattle.whole_numbers.specs.Lists.{number_at}
 use Rattle.path_rows.specs.declared.tree.Member.{Member}
 use Rattle.fraction_table.specs.Moves.{IsColumnOf, put_at}
-use Rattle.fraction_table.specs.Wholes.{number_at}
+use Rattle.integer_pivots.specs.Numbers.{more_sums}
 use Rattle.table_kernel.specs.declared.kernel.Kernel.{Kernel}
-use Rattle.table_kernel.specs.Numbers.{more_sums}
 use Rattle.table_kernel.specs.Turns.{along_numbers}
 
 -- The constants after a bound's form fell: its own is less by that many times the denominator, where it isn't in the

@@ -1,5 +1,5 @@
--- A kernel whose table's lines are put.
-use Rattle.std.specs.Prelude.{◌≡◌, ℕ, ◌≤◌, length, vec_capacity}
+-- A kernel whose table's lines are put. No public clause cites it.
+use Rattle.std.specs.Prelude.{◌≡◌, ◌≤◌, length, vec_capacity}
 use Rattle.fraction_table.specs.Moves.{KeepsAllButLines}
 use Rattle.fraction_table.specs.RowLines.{HasPlace}
 use Rattle.table_kernel.specs.declared.kernel.Kernel.{Kernel}

@@ -1,69 +1,12 @@
 -- How the numbers of a kernel turn at a pivot, and how large they are.
-use Rattle.std.specs.Prelude.{◌≡◌, ◌≢◌, ℕ, ◌+◌, ◌*◌, ◌/◌, ◌^◌, ◌<◌, ◌≤◌, ◌⊎◌, List, [], ℤ, pos, ◌<ℤ◌, ◌≤ℤ◌, nat_abs, Some, length, slice_index_or, All}
-use Rattle.fraction_table.specs.Wholes.{number_at}
+use Rattle.std.specs.Prelude.{◌≡◌, ℕ, ◌*◌, ◌^◌, ◌<◌, ◌≤◌, [], ℤ, pos, ◌<ℤ◌, ◌≤ℤ◌, nat_abs, Some, length, slice_index_or, All}
+use Rattle.whole_numbers.specs.Lists.{number_at}
+use Rattle.integer_pivots.specs.declared.turn.Turn.{Turn}
+use Rattle.integer_pivots.specs.Leads.{AreLeads}
+use Rattle.integer_pivots.specs.Numbers.{AllWithin, greatest_of}
+use Rattle.integer_pivots.specs.Turns.{AreTouched, AreWholeTurns, IsTurned, IsTurnedRow, IsWholeTurn, size_after, turn_of}
 use Rattle.table_kernel.specs.declared.kernel.Kernel.{Kernel}
-use Rattle.table_kernel.specs.declared.turn.Turn.{Turn}
-use Rattle.table_kernel.specs.Leads.{AreLeads}
-use Rattle.table_kernel.specs.Numbers.{AllWithin, greatest_of}
-use Rattle.table_kernel.specs.Turns.{IsBestOf, IsFoundNegative, IsTurned, along_numbers, line_numbers}
-
--- what turns a number with this one across
-abbrev pub turn_of : ℤ → ℤ → ℤ → Turn
-turn_of pivot common across = record { pivot = pivot; across = across; common = common }
-
--- the number turns into a whole one
-abbrev pub IsWholeTurn : Turn → ℤ → ℤ → Type 0
-IsWholeTurn turn number along = (new : ℤ) × IsTurned turn number along new
-
--- the numbers turn into whole ones, each with its own number across
-abbrev pub AreWholeTurns : ℤ → ℤ → ℤ → List ℤ → List ℤ → Type 0
-AreWholeTurns pivot common along across numbers =
-    (column : ℕ) → column < length across → IsWholeTurn (turn_of pivot common (number_at across column)) (number_at numbers column) along
-
--- the numbers have turned
-abbrev pub AreTurned : ℤ → ℤ → ℤ → List ℤ → List ℤ → List ℤ → Type 0
-AreTurned pivot common along across olds news =
-    (column : ℕ) → column < length across → IsTurned (turn_of pivot common (number_at across column)) (number_at olds column) along (number_at news column)
-
--- no number that the turn of these makes is greater in size
-abbrev pub AreTurnedWithin : ℤ → ℤ → ℤ → List ℤ → List ℤ → ℕ → Type 0
-AreTurnedWithin pivot common along across numbers most =
-    (column : ℕ) → column < length across → (new : ℤ) → IsTurned (turn_of pivot common (number_at across column)) (number_at numbers column) along new → nat_abs new ≤ most
-
--- the turn leaves every number as it is, whatever stands along with it
-abbrev pub LeavesAll : Turn → Type 0
-LeavesAll turn = (number along : ℤ) → IsTurned turn number along number
-
--- the column is one of these
-abbrev pub IsAmong : ℕ → List ℕ → Type 0
-IsAmong column columns = (place : ℕ) × (place < length columns) × (slice_index_or columns place 0 ≡ column)
-
--- columns before a bound, in rising order: the turn leaves all numbers of each other one before it as they are
-pub record AreTouched (pivot common : ℤ) (line : List ℤ) (bound : ℕ) (columns : List ℕ) : Type 0 where
-  pub before : (place : ℕ) → place < length columns → slice_index_or columns place 0 < bound
-  pub rises : (first second : ℕ) → first < second → second < length columns → slice_index_or columns first 0 < slice_index_or columns second 0
-  pub others : (column : ℕ) → column < bound → IsAmong column columns ⊎ LeavesAll (turn_of pivot common (number_at line column))
-
--- the numbers of a variable have turned, and at the pivot's column is the one that stood along
-pub record IsTurnedRow (pivot common along : ℤ) (own : ℕ) (across olds news : List ℤ) : Type 0 where
-  pub count : length news ≡ length olds
-  pub at_own : number_at news own ≡ along
-  pub others : (column : ℕ) → column < length across → column ≢ own → IsTurned (turn_of pivot common (number_at across column)) (number_at olds column) along (number_at news column)
-
--- the rows have turned at a pivot with a column
-pub record AreTurnedRows (pivot common : ℤ) (column : ℕ) (line : List ℤ) (olds news : List (List ℤ)) : Type 0 where
-  pub positive : (pos 0 <ℤ pivot) × (pos 0 <ℤ common)
-  pub count : length news ≡ length olds
-  pub each : (v : ℕ) → v < length olds → IsTurnedRow pivot common (number_at (slice_index_or olds v []) column) column line (slice_index_or olds v []) (slice_index_or news v [])
-
--- no step of a row's turn is wide
-pub record AreSmallTurns (pivot common along : ℤ) (across numbers : List ℤ) : Type 0 where
-  pub count : length numbers ≡ length across
-  pub pivot_small : (pos 0 <ℤ pivot) × (pivot ≤ℤ pos (2 ^ 22))
-  pub common_small : (pos 0 <ℤ common) × (common ≤ℤ pos (2 ^ 22))
-  pub along_small : nat_abs along ≤ 2 ^ 22
-  pub across_small : AllWithin (2 ^ 22) across
-  pub numbers_small : AllWithin (2 ^ 39) numbers
+use Rattle.table_kernel.specs.Turns.{IsBestOf, IsFoundNegative, along_numbers, line_numbers}
 
 -- what the turn of a kernel needs of its numbers
 pub record IsReady (k : Kernel) : Type 0 where
@@ -82,10 +25,6 @@ pub record IsReady (k : Kernel) : Type 0 where
 -- the columns of which the numbers may change in a turn stand in `left`
 abbrev pub AreTouchedBy : Kernel → ℤ → Type 0
 AreTouchedBy k pivot = AreTouched pivot k.common k.line.items (length k.line.items) k.left.items
-
--- how large a whole number can be after a turn where the one before it, the one along and the one across have these sizes
-abbrev pub size_after : ℤ → ℤ → ℕ → ℕ → ℕ → ℕ
-size_after pivot common number along across = (nat_abs pivot * number + along * across) / nat_abs common
 
 -- the numbers of all forms at the columns stay within the limit after a turn, by the greatest sizes along and across
 abbrev pub LowsStay : Kernel → ℤ → ℕ → ℕ → Type 0
@@ -134,12 +73,15 @@ pub record KeepsOthers (old new : Kernel) : Type 0 where
 -- the numbers of a variable have turned in the kernel
 abbrev pub IsTurnedAt : Kernel → Kernel → ℤ → ℕ → ℕ → Type 0
 IsTurnedAt old new pivot own var =
-    IsTurnedRow pivot old.common (number_at old.along.items var) own old.line.items (slice_index_or old.lows.items var []) (slice_index_or new.lows.items var [])
+    IsTurnedRow pivot old.common (number_at old.along.items var) own old.line.items
+    (slice_index_or old.lows.items var []) (slice_index_or new.lows.items var [])
 
 -- the constants have turned
 abbrev pub ConstantsAreTurned : Kernel → Kernel → Turn → Type 0
 ConstantsAreTurned old new turn =
-    (place : ℕ) → place < length old.constants.items → IsTurned turn (number_at old.constants.items place) (number_at old.along.items place) (number_at new.constants.items place)
+    (place : ℕ) → place < length old.constants.items →
+    IsTurned turn (number_at old.constants.items place) (number_at old.along.items place)
+    (number_at new.constants.items place)
 
 -- what a turn of the constants leaves as it is
 pub record KeepsLows (old new : Kernel) : Type 0 where
@@ -178,7 +120,9 @@ pub record HasTurned (old new : Kernel) (place column : ℕ) : Type 0 where
   pub constants_count : length new.constants.items ≡ length old.constants.items
   pub lows : (var : ℕ) → var < length old.lows.items → IsTurnedAt old new (number_at old.line.items column) column var
   pub leads : AreLeads old.lows.items old.leads.items → AreLeads new.lows.items new.leads.items
-  pub constants : (p : ℕ) → p < length old.constants.items → IsTurned (turn_of (number_at old.line.items column) old.common (number_at old.constants.items place)) (number_at old.constants.items p) (number_at old.along.items p) (number_at new.constants.items p)
+  pub constants : (p : ℕ) → p < length old.constants.items →
+      IsTurned (turn_of (number_at old.line.items column) old.common (number_at old.constants.items place))
+      (number_at old.constants.items p) (number_at old.along.items p) (number_at new.constants.items p)
 
 -- what turns the numbers at a pivot: the line's number at the column, and the constant of the place
 abbrev pub turn_at : Kernel → ℕ → ℕ → Turn

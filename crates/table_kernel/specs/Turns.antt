@@ -1,18 +1,19 @@
 -- What the work on a kernel needs and leaves: its room, the choice of a column, a turn, a row more, and another box.
-use Rattle.std.specs.Prelude.{◌≡◌, ◌≢◌, Bool, true, false, ℕ, zero, suc, ◌+◌, ◌*◌, ◌^◌, ◌<◌, ◌≤◌, List, [], ◌∷◌, ℤ, pos, ◌-ℤ◌, ◌*ℤ◌, ◌+ℤ◌, ◌<ℤ◌, ◌≤ℤ◌, nat_abs, Option, None, Some, map, length, slice_index_or, vec_capacity, vec_len, All}
+use Rattle.std.specs.Prelude.{◌≡◌, ◌≢◌, ℕ, ◌+◌, ◌*◌, ◌^◌, ◌<◌, ◌≤◌, List, [], ◌∷◌, ℤ, pos, ◌-ℤ◌, ◌*ℤ◌, ◌+ℤ◌, ◌<ℤ◌, ◌≤ℤ◌, nat_abs, Option, None, Some, map, length, vec_capacity, vec_len, All}
 use Rattle.cost_base.specs.Lists.{numbers_from}
+use Rattle.whole_numbers.specs.Lists.{number_at}
 use Rattle.path_rows.specs.declared.form.CostBox.{CostBox}
 use Rattle.path_rows.specs.declared.form.Form.{Form}
 use Rattle.path_rows.specs.Basis.{member_form}
 use Rattle.path_rows.specs.Forms.{value}
 use Rattle.fraction_table.specs.Pivots.{LeadsNoNegative, member_at, turned_column}
 use Rattle.fraction_table.specs.RowLines.{HasPlace}
-use Rattle.fraction_table.specs.Wholes.{members_of, number_at}
+use Rattle.fraction_table.specs.Wholes.{members_of}
+use Rattle.integer_pivots.specs.Numbers.{AllWithin, product_sum, weight_of}
+use Rattle.integer_pivots.specs.Uses.{HaveRoom, held_in}
 use Rattle.table_kernel.specs.declared.kernel.Kernel.{Kernel}
-use Rattle.table_kernel.specs.declared.turn.Turn.{Turn}
-use Rattle.table_kernel.specs.Numbers.{AllWithin, number_in, product_sum, weight_of}
+use Rattle.table_kernel.specs.Numbers.{number_in}
 use Rattle.table_kernel.specs.Kernels.{width_of}
-use Rattle.table_kernel.specs.Uses.{HaveRoom, held_in}
 
 -- the kernels differ in their room alone
 pub record KeepsNumbers (old new : Kernel) : Type 0 where
@@ -54,27 +55,14 @@ IsNotAfter k first second =
 abbrev pub IsBestOf : Kernel → Option ℕ → Type 0
 IsBestOf k None = (c : ℕ) → c < width_of k → number_at k.line.items c ≤ℤ pos 0
 IsBestOf k (Some best) =
-    (best < width_of k) × (pos 0 <ℤ number_at k.line.items best) × ((c : ℕ) → c < width_of k → c ≢ best → pos 0 <ℤ number_at k.line.items c → IsNotAfter k best c)
+    (best < width_of k) × (pos 0 <ℤ number_at k.line.items best)
+    × ((c : ℕ) → c < width_of k → c ≢ best → pos 0 <ℤ number_at k.line.items c → IsNotAfter k best c)
 
 -- what a search for the first negative constant finds
 abbrev pub IsFoundNegative : Kernel → Option ℕ → Type 0
 IsFoundNegative k None = All (λ z. pos 0 ≤ℤ z) k.constants.items
 IsFoundNegative k (Some place) =
     (place < length k.constants.items) × (number_at k.constants.items place <ℤ pos 0) × ((p : ℕ) → p < place → pos 0 ≤ℤ number_at k.constants.items p)
-
--- the pivot's number times a number, less what stands along with it times what stands across
-abbrev pub crossed : Turn → ℤ → ℤ → ℤ
-crossed turn number along = (turn.pivot *ℤ number) -ℤ (along *ℤ turn.across)
-
--- the number after the pivot: that over the old denominator
-abbrev pub IsTurned : Turn → ℤ → ℤ → ℤ → Type 0
-IsTurned turn number along new = (new *ℤ turn.common) ≡ crossed turn number along
-
--- no step of a turn is wide
-pub record IsSmallTurn (turn : Turn) : Type 0 where
-  pub pivot : (pos 0 <ℤ turn.pivot) × (turn.pivot ≤ℤ pos (2 ^ 22))
-  pub across : nat_abs turn.across ≤ 2 ^ 39
-  pub common : (pos 0 <ℤ turn.common) × (turn.common ≤ℤ pos (2 ^ 22))
 
 -- a form's constant at the basis, by those of x - low
 abbrev pub row_constant_of : Kernel → Form → ℤ

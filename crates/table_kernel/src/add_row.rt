@@ -6,15 +6,14 @@ ghost use Rattle.fraction_table.specs.RowLines.{HoldsSame};
 ghost use Rattle.fraction_table.specs.Tableaus.{FitsBox};
 ghost use Rattle.fraction_table.specs.Wholes.{held_of};
 ghost use Rattle.fraction_table.specs.declared.stage.Stage.TheVariants.{Open};
+ghost use Rattle.integer_pivots.specs.Numbers.{AllWithin, product_sum, weight_of};
 ghost use Rattle.table_kernel.specs.Kernels.{IsKernel, width_of};
-ghost use Rattle.table_kernel.specs.Numbers.{AllWithin, product_sum, weight_of};
 ghost use Rattle.table_kernel.specs.Turns.{HasRowPlace, HoldsNumbers, IsCovered, row_constant_of};
 
 use crate::Kernel;
-use crate::bounds::{CONSTANT_LIMIT, ENTRY_LIMIT, within};
-use crate::uses::{push_uses, reserve_uses};
 use cost_base::OutOfMemory;
 use fraction_table::{BlankRow, corner_value};
+use integer_pivots::{CONSTANT_LIMIT, ENTRY_LIMIT, push_uses, reserve_uses, within};
 use path_rows::Form;
 use std::alloc::Global;
 
@@ -144,7 +143,14 @@ impl Kernel {
         requires covered { IsCovered self.old row.form }
         requires blank { row.line ≡ nothing ∷ map (λ column. nothing) (numbers_from 0 (width_of self.old)) }
         ensures kernel { IsKernel self.new }
-        ensures held { held_of self.new.table Open ≡ record { top = self.old.table.top; costs = self.old.table.costs; rows = self.old.table.rows.items ++ row.form ∷ []; basis = self.old.table.basis.items; stage = Open } }
+        ensures held { held_of self.new.table Open ≡
+            record {
+              top = self.old.table.top;
+              costs = self.old.table.costs;
+              rows = self.old.table.rows.items ++ row.form ∷ [];
+              basis = self.old.table.basis.items;
+              stage = Open;
+            } }
     {
         let constant = self.row_constant(&row.form);
         let weight = form_weight(&row.form);

@@ -1,9 +1,9 @@
 //! The corner of a solved kernel, as a point.
 ghost use Rattle.std.specs.Prelude.{◌≡◌, ℕ, ◌^◌, ◌+◌, ◌*◌, ◌/◌, ◌<◌, ◌≤◌, pos, ◌≤ℤ◌, nat_abs, length, slice_index, All};
 ghost use Prim.Native.Nat.{◌∣◌};
+ghost use Rattle.whole_numbers.specs.Lists.{number_at};
 ghost use Rattle.path_rows.specs.Earnest.{IsLeast};
-ghost use Rattle.fraction_table.specs.Tableaus.{MeetsRows};
-ghost use Rattle.fraction_table.specs.Wholes.{number_at};
+ghost use Rattle.path_rows.specs.Forms.{AreMet};
 ghost use Rattle.table_kernel.specs.Kernels.{IsKernel, width_of};
 
 use crate::Kernel;
@@ -50,7 +50,8 @@ impl Kernel {
         requires scale { scale ≤ 2 ^ 22 }
         requires places { length into.old ≡ width_of self.now }
         ensures places { length into.new ≡ width_of self.now }
-        ensures values { (var : ℕ) → var < width_of self.now → slice_index into.new var ≡ slice_index self.now.table.costs.low var * scale + nat_abs (number_at self.now.constants.items var) / divisor }
+        ensures values { (var : ℕ) → var < width_of self.now →
+            slice_index into.new var ≡ slice_index self.now.table.costs.low var * scale + nat_abs (number_at self.now.constants.items var) / divisor }
     {
         let low = self.table.costs.low.as_slice();
         for var in 0..low.len() {
@@ -64,7 +65,7 @@ impl Kernel {
         requires kernel { IsKernel self.now }
         requires high { All (λ z. pos 0 ≤ℤ z) self.now.constants.items }
         requires places { length into.old.values ≡ width_of self.now }
-        ensures least { IsLeast (MeetsRows self.now.table.rows.items) self.now.table.costs into.new }
+        ensures least { IsLeast (AreMet self.now.table.rows.items) self.now.table.costs into.new }
         ensures small { into.new.scale < 2 ^ 100 }
     {
         let divisor = self.common_divisor();

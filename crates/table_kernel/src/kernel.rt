@@ -1,15 +1,20 @@
 //! The kernel of a table.
 ghost use Rattle.std.specs.Prelude.{◌≡◌, length};
 
-use crate::uses::Use;
 use cost_base::Listed;
 use fraction_table::Table;
+use integer_pivots::Use;
+
+/// A step might leave the kernel's bounds.
+#[derive(Clone, Copy, Debug, PartialEq, Eq)]
+pub struct OutOfRange;
 
 /// A table at a basis in whole numbers over one denominator: the numbers of x - low of each variable at the columns of
 /// the basis, and the constant of each form. The box, the rows and the basis are those of `table`, whose lines are room
 /// for the table in fractions.
 #[derive(Drop)]
 pub struct Kernel {
+    /// The box, the rows and the basis, with room for lines of fractions.
     pub table: Table,
     /// What all numbers stand over.
     pub common: i64,

@@ -6,21 +6,16 @@
 #![tactic(auto)]
 
 mod add_row;
-mod bounds;
 mod choice;
 mod corner;
 mod kernel;
-mod leads;
 mod line;
 mod moves;
 mod multipliers;
-mod reciprocal;
 mod restate;
 mod settle;
 mod start;
 mod turn;
-mod uses;
 
-pub use bounds::OutOfRange;
-pub use kernel::Kernel;
+pub use kernel::{Kernel, OutOfRange};
 pub use start::starting_kernel;

@@ -1,30 +1,18 @@
 //! The numbers of one form at all columns, and of all forms at one column.
-ghost use Rattle.std.specs.Prelude.{◌≡◌, ℕ, ◌^◌, ◌+◌, ◌<◌, ◌≤◌, [], ◌*ℤ◌, neg_ℤ, pos, nat_abs, length, map, slice_index_or, All};
+ghost use Rattle.std.specs.Prelude.{◌≡◌, ℕ, ◌^◌, ◌+◌, ◌<◌, ◌≤◌, [], neg_ℤ, pos, nat_abs, length, map, slice_index_or, All};
+ghost use Rattle.whole_numbers.specs.Lists.{number_at};
 ghost use Rattle.path_rows.specs.Basis.{IsFormOf, member_form};
 ghost use Rattle.path_rows.specs.Forms.{no_form};
-ghost use Rattle.fraction_table.specs.Wholes.{number_at};
+ghost use Rattle.integer_pivots.specs.Numbers.{AllWithin, weight_of};
+ghost use Rattle.integer_pivots.specs.Uses.{held_in, uses_by};
 ghost use Rattle.table_kernel.specs.Kernels.{IsKernel, IsMoving, width_of};
-ghost use Rattle.table_kernel.specs.Numbers.{AllWithin, more_sums, number_in, weight_of};
+ghost use Rattle.table_kernel.specs.Numbers.{number_in};
 ghost use Rattle.table_kernel.specs.Turns.{KeepsNumbers, along_numbers, column_of, line_numbers};
-ghost use Rattle.table_kernel.specs.Uses.{held_in, uses_by};
 
 use crate::Kernel;
-use crate::uses::{Use, put_uses};
 use cost_base::Listed;
+use integer_pivots::{Use, clear, put_multiple, put_scaled, put_uses};
 use path_rows::{Form, Member};
-
-/// Puts a multiple of some numbers to sums, place by place.
-pub fn put_multiple(sums: &mut [i64], factor: i64, numbers: &[i64])
-    requires long { length sums.old ≡ length numbers.now }
-    requires sums { AllWithin (2 ^ 44) sums.old }
-    requires factor { nat_abs factor ≤ 2 ^ 22 }
-    requires numbers { AllWithin (2 ^ 22) numbers.now }
-    ensures { sums.new ≡ more_sums sums.old factor numbers.now }
-{
-    for index in 0..sums.len() {
-        sums[index] += factor * numbers[index];
-    }
-}
 
 /// A form's number at a column, by the numbers of x - low for each variable: the sum of its coefficients times these.
 fn row_entry(form: &Form, lows: &[Listed<i64>], column: usize) -> i64
@@ -39,27 +27,6 @@ fn row_entry(form: &Form, lows: &[Listed<i64>], column: usize) -> i64
         sum += term.coefficient * lows[term.var as usize].as_slice()[column];
     }
     sum
-}
-
-/// Puts a multiple of some numbers in place of `line`.
-fn put_scaled(line: &mut [i64], factor: i64, numbers: &[i64])
-    requires long { length line.old ≡ length numbers.now }
-    requires factor { nat_abs factor ≤ 2 ^ 22 }
-    requires numbers { AllWithin (2 ^ 22) numbers.now }
-    ensures { line.new ≡ map (λ z. factor *ℤ z) numbers.now }
-{
-    for column in 0..line.len() {
-        line[column] = factor * numbers[column];
-    }
-}
-
-/// Puts 0 at each place.
-fn clear(line: &mut [i64])
-    ensures { (place : ℕ) → place < length line.old → number_at line.new place ≡ pos 0 }
-{
-    for number in line.iter_mut() {
-        *number = 0;
-    }
 }
 
 /// Puts a form's numbers at the columns in place of `line`: the sum of its coefficients, each times its variable's
@@ -138,7 +105,9 @@ fn put_forms(
     requires small { All (AllWithin (2 ^ 22)) lows.now }
     ensures low { (v : ℕ) → v < length lows.now → number_at along.new v ≡ number_at (slice_index_or lows.now v []) column }
     ensures high { (v : ℕ) → v < length lows.now → number_at along.new (length lows.now + v) ≡ neg_ℤ (number_at (slice_index_or lows.now v []) column) }
-    ensures rows { (row : ℕ) → row < length rows.now → number_at along.new (length lows.now + length lows.now + row) ≡ number_in (slice_index_or rows.now row no_form) (map (λ row. number_at row column) lows.now) }
+    ensures rows { (row : ℕ) → row < length rows.now →
+        number_at along.new (length lows.now + length lows.now + row) ≡
+        number_in (slice_index_or rows.now row no_form) (map (λ row. number_at row column) lows.now) }
 {
     put_bounds(along, lows, column);
     put_rows(along, rows, uses, lows.len() + lows.len());

@@ -8,9 +8,9 @@ ghost use Rattle.table_kernel.specs.Moves.{IsShifted, KeepsOthers};
 ghost use Rattle.table_kernel.specs.Turns.{KeepsBounds, MayMove, box_distance, distance_of, step_of};
 
 use crate::Kernel;
-use crate::bounds::{CONSTANT_LIMIT, OutOfRange, greatest};
-use crate::line::put_multiple;
+use crate::kernel::OutOfRange;
 use fraction_table::{column_of, range_of};
+use integer_pivots::{CONSTANT_LIMIT, greatest, put_multiple};
 use path_rows::{CostBox, Member};
 
 /// The sum of the differences of two lists, place by place.

@@ -19,7 +19,8 @@ impl Kernel {
     fn fractions(&self, alloc: Global, place: usize) -> Result<Vec<(u64, Frac)>, OutOfMemory>
         requires kernel { IsKernel self.now }
         requires place { place < length self.now.constants.items }
-        ensures { IfOk result (λ parts. parts.items ≡ fractions_of self.now.table.basis.items (member_at (stated self.now) place) (line_at (stated self.now) place)) }
+        ensures { IfOk result (λ parts.
+            parts.items ≡ fractions_of self.now.table.basis.items (member_at (stated self.now) place) (line_at (stated self.now) place)) }
     {
         let member = self.table.member_at(place);
         let mut parts = Vec::new(alloc);

@@ -4,8 +4,9 @@ ghost use Rattle.fraction_rows.specs.TableRows.{AreNumbers, IsNumber};
 ghost use Rattle.fraction_table.specs.Pivots.{KeepsForms};
 ghost use Rattle.fraction_table.specs.RowLines.{HasPlace};
 ghost use Rattle.fraction_table.specs.Wholes.{HasRoom, IsWholeTable};
+ghost use Rattle.integer_pivots.specs.Numbers.{AllWithin};
 ghost use Rattle.table_kernel.specs.Kernels.{IsKernel, IsMoving, lines_of};
-ghost use Rattle.table_kernel.specs.Numbers.{AllWithin, over};
+ghost use Rattle.table_kernel.specs.Numbers.{over};
 ghost use Rattle.table_kernel.specs.Restated.{KeepsAllButRoom};
 
 use crate::Kernel;

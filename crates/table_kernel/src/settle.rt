@@ -1,14 +1,15 @@
 //! The work towards an answer: pivots, until the constants show one.
 ghost use Rattle.std.specs.Prelude.{ℕ, ◌<◌, length, pos, ◌<ℤ◌, IfOk, OnErr};
+ghost use Rattle.whole_numbers.specs.Lists.{number_at};
 ghost use Rattle.fraction_table.specs.declared.stage.Stage.TheVariants.{Ended};
 ghost use Rattle.fraction_table.specs.Pivots.{IsAhead, KeepsForms};
-ghost use Rattle.fraction_table.specs.Wholes.{IsShown, number_at};
+ghost use Rattle.fraction_table.specs.Wholes.{IsShown};
 ghost use Rattle.table_kernel.specs.Kernels.{IsKernel, lines_of, stated};
 ghost use Rattle.table_kernel.specs.Turnings.{IsHeldUp, IsRefusedAt};
 ghost use Rattle.table_kernel.specs.Turns.{IsFoundNegative, KeepsNumbers};
 
 use crate::Kernel;
-use crate::bounds::OutOfRange;
+use crate::kernel::OutOfRange;
 use fraction_table::Solved;
 
 impl Kernel {

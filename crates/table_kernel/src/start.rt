@@ -6,13 +6,13 @@ ghost use Rattle.path_rows.specs.Boxes.{IsBox};
 ghost use Rattle.fraction_table.specs.declared.stage.Stage.TheVariants.{Open};
 ghost use Rattle.fraction_table.specs.Tableaus.{starting};
 ghost use Rattle.fraction_table.specs.Wholes.{IsSound, held_of};
+ghost use Rattle.integer_pivots.specs.Numbers.{AllWithin};
 ghost use Rattle.table_kernel.specs.Kernels.{IsKernel};
-ghost use Rattle.table_kernel.specs.Numbers.{AllWithin};
 
 use crate::Kernel;
-use crate::uses::empty_uses;
 use cost_base::{Listed, OutOfMemory};
 use fraction_table::{range_of, starting_table};
+use integer_pivots::empty_uses;
 use path_rows::CostBox;
 use std::alloc::Global;
 use wide_fraction::Top;
@@ -89,7 +89,9 @@ fn unit_leads(alloc: Global, width: usize) -> Result<Vec<usize>, OutOfMemory>
 /// The constants of the forms x - low and high - x at the low corner.
 fn bound_constants(alloc: Global, costs: &CostBox) -> Result<Vec<i64>, OutOfMemory>
     requires ranges { IsBox (length costs.now.low) costs.now }
-    ensures constants { IfOk result (λ constants. constants.items ≡ map (λ var. pos 0) (numbers_from 0 (length costs.now.low)) ++ map (λ var. pos (slice_index costs.now.high var) -ℤ pos (slice_index costs.now.low var)) (numbers_from 0 (length costs.now.low))) }
+    ensures constants { IfOk result (λ constants.
+        constants.items ≡ map (λ var. pos 0) (numbers_from 0 (length costs.now.low)) ++
+        map (λ var. pos (slice_index costs.now.high var) -ℤ pos (slice_index costs.now.low var)) (numbers_from 0 (length costs.now.low))) }
     ensures small { IfOk result (λ constants. AllWithin (2 ^ 27) constants.items) }
 {
     let low = costs.low.as_slice();
@@ -103,10 +105,15 @@ fn bound_constants(alloc: Global, costs: &CostBox) -> Result<Vec<i64>, OutOfMemo
 
 /// The kernel of a box without rows, at the basis of the forms x - low. Its table has that basis, too. The numbers are
 /// within the kernel's bounds where the greatest number of the table is at least 2^39.
+///
+/// # Errors
+///
+/// `OutOfMemory`.
 pub fn starting_kernel(alloc: Global, costs: &CostBox, top: Top) -> Result<Kernel, OutOfMemory>
     requires ranges { IsBox (length costs.now.low) costs.now }
     requires few { length costs.now.low < 2 ^ 32 }
-    ensures held { IfOk result (λ kernel. held_of kernel.table Open ≡ record { top = top; costs = costs.now; rows = []; basis = starting costs.now; stage = Open }) }
+    ensures held { IfOk result (λ kernel.
+        held_of kernel.table Open ≡ record { top = top; costs = costs.now; rows = []; basis = starting costs.now; stage = Open }) }
     ensures sound { IfOk result (λ kernel. IsSound kernel.table Open) }
     ensures kernel { IfOk result (λ kernel. 2 ^ 39 ≤ top → IsKernel kernel) }
 {

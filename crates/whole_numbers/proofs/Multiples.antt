@@ -18,7 +18,8 @@ left_divides_lcm a b =
     let g = gcd a b in
     let divides = gcd_is a b in
     let turned : a * (b / g) ≡ lcm a b =
-    ap (λ (n : ℕ). n * (b / g)) (sym (div-mul_cancel g divides.0)) ∙ mul_assoc (a / g) g (b / g) ∙ ap (λ (n : ℕ). a / g * n) (mul_comm g (b / g) ∙ div-mul_cancel g divides.1) in
+    ap (λ (n : ℕ). n * (b / g)) (sym (div-mul_cancel g divides.0)) ∙ mul_assoc (a / g) g (b / g)
+    ∙ ap (λ (n : ℕ). a / g * n) (mul_comm g (b / g) ∙ div-mul_cancel g divides.1) in
     subst (λ (n : ℕ). a ∣ n) turned (dvd-mul_right a (b / g))
 
 -- and positive where both are
@@ -35,13 +36,15 @@ stands_over q L divides =
     ∙ ring (q.numerator ∷ pos (L / q.denominator) ∷ pos q.denominator ∷ []) (var 0 ⊗ (var 1 ⊗ var 2)) ((var 0 ⊗ var 1) ⊗ var 2) refl
 
 -- a sum and a difference over one denominator
-pub plus_stands_over : (p q : Fraction) (m k : ℤ) (D : ℕ) → 0 < p.denominator → 0 < q.denominator → 0 < D → StandsFor p m D → StandsFor q k D → StandsFor (plus p q) (m +ℤ k) D
+pub plus_stands_over : (p q : Fraction) (m k : ℤ) (D : ℕ) → 0 < p.denominator → 0 < q.denominator → 0 < D →
+    StandsFor p m D → StandsFor q k D → StandsFor (plus p q) (m +ℤ k) D
 plus_stands_over p q m k D p_positive q_positive D_positive p_is q_is =
     stands_less (plus p q) (m +ℤ k) D D D_positive
     (subst (λ (z : ℤ). StandsFor (plus p q) z (D * D)) (ring (m ∷ k ∷ pos D ∷ []) ((var 0 ⊗ var 2) ⊕ (var 1 ⊗ var 2)) ((var 0 ⊕ var 1) ⊗ var 2) refl)
     (plus_stands p q m k D D p_positive q_positive p_is q_is))
 
-pub minus_stands_over : (p q : Fraction) (m k : ℤ) (D : ℕ) → 0 < p.denominator → 0 < q.denominator → 0 < D → StandsFor p m D → StandsFor q k D → StandsFor (minus p q) (m -ℤ k) D
+pub minus_stands_over : (p q : Fraction) (m k : ℤ) (D : ℕ) → 0 < p.denominator → 0 < q.denominator → 0 < D →
+    StandsFor p m D → StandsFor q k D → StandsFor (minus p q) (m -ℤ k) D
 minus_stands_over p q m k D p_positive q_positive D_positive p_is q_is =
     stands_less (minus p q) (m -ℤ k) D D D_positive
     (subst (λ (z : ℤ). StandsFor (minus p q) z (D * D)) (ring (m ∷ k ∷ pos D ∷ []) ((var 0 ⊗ var 2) ⊖ (var 1 ⊗ var 2)) ((var 0 ⊖ var 1) ⊗ var 2) refl)

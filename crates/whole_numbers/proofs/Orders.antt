@@ -1,5 +1,5 @@
 -- The order of fractions: by whole parts and rests, by signs and sizes, and by the numbers that they stand for.
-use Rattle.std.proofs.Common.{◌≡◌, ◌≢◌, ℕ, suc, ◌+◌, ◌-◌, ◌*◌, ◌/◌, ◌%◌, ◌<◌, ◌≤◌, refl, sym, ◌∙◌, ap, subst, inl, inr, Ordering, Less, Equal, Greater, [], ◌∷◌, arith}
+use Rattle.std.proofs.Common.{◌≡◌, ◌≢◌, ℕ, zero, suc, ◌+◌, ◌-◌, ◌*◌, ◌/◌, ◌%◌, ◌<◌, ◌≤◌, refl, sym, ◌∙◌, ap, subst, inl, inr, Ordering, Less, Equal, Greater, [], ◌∷◌, arith}
 use Rattle.std.specs.Prelude.{ℤ, pos, negsuc, ◌+ℤ◌, ◌*ℤ◌, neg_ℤ, nat_abs, ◌<ℤ◌, ◌≤ℤ◌, ◌⊎◌}
 use Rattle.std.specs.Ordering.{MatchOrdering, nat_cmp, int_cmp}
 use Rattle.std.specs.Cmp.{nat_cmp_is, int_cmp_is}
@@ -26,16 +26,22 @@ same_cmp x y z w less equal greater =
 
 pub same_int_cmp : (x y z w : ℤ) → (x <ℤ y → z <ℤ w) → (x ≡ y → z ≡ w) → (y <ℤ x → w <ℤ z) → int_cmp x y ≡ int_cmp z w
 same_int_cmp x y z w less equal greater =
-    int_cmp_is z w (int_cmp x y) (match_moved (int_cmp x y) (x <ℤ y) (x ≡ y) (y <ℤ x) (z <ℤ w) (z ≡ w) (w <ℤ z) less equal greater (int_ranked x y (int_cmp x y) refl))
+    int_cmp_is z w (int_cmp x y) (match_moved (int_cmp x y) (x <ℤ y) (x ≡ y) (y <ℤ x) (z <ℤ w) (z ≡ w)
+    (w <ℤ z) less equal greater (int_ranked x y (int_cmp x y) refl))
 
 -- numbers and whole numbers are ordered alike, and the other way round with the other sign
 pub nat_int_cmp : (x y : ℕ) → nat_cmp x y ≡ int_cmp (pos x) (pos y)
 nat_int_cmp x y =
-    int_cmp_is (pos x) (pos y) (nat_cmp x y) (match_moved (nat_cmp x y) (x < y) (x ≡ y) (y < x) (pos x <ℤ pos y) (pos x ≡ pos y) (pos y <ℤ pos x) (λ h. omega (arith, ints, h)) (λ e. ap pos e) (λ h. omega (arith, ints, h)) (ranked x y (nat_cmp x y) refl))
+    int_cmp_is (pos x) (pos y) (nat_cmp x y)
+    (match_moved (nat_cmp x y) (x < y) (x ≡ y) (y < x) (pos x <ℤ pos y) (pos x ≡ pos y) (pos y <ℤ pos x)
+    (λ h. omega (arith, ints, h)) (λ e. ap pos e) (λ h. omega (arith, ints, h)) (ranked x y (nat_cmp x y) refl))
 
 pub nat_int_cmp-neg : (x y : ℕ) → nat_cmp y x ≡ int_cmp (neg_ℤ (pos x)) (neg_ℤ (pos y))
 nat_int_cmp-neg x y =
-    int_cmp_is (neg_ℤ (pos x)) (neg_ℤ (pos y)) (nat_cmp y x) (match_moved (nat_cmp y x) (y < x) (y ≡ x) (x < y) (neg_ℤ (pos x) <ℤ neg_ℤ (pos y)) (neg_ℤ (pos x) ≡ neg_ℤ (pos y)) (neg_ℤ (pos y) <ℤ neg_ℤ (pos x)) (λ h. omega (arith, ints, h)) (λ e. ap (λ (n : ℕ). neg_ℤ (pos n)) (sym e)) (λ h. omega (arith, ints, h)) (ranked y x (nat_cmp y x) refl))
+    int_cmp_is (neg_ℤ (pos x)) (neg_ℤ (pos y)) (nat_cmp y x)
+    (match_moved (nat_cmp y x) (y < x) (y ≡ x) (x < y) (neg_ℤ (pos x) <ℤ neg_ℤ (pos y))
+    (neg_ℤ (pos x) ≡ neg_ℤ (pos y)) (neg_ℤ (pos y) <ℤ neg_ℤ (pos x)) (λ h. omega (arith, ints, h))
+    (λ e. ap (λ (n : ℕ). neg_ℤ (pos n)) (sym e)) (λ h. omega (arith, ints, h)) (ranked y x (nat_cmp y x) refl))
 
 -- whole parts that differ decide the order of a/b and c/d
 wholes_decide : (a b c d : ℕ) → 0 < b → 0 < d → a / b < c / d → a * d < c * b
@@ -47,7 +53,8 @@ wholes_decide a b c d b_positive d_positive less =
 
 pub wholes_cmp : (a b c d : ℕ) → 0 < b → 0 < d → a / b ≢ c / d → nat_cmp (a / b) (c / d) ≡ nat_cmp (a * d) (c * b)
 wholes_cmp a b c d b_positive d_positive differ =
-    same_cmp (a / b) (c / d) (a * d) (c * b) (wholes_decide a b c d b_positive d_positive) (λ e. absurd (differ e)) (wholes_decide c d a b d_positive b_positive)
+    same_cmp (a / b) (c / d) (a * d) (c * b) (wholes_decide a b c d b_positive d_positive) (λ e. absurd (differ e))
+    (wholes_decide c d a b d_positive b_positive)
 
 -- where the whole parts are equal the rests decide
 pub rests_cmp : (a b c d : ℕ) → 0 < b → 0 < d → a / b ≡ c / d → nat_cmp (a % b * d) (c % d * b) ≡ nat_cmp (a * d) (c * b)
@@ -55,7 +62,8 @@ rests_cmp a b c d b_positive d_positive same =
     let left : (b * (a / b) + a % b) * d ≡ a * d = ap (λ n. n * d) (div-add-mod a b) in
     let right : (d * (c / d) + c % d) * b ≡ c * b = ap (λ n. n * b) (div-add-mod c d) in
     let middle : b * (a / b) * d ≡ b * (c / d) * d = ap (λ n. b * n * d) same in
-    same_cmp (a % b * d) (c % d * b) (a * d) (c * b) (λ h. omega (arith, left, right, middle, h)) (λ h. omega (arith, left, right, middle, h)) (λ h. omega (arith, left, right, middle, h))
+    same_cmp (a % b * d) (c % d * b) (a * d) (c * b) (λ h. omega (arith, left, right, middle, h))
+    (λ h. omega (arith, left, right, middle, h)) (λ h. omega (arith, left, right, middle, h))
 
 -- and where one rest is 0 they decide as they are
 pub zero_rest_cmp : (r t b d : ℕ) → 0 < b → 0 < d → (r ≡ 0) ⊎ (t ≡ 0) → nat_cmp r t ≡ nat_cmp (r * d) (t * b)
@@ -63,7 +71,8 @@ zero_rest_cmp r t b d b_positive d_positive none =
     same_cmp r t (r * d) (t * b) (λ h. go_less none h) (λ h. go_same none h) (λ h. go_more none h)
   where
     go_less : (r ≡ 0) ⊎ (t ≡ 0) → r < t → r * d < t * b
-    go_less (inl e) h = subst (λ (n : ℕ). n * d < t * b) (sym e) (subst (λ (n : ℕ). n < t * b) (sym (zero-mul d)) (product_positive t b (omega arith) b_positive))
+    go_less (inl e) h = subst (λ (n : ℕ). n * d < t * b) (sym e)
+        (subst (λ (n : ℕ). n < t * b) (sym (zero-mul d)) (product_positive t b (omega arith) b_positive))
     go_less (inr e) h = absurd (omega arith)
 
     both : r ≡ 0 → t ≡ 0 → r * d ≡ t * b
@@ -75,7 +84,8 @@ zero_rest_cmp r t b d b_positive d_positive none =
 
     go_more : (r ≡ 0) ⊎ (t ≡ 0) → t < r → t * b < r * d
     go_more (inl e) h = absurd (omega arith)
-    go_more (inr e) h = subst (λ (n : ℕ). n * b < r * d) (sym e) (subst (λ (n : ℕ). n < r * d) (sym (zero-mul b)) (product_positive r d (omega arith) d_positive))
+    go_more (inr e) h = subst (λ (n : ℕ). n * b < r * d) (sym e)
+        (subst (λ (n : ℕ). n < r * d) (sym (zero-mul b)) (product_positive r d (omega arith) d_positive))
 
 -- one step of the comparison: the reciprocals of the rests, the other way round
 pub reciprocals_cmp : (a b c d : ℕ) → 0 < b → 0 < d → a / b ≡ c / d → nat_cmp (d * (a % b)) (b * (c % d)) ≡ nat_cmp (a * d) (c * b)
@@ -93,7 +103,7 @@ negative_cmp (pos m) c b d h k = absurd (omega (arith, ints))
 negative_cmp (negsuc m) (pos n) b d h k = absurd (omega (arith, ints))
 negative_cmp (negsuc m) (negsuc n) b d h k = nat_int_cmp-neg (suc m * d) (suc n * b)
 
-negative_product : (a : ℤ) (d : ℕ) → a <ℤ pos 0 → 0 < d → (a *ℤ pos d) <ℤ pos 0
+pub negative_product : (a : ℤ) (d : ℕ) → a <ℤ pos 0 → 0 < d → (a *ℤ pos d) <ℤ pos 0
 negative_product (pos m) d h d_positive = absurd (omega (arith, ints))
 negative_product (negsuc m) d h d_positive = let p = product_positive (suc m) d (omega arith) d_positive in omega (arith, ints, p)
 
@@ -130,12 +140,17 @@ pub order_ranks : (p q : Fraction) (r : Ordering) → r ≡ order p q → MatchO
 order_ranks p q r e = int_ranked (p.numerator *ℤ pos q.denominator) (q.numerator *ℤ pos p.denominator) r e
 
 -- two fractions are ordered as the numbers that they stand for over one denominator
-pub order_stands : (p q : Fraction) (m k : ℤ) (D : ℕ) → 0 < p.denominator → 0 < q.denominator → 0 < D → StandsFor p m D → StandsFor q k D → order p q ≡ int_cmp m k
+pub order_stands : (p q : Fraction) (m k : ℤ) (D : ℕ) → 0 < p.denominator → 0 < q.denominator → 0 < D →
+    StandsFor p m D → StandsFor q k D → order p q ≡ int_cmp m k
 order_stands p q m k D p_positive q_positive D_positive p_is q_is =
     scaled_cmp (p.numerator *ℤ pos q.denominator) (q.numerator *ℤ pos p.denominator) D D_positive
     ∙ ap₂ int_cmp
-    (ring_by (p.numerator ∷ pos p.denominator ∷ q.numerator ∷ pos q.denominator ∷ m ∷ pos D ∷ []) ((var 0 ⊗ var 3) ⊗ var 5) (var 4 ⊗ (var 1 ⊗ var 3)) (using (var 3) (var 0 ⊗ var 5) (var 4 ⊗ var 1) p_is nothing) refl)
-    (ring_by (p.numerator ∷ pos p.denominator ∷ q.numerator ∷ pos q.denominator ∷ k ∷ pos D ∷ []) ((var 2 ⊗ var 1) ⊗ var 5) (var 4 ⊗ (var 1 ⊗ var 3)) (using (var 1) (var 2 ⊗ var 5) (var 4 ⊗ var 3) q_is nothing) refl)
+    (ring_by (p.numerator ∷ pos p.denominator ∷ q.numerator ∷ pos q.denominator ∷ m ∷ pos D ∷ [])
+    ((var 0 ⊗ var 3) ⊗ var 5) (var 4 ⊗ (var 1 ⊗ var 3))
+    (using (var 3) (var 0 ⊗ var 5) (var 4 ⊗ var 1) p_is nothing) refl)
+    (ring_by (p.numerator ∷ pos p.denominator ∷ q.numerator ∷ pos q.denominator ∷ k ∷ pos D ∷ [])
+    ((var 2 ⊗ var 1) ⊗ var 5) (var 4 ⊗ (var 1 ⊗ var 3))
+    (using (var 1) (var 2 ⊗ var 5) (var 4 ⊗ var 3) q_is nothing) refl)
     ∙ sym (scaled_cmp m k (p.denominator * q.denominator) (product_positive p.denominator q.denominator p_positive q_positive))
 
 -- a fraction has the sign of the number that it stands for
@@ -157,7 +172,8 @@ pub floor_negative : (n : ℤ) (d : ℕ) → 0 < d → n <ℤ pos 0 → IsFloor 
 floor_negative (pos n) d d_positive h = absurd (omega (arith, ints))
 floor_negative (negsuc n) d d_positive h =
     let one_less : suc n - 1 ≡ n = omega arith in
-    subst (λ (m : ℕ). IsFloor (record { numerator = negsuc n; denominator = d }) (negsuc (m / d))) (sym one_less) (below (n / d) (div-mul-le_self n d) (lt-div-mul-add d_positive))
+    subst (λ (m : ℕ). IsFloor (record { numerator = negsuc n; denominator = d }) (negsuc (m / d))) (sym one_less)
+    (below (n / d) (div-mul-le_self n d) (lt-div-mul-add d_positive))
   where
     below : (q : ℕ) → q * d ≤ n → n < q * d + d → IsFloor (record { numerator = negsuc n; denominator = d }) (negsuc q)
     below q low high =
@@ -166,3 +182,15 @@ floor_negative (negsuc n) d d_positive h =
         let first : (negsuc q *ℤ pos d) ≡ neg_ℤ (pos (suc q * d)) = refl in
         let size : suc q * d ≡ q * d + d = omega arith in
         record { not_above = omega (arith, ints, first, size, high); greatest = omega (arith, ints, product, low) }
+
+-- a product with a factor that isn't positive and one that isn't negative isn't positive
+pub opposite_product : (z w : ℤ) → z ≤ℤ pos 0 → pos 0 ≤ℤ w → (z *ℤ w) ≤ℤ pos 0
+opposite_product (pos zero) w z_low w_high = omega (arith, ints)
+opposite_product (pos (suc n)) w z_low w_high = absurd (omega (arith, ints))
+opposite_product (negsuc n) (pos m) z_low w_high = omega (arith, ints)
+opposite_product (negsuc n) (negsuc m) z_low w_high = absurd (omega (arith, ints))
+
+-- where a multiple is negative, so is the number
+pub negative_factor : (D : ℕ) (z : ℤ) → (pos D *ℤ z) <ℤ pos 0 → z <ℤ pos 0
+negative_factor D (pos n) h = absurd (omega (arith, ints))
+negative_factor D (negsuc n) h = omega (arith, ints)

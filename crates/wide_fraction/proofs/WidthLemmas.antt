@@ -56,11 +56,17 @@ inverted_made (pos zero) d not_zero = absurd (not_zero refl)
 inverted_made (pos (suc n)) d not_zero = refl
 inverted_made (negsuc n) d not_zero = refl
 
-pub upside_down_kept : (n : ℤ) (d : ℕ) (z : ℤ) (m : ℕ) → IsKept (record { numerator = n; denominator = d }) → n ≢ pos 0 → z ≡ signed_by n (pos d) → m ≡ nat_abs n → IsKept (record { numerator = z; denominator = m })
+pub upside_down_kept : (n : ℤ) (d : ℕ) (z : ℤ) (m : ℕ) → IsKept (record { numerator = n; denominator = d }) →
+    n ≢ pos 0 → z ≡ signed_by n (pos d) → m ≡ nat_abs n → IsKept (record { numerator = z; denominator = m })
 upside_down_kept n d z m kept not_zero z_is m_is =
-    subst (λ (q : Fraction). IsKept q) (sym (ap₂ (λ (t : ℤ) (b : ℕ). record { numerator = t; denominator = b }) z_is m_is ∙ inverted_made n d not_zero)) (inverse_kept (record { numerator = n; denominator = d }) kept not_zero)
+    subst (λ (q : Fraction). IsKept q)
+    (sym (ap₂ (λ (t : ℤ) (b : ℕ). record { numerator = t; denominator = b }) z_is m_is
+    ∙ inverted_made n d not_zero)) (inverse_kept (record { numerator = n; denominator = d }) kept not_zero)
 
 -- a fraction with the numbers of a reduced one
-pub reduced_seen : (n : ℤ) (d : ℕ) (z : ℤ) (m : ℕ) → 0 < d → nat_abs n < 2 ^ 127 → d < 2 ^ 127 → z ≡ over n (gcd (nat_abs n) d) → m ≡ d / gcd (nat_abs n) d → IsKept (record { numerator = z; denominator = m })
+pub reduced_seen : (n : ℤ) (d : ℕ) (z : ℤ) (m : ℕ) → 0 < d → nat_abs n < 2 ^ 127 → d < 2 ^ 127 →
+    z ≡ over n (gcd (nat_abs n) d) → m ≡ d / gcd (nat_abs n) d → IsKept (record { numerator = z; denominator = m })
 reduced_seen n d z m d_positive n_fits d_fits z_is m_is =
-    subst (λ (q : Fraction). IsKept q) (sym (ap₂ (λ (t : ℤ) (b : ℕ). record { numerator = t; denominator = b }) z_is m_is)) (reduced_kept n d d_positive n_fits d_fits)
+    subst (λ (q : Fraction). IsKept q)
+    (sym (ap₂ (λ (t : ℤ) (b : ℕ). record { numerator = t; denominator = b }) z_is m_is))
+    (reduced_kept n d d_positive n_fits d_fits)

@@ -60,10 +60,12 @@ impl Top {
     }
 }
 
-/// A budget of tree nodes, from 1 to 10,000,000, and a width.
+/// A budget of tree entries, from 1 to 10,000,000, and a width.
 #[derive(Clone, Copy, Debug, PartialEq, Eq)]
 pub struct Limits {
+    /// How many entries a tree may have.
     pub nodes: u64,
+    /// The greatest size of a whole number in exact reasoning.
     pub top: Top,
     ghost budget: { 1 ≤ nodes },
     ghost budget_end: { nodes ≤ 10000000 },

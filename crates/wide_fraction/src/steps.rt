@@ -18,7 +18,9 @@ const SCALE: i128 = 134217728;
 #[derive(Clone, Copy, Debug, PartialEq, Eq)]
 pub struct Wide {
     pub step: StepName,
+    /// The step's first fraction.
     pub left: Frac,
+    /// Its second fraction.
     pub right: Frac,
 }
 

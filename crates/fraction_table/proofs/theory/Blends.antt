@@ -3,13 +3,16 @@ use Rattle.std.proofs.Common.{◌≡◌, ℕ, zero, suc, ◌+◌, refl, sym, ◌
 use Rattle.std.specs.Prelude.{ℤ, pos, ◌+ℤ◌, ◌*ℤ◌}
 use Rattle.cost_base.specs.Lists.{numbers_from}
 use Rattle.whole_numbers.proofs.Ring.{var, num, ◌⊕◌, ◌⊗◌, ring, ring_by, nothing, using}
+use Rattle.whole_numbers.specs.Lists.{number_at}
 use Rattle.path_rows.specs.declared.form.Form.{Form}
 use Rattle.path_rows.specs.Forms.{value}
 use Rattle.path_rows.specs.Basis.{coordinate, mixture, one_form, IsMixture}
-use Rattle.fraction_table.specs.Wholes.{number_at, from_lows, number_of, numbers_of, AllLong, AreMixtures}
+use Rattle.fraction_table.specs.Wholes.{from_lows, number_of, numbers_of, AllLong, AreMixtures}
 
 -- the mixture by sums is the sum of the mixtures
-mixture_blend : (c : ℤ) (g h : ℕ → ℤ) (a m : ℕ) (vs : List Form) (i : ℕ) → mixture (map (λ p. (c *ℤ g p) +ℤ h p) (numbers_from a m)) vs i ≡ ((c *ℤ mixture (map g (numbers_from a m)) vs i) +ℤ mixture (map h (numbers_from a m)) vs i)
+mixture_blend : (c : ℤ) (g h : ℕ → ℤ) (a m : ℕ) (vs : List Form) (i : ℕ) →
+    mixture (map (λ p. (c *ℤ g p) +ℤ h p) (numbers_from a m)) vs i
+    ≡ ((c *ℤ mixture (map g (numbers_from a m)) vs i) +ℤ mixture (map h (numbers_from a m)) vs i)
 mixture_blend c g h a zero vs i = ring (c ∷ []) (num (pos 0)) (var 0 ⊗ num (pos 0) ⊕ num (pos 0)) refl
 mixture_blend c g h a (suc m) [] i = ring (c ∷ []) (num (pos 0)) (var 0 ⊗ num (pos 0) ⊕ num (pos 0)) refl
 mixture_blend c g h a (suc m) (v ∷ vs) i =
@@ -41,7 +44,9 @@ blend_at (c ∷ cs) [] i = pos 0
 blend_at (c ∷ cs) (g ∷ gs) i = (c *ℤ coordinate g i) +ℤ blend_at cs gs i
 
 -- the sum of forms is the mixture by the sums of their numbers
-pub lows_mixture : (D n : ℕ) (cs : List ℤ) (gs : List Form) (rows : List (List ℤ)) (basis : List Form) (i : ℕ) → AllLong n rows → AreMixtures D basis gs rows → (pos D *ℤ blend_at cs gs i) ≡ mixture (map (from_lows cs rows) (numbers_from 0 n)) (one_form ∷ basis) i
+pub lows_mixture : (D n : ℕ) (cs : List ℤ) (gs : List Form) (rows : List (List ℤ)) (basis : List Form) (i : ℕ) →
+    AllLong n rows → AreMixtures D basis gs rows →
+    (pos D *ℤ blend_at cs gs i) ≡ mixture (map (from_lows cs rows) (numbers_from 0 n)) (one_form ∷ basis) i
 lows_mixture D n [] gs rows basis i long are =
     ring (pos D ∷ []) (var 0 ⊗ num (pos 0)) (num (pos 0)) refl ∙ sym (mixture_none 0 n (one_form ∷ basis) i)
 lows_mixture D n (c ∷ cs) [] [] basis i long are =
@@ -53,13 +58,17 @@ lows_mixture D n (c ∷ cs) (g ∷ gs) (ts ∷ rows) basis i long are =
     let own : mixture (map (number_at ts) (numbers_from 0 n)) (one_form ∷ basis) i ≡ mixture ts (one_form ∷ basis) i =
     ap (λ m. mixture (map (number_at ts) (numbers_from 0 m)) (one_form ∷ basis) i) (sym long.0) ∙ ap (λ zs. mixture zs (one_form ∷ basis) i) (listed_at ts) in
     let first : (pos D *ℤ coordinate g i) ≡ mixture (map (number_at ts) (numbers_from 0 n)) (one_form ∷ basis) i = are.0 i ∙ sym own in
-    ring_by (pos D ∷ c ∷ coordinate g i ∷ blend_at cs gs i ∷ mixture (map (number_at ts) (numbers_from 0 n)) (one_form ∷ basis) i ∷ mixture (map (from_lows cs rows) (numbers_from 0 n)) (one_form ∷ basis) i ∷ [])
+    ring_by (pos D ∷ c ∷ coordinate g i ∷ blend_at cs gs i ∷ mixture (map (number_at ts) (numbers_from 0 n))
+    (one_form ∷ basis) i ∷ mixture (map (from_lows cs rows) (numbers_from 0 n)) (one_form ∷ basis) i ∷ [])
     (var 0 ⊗ (var 1 ⊗ var 2 ⊕ var 3)) (var 1 ⊗ var 4 ⊕ var 5)
     (using (var 1) (var 0 ⊗ var 2) (var 4) first (using (num (pos 1)) (var 0 ⊗ var 3) (var 5) rest nothing)) refl
     ∙ sym (mixture_blend c (number_at ts) (from_lows cs rows) 0 n (one_form ∷ basis) i)
 
 -- A form that is its value at the low corner plus the blend of the forms x - low is the mixture by its own numbers.
-pub form_mixture : (D n : ℕ) (low : List ℕ) (gs : List Form) (rows : List (List ℤ)) (basis : List Form) (f : Form) → AllLong (suc n) rows → AreMixtures D basis gs rows → ((i : ℕ) → coordinate f i ≡ ((value f low *ℤ coordinate one_form i) +ℤ blend_at f.coefficients gs i)) → IsMixture f basis D (numbers_of n D low rows f)
+pub form_mixture : (D n : ℕ) (low : List ℕ) (gs : List Form) (rows : List (List ℤ)) (basis : List Form) (f : Form) →
+    AllLong (suc n) rows → AreMixtures D basis gs rows →
+    ((i : ℕ) → coordinate f i ≡ ((value f low *ℤ coordinate one_form i) +ℤ blend_at f.coefficients gs i)) →
+    IsMixture f basis D (numbers_of n D low rows f)
 form_mixture D n low gs rows basis f long are resolved i =
     let others = map (from_lows f.coefficients rows) (numbers_from 1 n) in
     let rest : mixture (map (number_of D low rows f) (numbers_from 1 n)) basis i ≡ mixture others basis i =

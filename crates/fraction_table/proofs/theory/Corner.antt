@@ -1,14 +1,15 @@
 -- What a table shows: a form that no point of the box meets, and the least corner.
-use Rattle.std.proofs.Common.{◌≡◌, ℕ, zero, suc, ◌*◌, ◌<◌, refl, sym, ap, List, [], ◌∷◌, map, length, inl, inr, arith}
+use Rattle.std.proofs.Common.{◌≡◌, ℕ, suc, ◌<◌, refl, sym, ap, List, [], ◌∷◌, map, length, inl, inr, arith}
 use Rattle.std.specs.Prelude.{ℤ, pos, negsuc, ◌+ℤ◌, ◌-ℤ◌, ◌*ℤ◌, ◌<ℤ◌, ◌≤ℤ◌}
 use Rattle.std.proofs.lemmas.Int.{ints}
+use Rattle.whole_numbers.proofs.Orders.{negative_factor, negative_product, opposite_product}
 use Rattle.whole_numbers.proofs.Ring.{var, num, ◌⊕◌, ◌⊗◌, ring}
 use Rattle.area_graph.specs.declared.Point.{Point}
+use Rattle.whole_numbers.specs.Lists.{number_at}
 use Rattle.path_rows.specs.declared.form.Form.{Form}
 use Rattle.path_rows.specs.Forms.{value_at}
 use Rattle.path_rows.specs.Basis.{one_form, IsMixture, LeadsPositive}
 use Rattle.path_rows.specs.Earnest.{LexLess}
-use Rattle.fraction_table.specs.Wholes.{number_at}
 use Rattle.fraction_table.specs.Pivots.{LeadsNoNegative}
 use Rattle.fraction_table.proofs.theory.Points.{mixed_at, equation_at}
 use Rattle.fraction_table.proofs.theory.Lex.{summed, scaled, weaker, scaled_follows, sum_follows}
@@ -21,22 +22,6 @@ NotAbove (z ∷ zs) = (z ≤ℤ pos 0) × NotAbove zs
 abbrev pub MetAt : List Form → Point → Type 0
 MetAt [] p = Unit {0}
 MetAt (f ∷ fs) p = (pos 0 ≤ℤ value_at f p) × MetAt fs p
-
-pub opposite_product : (z w : ℤ) → z ≤ℤ pos 0 → pos 0 ≤ℤ w → (z *ℤ w) ≤ℤ pos 0
-opposite_product (pos zero) w z_low w_high = omega (arith, ints)
-opposite_product (pos (suc n)) w z_low w_high = absurd (omega (arith, ints))
-opposite_product (negsuc n) (pos m) z_low w_high = omega (arith, ints)
-opposite_product (negsuc n) (negsuc m) z_low w_high = absurd (omega (arith, ints))
-
-pub negative_product : (z : ℤ) (n : ℕ) → z <ℤ pos 0 → 0 < n → (z *ℤ pos n) <ℤ pos 0
-negative_product (pos m) n z_low n_positive = absurd (omega (arith, ints))
-negative_product (negsuc m) n z_low n_positive =
-    let h : 0 < suc m * n = grind arith in
-    omega (arith, ints)
-
-pub negative_factor : (D : ℕ) (z : ℤ) → (pos D *ℤ z) <ℤ pos 0 → z <ℤ pos 0
-negative_factor D (pos n) h = absurd (omega (arith, ints))
-negative_factor D (negsuc n) h = omega (arith, ints)
 
 sum_low : (a b : ℤ) → a ≤ℤ pos 0 → b ≤ℤ pos 0 → (a +ℤ b) ≤ℤ pos 0
 sum_low a b first second = omega (arith, ints)
@@ -54,7 +39,8 @@ pub one_value : (p : Point) → value_at one_form p ≡ pos p.scale
 one_value p = ring (pos p.scale ∷ []) (num (pos 1) ⊗ var 0 ⊕ num (pos 0)) (var 0) refl
 
 -- A form whose constant is negative and none of whose other entries is positive is negative wherever the basis is met.
-pub stuck_negative : (r : Form) (basis : List Form) (D : ℕ) (m : ℤ) (ms : List ℤ) (p : Point) → IsMixture r basis D (m ∷ ms) → m <ℤ pos 0 → NotAbove ms → MetAt basis p → 0 < p.scale → value_at r p <ℤ pos 0
+pub stuck_negative : (r : Form) (basis : List Form) (D : ℕ) (m : ℤ) (ms : List ℤ) (p : Point) →
+    IsMixture r basis D (m ∷ ms) → m <ℤ pos 0 → NotAbove ms → MetAt basis p → 0 < p.scale → value_at r p <ℤ pos 0
 stuck_negative r basis D m ms p is below low met scale_positive =
     negative_factor D (value_at r p)
     (rw (equation_at r basis D (m ∷ ms) p is)
@@ -87,7 +73,9 @@ zeros_follow : (rows : List (List ℤ)) → LeadsNoNegative (map (λ ts. row_sum
 zeros_follow [] = tt
 zeros_follow (ts ∷ rows) = rw (zero-row_sum ts) (zeros_follow rows)
 
-column_step : (rows : List (List ℤ)) (u : ℕ) (us : List ℕ) → map (λ ts. row_sum ts (u ∷ us)) rows ≡ summed (scaled u (map (λ ts. number_at ts 0) rows)) (map (λ ts. row_sum ts us) (map rest_of rows))
+column_step : (rows : List (List ℤ)) (u : ℕ) (us : List ℕ) →
+    map (λ ts. row_sum ts (u ∷ us)) rows ≡ summed (scaled u (map (λ ts. number_at ts 0) rows))
+    (map (λ ts. row_sum ts us) (map rest_of rows))
 column_step [] u us = refl
 column_step (ts ∷ rows) u us = cc (row_sum_step ts u us, column_step rows u us)
 
@@ -95,12 +83,15 @@ pub rest_columns : (rows : List (List ℤ)) (k : ℕ) → map (λ ts. number_at 
 rest_columns [] k = refl
 rest_columns (ts ∷ rows) k = cc (rest_at ts k, rest_columns rows k)
 
-same_lengths : (u : ℕ) (rows : List (List ℤ)) (us : List ℕ) → length (scaled u (map (λ ts. number_at ts 0) rows)) ≡ length (map (λ ts. row_sum ts us) (map rest_of rows))
+same_lengths : (u : ℕ) (rows : List (List ℤ)) (us : List ℕ) →
+    length (scaled u (map (λ ts. number_at ts 0) rows)) ≡ length (map (λ ts. row_sum ts us) (map rest_of rows))
 same_lengths u [] us = refl
 same_lengths u (ts ∷ rows) us = ap suc (same_lengths u rows us)
 
 -- Columns that lead with a positive number, each times a whole number, add up to a column that doesn't lead with a negative one.
-pub columns_follow : (rows : List (List ℤ)) (us : List ℕ) → ((k : ℕ) → k < length us → LeadsPositive (map (λ ts. number_at ts k) rows)) → LeadsNoNegative (map (λ ts. row_sum ts us) rows)
+pub columns_follow : (rows : List (List ℤ)) (us : List ℕ) →
+    ((k : ℕ) → k < length us → LeadsPositive (map (λ ts. number_at ts k) rows)) →
+    LeadsNoNegative (map (λ ts. row_sum ts us) rows)
 columns_follow rows [] lead = zeros_follow rows
 columns_follow rows (u ∷ us) lead =
     rw (column_step rows u us)

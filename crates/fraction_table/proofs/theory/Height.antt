@@ -30,7 +30,8 @@ digits_number-lt base (x ∷ xs) below =
     rw (pow-suc base (length xs)) (omega arith)
 
 -- a list that comes before another has the lesser number
-pub digits_rise : (base : ℕ) (xs ys : List ℕ) → AllBelow base xs → AllBelow base ys → length xs ≡ length ys → LexLess xs ys → digits_number base xs < digits_number base ys
+pub digits_rise : (base : ℕ) (xs ys : List ℕ) → AllBelow base xs → AllBelow base ys → length xs ≡ length ys →
+    LexLess xs ys → digits_number base xs < digits_number base ys
 digits_rise base [] ys x_below y_below same less = absurd less
 digits_rise base (x ∷ xs) [] x_below y_below same less = absurd less
 digits_rise base (x ∷ xs) (y ∷ ys) x_below y_below same less =

@@ -12,7 +12,7 @@ use Rattle.path_rows.specs.Basis.{AreEntries, coordinate, one_form, unit}
 use Rattle.fraction_rows.specs.TableRows.{AreNumbers}
 use Rattle.fraction_table.specs.Wholes.{number_of, numbers_of, AllLong, AreMixtures, low_forms, Stand}
 use Rattle.fraction_rows.proofs.Columns.{same_test, other_test}
-use Rattle.fraction_rows.proofs.Filled.{length-mapped, mapped_at}
+use Rattle.fraction_rows.proofs.FilledRows.{length-mapped, mapped_at}
 use Rattle.fraction_table.proofs.theory.Blends.{blend_at, form_mixture}
 
 unit_at : (n own u : ℕ) → u < n → slice_index_or (unit n own (pos 1)) u (pos 0) ≡ cond (u == own) (pos 1) (pos 0)
@@ -55,7 +55,8 @@ blend_before n a u (c ∷ cs) (l ∷ ls) before =
     apart h = omega arith
 
 -- at a variable the blend has that variable's coefficient
-blend_there : (n a k u : ℕ) (cs : List ℤ) (ls : List ℕ) → length cs ≡ length ls → a + length cs ≤ n → u ≡ a + k → blend_at cs (low_forms n a ls) (suc u) ≡ slice_index_or cs k (pos 0)
+blend_there : (n a k u : ℕ) (cs : List ℤ) (ls : List ℕ) → length cs ≡ length ls → a + length cs ≤ n → u ≡ a + k →
+    blend_at cs (low_forms n a ls) (suc u) ≡ slice_index_or cs k (pos 0)
 blend_there n a k u [] ls same fits there = refl
 blend_there n a k u (c ∷ cs) [] same fits there = absurd (omega arith)
 blend_there n a zero u (c ∷ cs) (l ∷ ls) same fits there =
@@ -72,7 +73,9 @@ blend_there n a (suc k) u (c ∷ cs) (l ∷ ls) same fits there =
     apart h = omega arith
 
 -- a form at each coordinate: its value at the low corner, and the blend of the forms x - low
-pub resolved : (low : List ℕ) (f : Form) → length f.coefficients ≡ length low → (i : ℕ) → coordinate f i ≡ ((value f low *ℤ coordinate one_form i) +ℤ blend_at f.coefficients (low_forms (length low) 0 low) i)
+pub resolved : (low : List ℕ) (f : Form) → length f.coefficients ≡ length low → (i : ℕ) →
+    coordinate f i ≡ ((value f low *ℤ coordinate one_form i) +ℤ blend_at f.coefficients
+    (low_forms (length low) 0 low) i)
 resolved low f same zero =
     ring (f.constant ∷ dot f.coefficients low ∷ []) (var 0) ((var 0 ⊕ var 1) ⊗ num (pos 1) ⊕ neg (var 1)) refl
     ∙ ap (λ z. (value f low *ℤ pos 1) +ℤ z) (sym (blend_constant (length low) 0 f.coefficients low))
@@ -92,10 +95,14 @@ all_lowest top (q ∷ qs) numbers zero d k_in = numbers.0.lowest
 all_lowest top (q ∷ qs) numbers (suc k) d k_in = all_lowest top qs numbers.1 k d (omega arith)
 
 -- Fractions that stand for a form's numbers are its entries over the basis.
-pub are_entries : (top D : ℕ) (low : List ℕ) (rows : List (List ℤ)) (basis : List Form) (f : Form) (entries : List Fraction) → 0 < D → length basis ≡ length low → length f.coefficients ≡ length low → AllLong (suc (length low)) rows → AreMixtures D basis (low_forms (length low) 0 low) rows → AreNumbers top entries → Stand D entries (numbers_of (length low) D low rows f) → AreEntries basis f entries
+pub are_entries : (top D : ℕ) (low : List ℕ) (rows : List (List ℤ)) (basis : List Form) (f : Form)
+    (entries : List Fraction) → 0 < D → length basis ≡ length low → length f.coefficients ≡ length low →
+    AllLong (suc (length low)) rows → AreMixtures D basis (low_forms (length low) 0 low) rows → AreNumbers top entries →
+    Stand D entries (numbers_of (length low) D low rows f) → AreEntries basis f entries
 are_entries top D low rows basis f entries positive as_many same long are numbers stand =
     record {
-      count = stand_length D entries (numbers_of (length low) D low rows f) stand ∙ ap suc (length-mapped (number_of D low rows f) 1 (length low) ∙ sym as_many);
+      count = stand_length D entries (numbers_of (length low) D low rows f) stand
+          ∙ ap suc (length-mapped (number_of D low rows f) 1 (length low) ∙ sym as_many);
       lowest = all_lowest top entries numbers;
       common = D;
       positive = positive;

@@ -3,11 +3,12 @@
 use Rattle.std.proofs.Common.{◌≡◌, ℕ, suc, ◌*◌, ◌<◌, refl, ◌∙◌, ap, List, [], ◌∷◌, map, length}
 use Rattle.std.specs.Prelude.{ℤ, pos, ◌+ℤ◌, ◌-ℤ◌, ◌*ℤ◌}
 use Rattle.whole_numbers.proofs.Ring.{var, num, ◌⊕◌, ◌⊖◌, ◌⊗◌, neg, ring, ring_by, nothing, using}
+use Rattle.whole_numbers.specs.Lists.{number_at}
 use Rattle.path_rows.specs.declared.form.Form.{Form}
 use Rattle.path_rows.specs.Forms.{dot, value_at}
 use Rattle.path_rows.specs.Basis.{LeadsPositive}
 use Rattle.path_rows.specs.Earnest.{LexLess}
-use Rattle.fraction_table.specs.Wholes.{number_at, from_lows, number_of}
+use Rattle.fraction_table.specs.Wholes.{from_lows, number_of}
 use Rattle.fraction_table.proofs.theory.Corner.{rest_of, row_sum, differences, less_leads, columns_follow, rest_columns}
 
 -- the values of the corner, times D
@@ -16,7 +17,8 @@ IsCorner D [] [] [] = Unit {0}
 IsCorner D (l ∷ low) (ts ∷ rows) (x ∷ xs) = (pos x ≡ ((pos l *ℤ pos D) +ℤ number_at ts 0)) × IsCorner D low rows xs
 IsCorner D _ _ _ = ⊥
 
-dot-corner : (D : ℕ) (cs : List ℤ) (low : List ℕ) (rows : List (List ℤ)) (xs : List ℕ) → IsCorner D low rows xs → dot cs xs ≡ ((pos D *ℤ dot cs low) +ℤ from_lows cs rows 0)
+dot-corner : (D : ℕ) (cs : List ℤ) (low : List ℕ) (rows : List (List ℤ)) (xs : List ℕ) → IsCorner D low rows xs →
+    dot cs xs ≡ ((pos D *ℤ dot cs low) +ℤ from_lows cs rows 0)
 dot-corner D [] low rows xs corner = ring (pos D ∷ []) (num (pos 0)) (var 0 ⊗ num (pos 0) ⊕ num (pos 0)) refl
 dot-corner D (c ∷ cs) [] [] [] corner = ring (pos D ∷ []) (num (pos 0)) (var 0 ⊗ num (pos 0) ⊕ num (pos 0)) refl
 dot-corner D (c ∷ cs) (l ∷ low) (ts ∷ rows) (x ∷ xs) corner =
@@ -30,7 +32,8 @@ dot-corner D (c ∷ cs) (l ∷ low) [] xs corner = absurd corner
 dot-corner D (c ∷ cs) (l ∷ low) (ts ∷ rows) [] corner = absurd corner
 
 -- a form's number at place 0 is its value at the corner
-pub corner_value : (D : ℕ) (low : List ℕ) (rows : List (List ℤ)) (xs : List ℕ) (f : Form) → IsCorner D low rows xs → value_at f (record { scale = D; values = xs }) ≡ number_of D low rows f 0
+pub corner_value : (D : ℕ) (low : List ℕ) (rows : List (List ℤ)) (xs : List ℕ) (f : Form) → IsCorner D low rows xs →
+    value_at f (record { scale = D; values = xs }) ≡ number_of D low rows f 0
 corner_value D low rows xs f corner =
     ap (λ z. (f.constant *ℤ pos D) +ℤ z) (dot-corner D f.coefficients low rows xs corner)
     ∙ ring (f.constant ∷ pos D ∷ dot f.coefficients low ∷ from_lows f.coefficients rows 0 ∷ [])
@@ -43,7 +46,9 @@ Resolves D e us (l ∷ low) (ts ∷ rows) (y ∷ ys) =
     ((pos D *ℤ (pos y -ℤ (pos l *ℤ pos e))) ≡ ((number_at ts 0 *ℤ pos e) +ℤ row_sum (rest_of ts) us)) × Resolves D e us low rows ys
 Resolves D e us _ _ _ = ⊥
 
-from_corner : (D e : ℕ) (us low : List ℕ) (rows : List (List ℤ)) (xs ys : List ℕ) → IsCorner D low rows xs → Resolves D e us low rows ys → differences (map (λ y. y * D) ys) (map (λ x. x * e) xs) ≡ map (λ ts. row_sum ts us) (map rest_of rows)
+from_corner : (D e : ℕ) (us low : List ℕ) (rows : List (List ℤ)) (xs ys : List ℕ) → IsCorner D low rows xs →
+    Resolves D e us low rows ys → differences (map (λ y. y * D) ys) (map (λ x. x * e) xs)
+    ≡ map (λ ts. row_sum ts us) (map rest_of rows)
 from_corner D e us [] [] [] [] corner resolves = refl
 from_corner D e us (l ∷ low) (ts ∷ rows) (x ∷ xs) (y ∷ ys) corner resolves =
     cc (from_corner D e us low rows xs ys corner.1 resolves.1, first)
@@ -62,7 +67,9 @@ from_corner D e us (l ∷ low) (ts ∷ rows) [] ys corner resolves = absurd corn
 from_corner D e us (l ∷ low) (ts ∷ rows) (x ∷ xs) [] corner resolves = absurd resolves
 
 -- Where each column leads with a positive number, no point at which the forms of the basis aren't negative comes before the corner.
-pub corner_least : (D e : ℕ) (us low : List ℕ) (rows : List (List ℤ)) (xs ys : List ℕ) → IsCorner D low rows xs → Resolves D e us low rows ys → ((k : ℕ) → k < length us → LeadsPositive (map (λ ts. number_at ts (suc k)) rows)) → LexLess (map (λ y. y * D) ys) (map (λ x. x * e) xs) → ⊥
+pub corner_least : (D e : ℕ) (us low : List ℕ) (rows : List (List ℤ)) (xs ys : List ℕ) → IsCorner D low rows xs →
+    Resolves D e us low rows ys → ((k : ℕ) → k < length us → LeadsPositive (map (λ ts. number_at ts (suc k)) rows)) →
+    LexLess (map (λ y. y * D) ys) (map (λ x. x * e) xs) → ⊥
 corner_least D e us low rows xs ys corner resolves lead before =
     less_leads (map (λ y. y * D) ys) (map (λ x. x * e) xs) before
     (rw (from_corner D e us low rows xs ys corner resolves)

@@ -6,11 +6,12 @@ use Rattle.std.proofs.lemmas.Bool.{cases_eq}
 use Rattle.std.proofs.lemmas.List.{length-set}
 use Rattle.cost_base.specs.Lists.{numbers_from}
 use Rattle.whole_numbers.proofs.Ring.{var, ◌⊗◌, ring}
+use Rattle.whole_numbers.specs.Lists.{number_at}
 use Rattle.path_rows.specs.declared.form.Form.{Form}
 use Rattle.path_rows.specs.Forms.{no_form}
 use Rattle.path_rows.specs.Basis.{IsMixture}
-use Rattle.fraction_table.specs.Wholes.{AllLong, AreMixtures, number_at, number_of, numbers_of}
-use Rattle.fraction_rows.proofs.Filled.{length-mapped, mapped_at, mapped_same}
+use Rattle.fraction_table.specs.Wholes.{AllLong, AreMixtures, number_of, numbers_of}
+use Rattle.fraction_rows.proofs.FilledRows.{length-mapped, mapped_at, mapped_same}
 use Rattle.fraction_table.proofs.theory.Blends.{listed_at}
 use Rattle.fraction_table.proofs.theory.Pivot.{turned, crossed, length-crossed, pivot_keeps}
 use Rattle.fraction_table.proofs.theory.Turns.{turned_rows, turned_other, turned_same, number_other, number_same, stays, enters}
@@ -18,7 +19,8 @@ use Rattle.fraction_table.proofs.theory.Turns.{turned_rows, turned_other, turned
 pub numbers_long : (n D : ℕ) (low : List ℕ) (lows : List (List ℤ)) (f : Form) → length (numbers_of n D low lows f) ≡ suc n
 numbers_long n D low lows f = length-mapped (number_of D low lows f) 0 (suc n)
 
-pub numbers_at : (n D : ℕ) (low : List ℕ) (lows : List (List ℤ)) (f : Form) (place : ℕ) → place < suc n → number_at (numbers_of n D low lows f) place ≡ number_of D low lows f place
+pub numbers_at : (n D : ℕ) (low : List ℕ) (lows : List (List ℤ)) (f : Form) (place : ℕ) → place < suc n →
+    number_at (numbers_of n D low lows f) place ≡ number_of D low lows f place
 numbers_at n D low lows f place place_in =
     mapped_at (number_of D low lows f) 0 (suc n) place (pos 0) place_in ∙ ap (number_of D low lows f) (zero-add place)
 
@@ -26,7 +28,9 @@ length-turned : (fs rs : List ℤ) (j D : ℕ) → length fs ≡ length rs → l
 length-turned fs rs j D same =
     length-set (crossed (number_at rs j) (number_at fs j) fs rs) j (number_at fs j *ℤ pos D) ∙ length-crossed (number_at rs j) (number_at fs j) fs rs same
 
-pub numbers_turned : (n D a : ℕ) (low : List ℕ) (lows : List (List ℤ)) (f : Form) (rs : List ℤ) (j : ℕ) → length rs ≡ suc n → AllLong (length rs) lows → number_at rs (suc j) ≡ pos a → j < n → numbers_of n (D * a) low (turned_rows lows rs (suc j) D) f ≡ turned (numbers_of n D low lows f) rs (suc j) D
+pub numbers_turned : (n D a : ℕ) (low : List ℕ) (lows : List (List ℤ)) (f : Form) (rs : List ℤ) (j : ℕ) →
+    length rs ≡ suc n → AllLong (length rs) lows → number_at rs (suc j) ≡ pos a → j < n →
+    numbers_of n (D * a) low (turned_rows lows rs (suc j) D) f ≡ turned (numbers_of n D low lows f) rs (suc j) D
 numbers_turned n D a low lows f rs j counted long at_j j_in =
     let fs = numbers_of n D low lows f in
     let same : length fs ≡ length rs = numbers_long n D low lows f ∙ sym counted in
@@ -56,7 +60,10 @@ long_turned D j rs [] long = tt
 long_turned D j rs (ts ∷ lows) long = (length-turned ts rs j D long.0 ∙ long.0, long_turned D j rs lows long.1)
 
 -- the forms x - low are mixtures of the new basis by their turned numbers
-pub mixtures_turned : (D a : ℕ) (bs : List Form) (j : ℕ) (r : Form) (rs : List ℤ) (gs : List Form) (lows : List (List ℤ)) → j < length bs → length rs ≡ suc (length bs) → number_at rs (suc j) ≡ pos a → IsMixture r bs D rs → AllLong (suc (length bs)) lows → AreMixtures D bs gs lows → AreMixtures (D * a) (slice_set bs j r) gs (turned_rows lows rs (suc j) D)
+pub mixtures_turned : (D a : ℕ) (bs : List Form) (j : ℕ) (r : Form) (rs : List ℤ) (gs : List Form)
+    (lows : List (List ℤ)) → j < length bs → length rs ≡ suc (length bs) → number_at rs (suc j) ≡ pos a →
+    IsMixture r bs D rs → AllLong (suc (length bs)) lows → AreMixtures D bs gs lows →
+    AreMixtures (D * a) (slice_set bs j r) gs (turned_rows lows rs (suc j) D)
 mixtures_turned D a bs j r rs [] [] j_in counted at_j r_is long are = tt
 mixtures_turned D a bs j r rs [] (ts ∷ lows) j_in counted at_j r_is long are = absurd are
 mixtures_turned D a bs j r rs (g ∷ gs) [] j_in counted at_j r_is long are = absurd are
@@ -74,18 +81,27 @@ pub record IsEntry (n D a : ℕ) (low : List ℕ) (lows : List (List ℤ)) (r : 
   pub j_in : j < n
 
 -- the form of each column has the common denominator in it
-pub own_turned : (n D a : ℕ) (low : List ℕ) (lows : List (List ℤ)) (bs : List Form) (r : Form) (rs : List ℤ) (j : ℕ) → IsEntry n D a low lows r rs j → length bs ≡ n → ((k : ℕ) → k < n → number_of D low lows (slice_index_or bs k no_form) (suc k) ≡ pos D) → ((k place : ℕ) → k < n → place ≤ n → place ≢ suc k → number_of D low lows (slice_index_or bs k no_form) place ≡ pos 0) → (k : ℕ) → k < n → number_of (D * a) low (turned_rows lows rs (suc j) D) (slice_index_or (slice_set bs j r) k no_form) (suc k) ≡ pos (D * a)
+pub own_turned : (n D a : ℕ) (low : List ℕ) (lows : List (List ℤ)) (bs : List Form) (r : Form) (rs : List ℤ) (j : ℕ) →
+    IsEntry n D a low lows r rs j → length bs ≡ n →
+    ((k : ℕ) → k < n → number_of D low lows (slice_index_or bs k no_form) (suc k) ≡ pos D) →
+    ((k place : ℕ) → k < n → place ≤ n → place ≢ suc k → number_of D low lows (slice_index_or bs k no_form) place
+    ≡ pos 0) → (k : ℕ) → k < n →
+    number_of (D * a) low (turned_rows lows rs (suc j) D) (slice_index_or (slice_set bs j r) k no_form) (suc k)
+    ≡ pos (D * a)
 own_turned n D a low lows bs r rs j e as_many own elsewhere k k_in =
     elim (cases_eq k j) [
       | inl same ↦
-          subst (λ (i : ℕ). number_of (D * a) low (turned_rows lows rs (suc j) D) (slice_index_or (slice_set bs j r) i no_form) (suc i) ≡ pos (D * a)) (sym same)
+          subst (λ (i : ℕ). number_of (D * a) low (turned_rows lows rs (suc j) D)
+          (slice_index_or (slice_set bs j r) i no_form) (suc i) ≡ pos (D * a)) (sym same)
           (ap (λ (f : Form). number_of (D * a) low (turned_rows lows rs (suc j) D) f (suc j)) (get_or-set_same bs j r no_form (omega (arith, as_many, e.j_in)))
           ∙ number_same D a low lows r rs j e.long (omega (arith, e.counted, e.j_in))
           ∙ ap (λ z. z *ℤ pos D) (e.numbers (suc j) (omega (arith, e.counted, e.j_in)) ∙ e.at_j)
           ∙ ring (pos a ∷ pos D ∷ []) (var 0 ⊗ var 1) (var 1 ⊗ var 0) refl)
       | inr other ↦
           ap (λ (f : Form). number_of (D * a) low (turned_rows lows rs (suc j) D) f (suc k)) (get_or-set_other bs j k r no_form other)
-          ∙ stays D a low lows (slice_index_or bs k no_form) rs j (suc k) e.long e.at_j (next_apart other) (omega (arith, e.counted, k_in)) (elsewhere k (suc j) k_in (omega (arith, e.j_in)) (next_apart (λ h. other (sym h))))
+          ∙ stays D a low lows (slice_index_or bs k no_form) rs j (suc k) e.long e.at_j (next_apart other)
+          (omega (arith, e.counted, k_in))
+          (elsewhere k (suc j) k_in (omega (arith, e.j_in)) (next_apart (λ h. other (sym h))))
           ∙ ap (λ z. z *ℤ pos a) (own k k_in)
     ]
   where
@@ -93,28 +109,37 @@ own_turned n D a low lows bs r rs j e as_many own elsewhere k k_in =
     next_apart {x} {y} apart h = apart (omega (arith, h))
 
 -- and 0 elsewhere
-pub elsewhere_turned : (n D a : ℕ) (low : List ℕ) (lows : List (List ℤ)) (bs : List Form) (r : Form) (rs : List ℤ) (j : ℕ) → IsEntry n D a low lows r rs j → length bs ≡ n → ((k place : ℕ) → k < n → place ≤ n → place ≢ suc k → number_of D low lows (slice_index_or bs k no_form) place ≡ pos 0) → (k place : ℕ) → k < n → place ≤ n → place ≢ suc k → number_of (D * a) low (turned_rows lows rs (suc j) D) (slice_index_or (slice_set bs j r) k no_form) place ≡ pos 0
+pub elsewhere_turned : (n D a : ℕ) (low : List ℕ) (lows : List (List ℤ)) (bs : List Form) (r : Form) (rs : List ℤ)
+    (j : ℕ) → IsEntry n D a low lows r rs j → length bs ≡ n →
+    ((k place : ℕ) → k < n → place ≤ n → place ≢ suc k → number_of D low lows (slice_index_or bs k no_form) place
+    ≡ pos 0) → (k place : ℕ) → k < n → place ≤ n → place ≢ suc k →
+    number_of (D * a) low (turned_rows lows rs (suc j) D) (slice_index_or (slice_set bs j r) k no_form) place ≡ pos 0
 elsewhere_turned n D a low lows bs r rs j e as_many elsewhere k place k_in place_in apart =
     elim (cases_eq k j) [
       | inl same ↦
           ap (λ (i : ℕ). number_of (D * a) low (turned_rows lows rs (suc j) D) (slice_index_or (slice_set bs j r) i no_form) place) same
           ∙ ap (λ (f : Form). number_of (D * a) low (turned_rows lows rs (suc j) D) f place) (get_or-set_same bs j r no_form (omega (arith, as_many, e.j_in)))
-          ∙ enters D a low lows r rs j place e.long e.at_j e.numbers (λ h. apart (h ∙ ap suc (sym same))) (omega (arith, e.counted, place_in)) (omega (arith, e.counted, e.j_in))
+          ∙ enters D a low lows r rs j place e.long e.at_j e.numbers (λ h. apart (h ∙ ap suc (sym same)))
+          (omega (arith, e.counted, place_in)) (omega (arith, e.counted, e.j_in))
       | inr other ↦
           ap (λ (f : Form). number_of (D * a) low (turned_rows lows rs (suc j) D) f place) (get_or-set_other bs j k r no_form other)
-          ∙ kept (slice_index_or bs k no_form) (elsewhere k (suc j) k_in (omega (arith, e.j_in)) (next_apart (λ h. other (sym h)))) (elsewhere k place k_in place_in apart)
+          ∙ kept (slice_index_or bs k no_form)
+          (elsewhere k (suc j) k_in (omega (arith, e.j_in)) (next_apart (λ h. other (sym h))))
+          (elsewhere k place k_in place_in apart)
     ]
   where
     next_apart : {x y : ℕ} → x ≢ y → suc x ≢ suc y
     next_apart {x} {y} differ h = differ (omega (arith, h))
 
     -- a form with 0 at the pivot's column keeps a 0
-    kept : (f : Form) → number_of D low lows f (suc j) ≡ pos 0 → number_of D low lows f place ≡ pos 0 → number_of (D * a) low (turned_rows lows rs (suc j) D) f place ≡ pos 0
+    kept : (f : Form) → number_of D low lows f (suc j) ≡ pos 0 → number_of D low lows f place ≡ pos 0 →
+        number_of (D * a) low (turned_rows lows rs (suc j) D) f place ≡ pos 0
     kept f at_pivot here =
         elim (cases_eq place (suc j)) [
           | inl there ↦
               subst (λ (p : ℕ). number_of (D * a) low (turned_rows lows rs (suc j) D) f p ≡ pos 0) (sym there)
               (number_same D a low lows f rs j e.long (omega (arith, e.counted, e.j_in)) ∙ ap (λ z. z *ℤ pos D) at_pivot ∙ lib.IntN.zero-*ℤ (pos D))
           | inr elsewhere_place ↦
-              stays D a low lows f rs j place e.long e.at_j elsewhere_place (omega (arith, e.counted, place_in)) at_pivot ∙ ap (λ z. z *ℤ pos a) here ∙ lib.IntN.zero-*ℤ (pos a)
+              stays D a low lows f rs j place e.long e.at_j elsewhere_place (omega (arith, e.counted, place_in))
+              at_pivot ∙ ap (λ z. z *ℤ pos a) here ∙ lib.IntN.zero-*ℤ (pos a)
         ]

@@ -4,13 +4,14 @@ use Rattle.std.specs.Prelude.{ℤ, pos, negsuc, ◌+ℤ◌, ◌-ℤ◌, ◌*ℤ�
 use Rattle.std.proofs.lemmas.List.{get_or-map}
 use Rattle.cost_base.specs.Lists.{numbers_from}
 use Rattle.whole_numbers.proofs.Ring.{var, num, ◌⊕◌, ◌⊖◌, ◌⊗◌, neg, ring}
+use Rattle.whole_numbers.specs.Lists.{number_at}
 use Rattle.path_rows.specs.declared.form.Form.{Form}
 use Rattle.path_rows.specs.declared.tree.Member.TheVariants.{Low, High}
 use Rattle.path_rows.specs.Forms.{dot, value}
 use Rattle.path_rows.specs.Basis.{member_form, unit}
-use Rattle.fraction_table.specs.Wholes.{AllLong, from_lows, number_at, number_of, numbers_of}
+use Rattle.fraction_table.specs.Wholes.{AllLong, from_lows, number_of, numbers_of}
 use Rattle.fraction_rows.proofs.Columns.{same_test, other_test}
-use Rattle.fraction_rows.proofs.Filled.{mapped_same}
+use Rattle.fraction_rows.proofs.FilledRows.{mapped_same}
 use Rattle.fraction_table.proofs.theory.Blends.{listed_at}
 
 -- the coefficients from a on
@@ -28,7 +29,8 @@ no_units v a (suc m) place c (ts ∷ lows) before =
     apart : v < a → a ≢ v
     apart h = omega arith
 
-units_from_lows : (v a i m place : ℕ) (c : ℤ) (lows : List (List ℤ)) → v ≡ a + i → i < m → m ≡ length lows → from_lows (units v c a m) lows place ≡ (c *ℤ number_at (slice_index_or lows i []) place)
+units_from_lows : (v a i m place : ℕ) (c : ℤ) (lows : List (List ℤ)) → v ≡ a + i → i < m → m ≡ length lows →
+    from_lows (units v c a m) lows place ≡ (c *ℤ number_at (slice_index_or lows i []) place)
 units_from_lows v a i zero place c lows there i_in counted = absurd (omega arith)
 units_from_lows v a i (suc m) place c [] there i_in counted = absurd (omega arith)
 units_from_lows v a zero (suc m) place c (ts ∷ lows) there i_in counted =
@@ -43,7 +45,8 @@ units_from_lows v a (suc i) (suc m) place c (ts ∷ lows) there i_in counted =
     apart : v ≡ a + suc i → a ≢ v
     apart h = omega arith
 
-pub unit_from_lows : (n v place : ℕ) (c : ℤ) (lows : List (List ℤ)) → v < n → n ≡ length lows → from_lows (unit n v c) lows place ≡ (c *ℤ number_at (slice_index_or lows v []) place)
+pub unit_from_lows : (n v place : ℕ) (c : ℤ) (lows : List (List ℤ)) → v < n → n ≡ length lows →
+    from_lows (unit n v c) lows place ≡ (c *ℤ number_at (slice_index_or lows v []) place)
 unit_from_lows n v place c lows v_in counted = units_from_lows v 0 v n place c lows (omega arith) v_in counted
 
 -- a sum of products is one of rows of one number each
@@ -68,7 +71,8 @@ low_value low rows v v_in =
     ap (λ z. neg_ℤ (pos (slice_index low v)) +ℤ z) (unit_dot v (pos 1) low v_in)
     ∙ ring (pos (slice_index low v) ∷ []) (neg (var 0) ⊕ num (pos 1) ⊗ var 0) (num (pos 0)) refl
 
-pub high_value : (low : List ℕ) (rows : List Form) (v bound : ℕ) → v < length low → value (member_form (length low) rows (High v bound)) low ≡ (pos bound -ℤ pos (slice_index low v))
+pub high_value : (low : List ℕ) (rows : List Form) (v bound : ℕ) → v < length low →
+    value (member_form (length low) rows (High v bound)) low ≡ (pos bound -ℤ pos (slice_index low v))
 high_value low rows v bound v_in =
     ap (λ z. pos bound +ℤ z) (unit_dot v (negsuc 0) low v_in)
     ∙ ring (pos bound ∷ pos (slice_index low v) ∷ []) (var 0 ⊕ num (negsuc 0) ⊗ var 1) (var 0 ⊖ var 1) refl
@@ -79,7 +83,10 @@ long_at n (ts ∷ lows) zero long v_in = long.0
 long_at n (ts ∷ lows) (suc v) long v_in = long_at n lows v long.1 (omega arith)
 
 -- the numbers of x - low are those of its row
-pub low_numbers : (D : ℕ) (low : List ℕ) (lows : List (List ℤ)) (rows : List Form) (v : ℕ) → length low ≡ length lows → AllLong (suc (length low)) lows → v < length low → numbers_of (length low) D low lows (member_form (length low) rows (Low v (slice_index low v))) ≡ slice_index_or lows v []
+pub low_numbers : (D : ℕ) (low : List ℕ) (lows : List (List ℤ)) (rows : List Form) (v : ℕ) → length low ≡ length lows →
+    AllLong (suc (length low)) lows → v < length low →
+    numbers_of (length low) D low lows (member_form (length low) rows (Low v (slice_index low v)))
+    ≡ slice_index_or lows v []
 low_numbers D low lows rows v counted long v_in =
     let n = length low in
     let f = member_form n rows (Low v (slice_index low v)) in
@@ -90,7 +97,9 @@ low_numbers D low lows rows v counted long v_in =
     ∙ ap (λ m. map (number_at ts) (numbers_from 0 m)) (sym (long_at (suc n) lows v long (omega (arith, counted))))
     ∙ listed_at ts
   where
-    here : (f : Form) (ts : List ℤ) → value f low ≡ pos 0 → ((place : ℕ) → from_lows f.coefficients lows place ≡ number_at ts place) → (place : ℕ) → number_of D low lows f place ≡ number_at ts place
+    here : (f : Form) (ts : List ℤ) → value f low ≡ pos 0 →
+        ((place : ℕ) → from_lows f.coefficients lows place ≡ number_at ts place) → (place : ℕ) →
+        number_of D low lows f place ≡ number_at ts place
     here f ts none own zero =
         ap (λ z. (pos D *ℤ z) +ℤ from_lows f.coefficients lows 0) none
         ∙ ap (λ z. (pos D *ℤ pos 0) +ℤ z) (own 0)

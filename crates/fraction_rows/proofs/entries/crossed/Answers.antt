@@ -5,8 +5,8 @@ use Rattle.cost_base.specs.declared.StepName.TheVariants.{Sub}
 use Rattle.whole_numbers.specs.Fractions.{Fraction, minus, times}
 use Rattle.wide_fraction.specs.declared.steps.Wide.{Wide}
 use Rattle.fraction_rows.specs.Entries.{IsTermStep}
-use Rattle.fraction_rows.proofs.Numbers.{lowest_zero, crossed_nothing}
-use Rattle.fraction_rows.proofs.Passing.{named_passes}
+use Rattle.fraction_rows.proofs.ZeroFractions.{lowest_zero, crossed_nothing}
+use Rattle.fraction_rows.proofs.NamedSteps.{named_passes}
 use Rattle.fraction_rows.proofs.entries.crossed.Goals as goal
 
 pub returns-then-is_zero-clause-exact : goal.returns-then-is_zero-clause-exact
@@ -15,7 +15,9 @@ returns-then-is_zero-clause-exact c =
     sym (ap (λ (t : Fraction). minus c.args.old (times c.args.factor t)) (lowest_zero c.args.quotient c.requires.quotient.lowest zero_is)
     ∙ crossed_nothing c.args.old c.args.factor c.requires.old.lowest c.requires.factor.lowest.positive)
 
-difference_step : (r : Result Fraction Wide) (old factor quotient product : Fraction) → product ≡ times factor quotient → IfErr r (λ wide. wide ≡ record { step = Sub; left = old; right = product }) → IfErr r (λ wide. IsTermStep old factor quotient wide)
+difference_step : (r : Result Fraction Wide) (old factor quotient product : Fraction) →
+    product ≡ times factor quotient → IfErr r (λ wide. wide ≡ record { step = Sub; left = old; right = product }) →
+    IfErr r (λ wide. IsTermStep old factor quotient wide)
 difference_step (Ok q) old factor quotient product product_is named = tt
 difference_step (Err wide) old factor quotient product product_is named =
     inr (named ∙ ap (λ (t : Fraction). record { step = Sub; left = old; right = t }) product_is)

@@ -5,7 +5,7 @@ use Rattle.whole_numbers.specs.Fractions.{Fraction, divided}
 use Rattle.wide_fraction.specs.declared.steps.Wide.{Wide}
 use Rattle.fraction_rows.specs.TableRows.{fraction_at, nothing}
 use Rattle.fraction_rows.specs.Entries.{IsQuotientStep, divided_at, head_column}
-use Rattle.fraction_rows.proofs.Numbers.{nothing_number, nothing_divided}
+use Rattle.fraction_rows.proofs.ZeroFractions.{nothing_number, nothing_divided}
 use Rattle.fraction_rows.proofs.Columns.{test_cases, head_number, after_numbers, put_numbers}
 use Rattle.fraction_rows.proofs.Crossings.{crossing_turns, crossing_ends, made_rise, made_short, heads_at}
 use Rattle.fraction_rows.proofs.entries.divide_entries.Goals as goal
@@ -22,16 +22,19 @@ returns-then-width-column-clause-made c =
 
 pub returns-then-width-column-clause-rises : goal.returns-then-width-column-clause-rises
 returns-then-width-column-clause-rises c =
-    made_rise c.args.width (divided_at c.args.left_out c.args.divisor) c.args.olds.now [] c.columns.left.now [] c.columns.made.items c.columns.invariant.crossing
+    made_rise c.args.width (divided_at c.args.left_out c.args.divisor) c.args.olds.now [] c.columns.left.now []
+    c.columns.made.items c.columns.invariant.crossing
 
 pub quotient_at-requires-clause-value : goal.quotient_at-requires-clause-value
 quotient_at-requires-clause-value c =
     rw c.take_at-value.ensures.fraction
-    (head_number c.args.top c.columns.left.now c.next_column-column.result (nothing_number c.args.top c.args.divisor c.requires.divisor) c.columns.invariant.olds)
+    (head_number c.args.top c.columns.left.now c.next_column-column.result
+    (nothing_number c.args.top c.args.divisor c.requires.divisor) c.columns.invariant.olds)
 
 pub returns-in_err-quotient-clause-rises : goal.returns-in_err-quotient-clause-rises
 returns-in_err-quotient-clause-rises c =
-    made_rise c.args.width (divided_at c.args.left_out c.args.divisor) c.args.olds.now [] c.columns.left.now [] c.columns.made.items c.columns.invariant.crossing
+    made_rise c.args.width (divided_at c.args.left_out c.args.divisor) c.args.olds.now [] c.columns.left.now []
+    c.columns.made.items c.columns.invariant.crossing
 
 seen_step : (value first divisor : Fraction) (wide : Wide) → value ≡ first → IsQuotientStep value divisor wide → IsQuotientStep first divisor wide
 seen_step value first divisor wide value_is step = subst (λ (q : Fraction). IsQuotientStep q divisor wide) value_is step
@@ -41,7 +44,8 @@ returns-in_err-quotient-clause-step c =
     let p = err_from_is_err_and c.from_residual.result c.from_residual.ensures.1 in
     let column = c.next_column-column.result in
     let next : column ≡ min (head_column c.columns.left.now c.args.width) c.args.width = omega (arith, c.next_column-column.ensures) in
-    let heads = heads_at c.args.width (divided_at c.args.left_out c.args.divisor) c.args.olds.now [] c.columns.left.now [] c.columns.made.items column c.columns.invariant.crossing next in
+    let heads = heads_at c.args.width (divided_at c.args.left_out c.args.divisor) c.args.olds.now [] c.columns.left.now
+    [] c.columns.made.items column c.columns.invariant.crossing next in
     rw (p.1, p.2) (
       column,
       c.if-width-column.false,
@@ -53,21 +57,27 @@ pub put_entry-requires : goal.put_entry-requires
 put_entry-requires c =
     let column = c.next_column-column.result in
     let next : column ≡ min (head_column c.columns.left.now c.args.width) c.args.width = omega (arith, c.next_column-column.ensures) in
-    let short = made_short c.args.width (divided_at c.args.left_out c.args.divisor) c.args.olds.now [] c.columns.left.now [] c.columns.made.items column c.columns.invariant.crossing next c.if-width-column.false in
+    let short = made_short c.args.width (divided_at c.args.left_out c.args.divisor) c.args.olds.now []
+    c.columns.left.now [] c.columns.made.items column c.columns.invariant.crossing next c.if-width-column.false in
     record { room = omega (arith, c.columns.made.ok.0, c.columns.invariant.room) }
 
 pub columns-preserved : goal.columns-preserved
 columns-preserved c =
     let column = c.next_column-column.result in
     let next : column ≡ min (head_column c.columns.left.now c.args.width) c.args.width = omega (arith, c.next_column-column.ensures) in
-    let value_is = c.in_ok-quotient.ensures.exact ∙ ap (λ (q : Fraction). divided_at c.args.left_out c.args.divisor column q nothing) c.take_at-value.ensures.fraction in
+    let value_is = c.in_ok-quotient.ensures.exact
+    ∙ ap (λ (q : Fraction). divided_at c.args.left_out c.args.divisor column q nothing)
+    c.take_at-value.ensures.fraction in
     let turned =
-    crossing_turns c.args.width (divided_at c.args.left_out c.args.divisor) c.args.olds.now [] c.columns.left.now [] c.columns.made.items c.put_entry.new.entries.items
-    column c.in_ok-quotient.quotient (keeps c.args.left_out c.args.divisor) c.in_ok-quotient.ensures.number.lowest c.columns.invariant.crossing next c.if-width-column.false value_is c.put_entry.ensures.put in
+    crossing_turns c.args.width (divided_at c.args.left_out c.args.divisor) c.args.olds.now [] c.columns.left.now []
+    c.columns.made.items c.put_entry.new.entries.items
+    column c.in_ok-quotient.quotient (keeps c.args.left_out c.args.divisor) c.in_ok-quotient.ensures.number.lowest
+    c.columns.invariant.crossing next c.if-width-column.false value_is c.put_entry.ensures.put in
     rw c.take_at-value.ensures.rest
     (record {
       crossing = turned;
       olds = after_numbers c.args.top c.columns.left.now column c.columns.invariant.olds;
-      made = put_numbers c.args.top column c.in_ok-quotient.quotient c.columns.made.items c.put_entry.new.entries.items c.columns.invariant.made c.in_ok-quotient.ensures.number c.put_entry.ensures.put;
+      made = put_numbers c.args.top column c.in_ok-quotient.quotient c.columns.made.items c.put_entry.new.entries.items
+          c.columns.invariant.made c.in_ok-quotient.ensures.number c.put_entry.ensures.put;
       room = omega (arith, c.put_entry.ensures.capacity, c.columns.invariant.room);
     })

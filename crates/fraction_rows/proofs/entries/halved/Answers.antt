@@ -3,7 +3,7 @@ use Rattle.std.proofs.Common.{ℕ, ◌<◌, ◌≤◌, ◌/◌, List, length, su
 use Rattle.whole_numbers.specs.Fractions.{Fraction}
 use Rattle.fraction_rows.specs.Entries.{head_column}
 use Rattle.fraction_rows.proofs.Columns.{drop_rises, take_rises}
-use Rattle.fraction_rows.proofs.Places.{before_without, first_half, half_begins, head_without, second_half}
+use Rattle.fraction_rows.proofs.HalvedPlaces.{before_without, first_half, half_begins, head_without, second_half}
 use Rattle.fraction_rows.proofs.entries.halved.Goals as goal
 
 pub halves-init : goal.halves-init
@@ -20,7 +20,8 @@ halves-preserved-then-column-next_column c =
     (subst (λ (n : ℕ). column < n) c.next_column.ensures c.if-column-next_column.true) in
     rw c.split_at.ensures.front
     (record {
-      half = first_half c.args.entries.now column c.halves.place left m c.halves.invariant.half (head_without 0 rising.0 column column (drop m left) (drop_rises 0 rising.0 m left rising.1) ahead);
+      half = first_half c.args.entries.now column c.halves.place left m c.halves.invariant.half
+          (head_without 0 rising.0 column column (drop m left) (drop_rises 0 rising.0 m left rising.1) ahead);
       rising = (rising.0, take_rises 0 rising.0 m left rising.1);
     })
 
@@ -36,7 +37,8 @@ halves-preserved c =
     (subst (λ (n : ℕ). n ≤ column) c.next_column.ensures c.if-column-next_column.false) in
     rw c.split_at.ensures.back
     (record {
-      half = second_half c.args.entries.now column c.halves.place left m c.halves.invariant.half m_in (before_without 0 rising.0 column m column left rising.1 m_in reached);
+      half = second_half c.args.entries.now column c.halves.place left m c.halves.invariant.half m_in
+          (before_without 0 rising.0 column m column left rising.1 m_in reached);
       rising = (rising.0, drop_rises 0 rising.0 m left rising.1);
     })
 

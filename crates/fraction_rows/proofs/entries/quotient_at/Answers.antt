@@ -1,6 +1,6 @@
 -- A quotient that is too wide is named as it was handed in.
 use Rattle.cost_base.specs.declared.StepName.TheVariants.{Div}
-use Rattle.fraction_rows.proofs.Passing.{named_passes}
+use Rattle.fraction_rows.proofs.NamedSteps.{named_passes}
 use Rattle.fraction_rows.proofs.entries.quotient_at.Goals as goal
 
 pub returns-clause-passes : goal.returns-clause-passes

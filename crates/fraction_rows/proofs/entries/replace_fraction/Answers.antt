@@ -3,14 +3,15 @@ use Rattle.std.proofs.Common.{ℕ, ◌∙◌, ap, arith}
 use Rattle.std.specs.Prelude.{slice_set}
 use Rattle.whole_numbers.specs.Fractions.{Fraction}
 use Rattle.fraction_rows.specs.Entries.{replaced}
-use Rattle.fraction_rows.proofs.Places.{place_beyond, place_written}
+use Rattle.fraction_rows.proofs.HalvedPlaces.{place_beyond, place_written}
 use Rattle.fraction_rows.proofs.entries.replace_fraction.Goals as goal
 
 pub returns-then-place-entries : goal.returns-then-place-entries
 returns-then-place-entries c =
     let es = c.args.entries.now in
     let place = c.place_of-place.result in
-    ap (λ (e : ℕ × Fraction). slice_set es place e) (c.replaced.ensures ∙ ap (λ (e : ℕ × Fraction). replaced c.args.column c.args.value e) c.index-entries-place.is)
+    ap (λ (e : ℕ × Fraction). slice_set es place e) (c.replaced.ensures
+    ∙ ap (λ (e : ℕ × Fraction). replaced c.args.column c.args.value e) c.index-entries-place.is)
     ∙ place_written c.args.column c.args.value es place _ c.place_of-place.ensures (omega (arith, c.if-place-entries.true))
 
 pub returns-else-place-entries : goal.returns-else-place-entries

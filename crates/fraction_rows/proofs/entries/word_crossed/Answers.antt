@@ -4,8 +4,8 @@ use Rattle.std.specs.Prelude.{ℤ}
 use Rattle.std.proofs.lemmas.Int.{to_z-of_z}
 use mir.Syntax.{w64, w128}
 use Rattle.whole_numbers.specs.Fractions.{whole}
-use Rattle.fraction_rows.proofs.Numbers.{short_value}
-use Rattle.fraction_rows.proofs.Tops.{top_some}
+use Rattle.fraction_rows.proofs.ZeroFractions.{short_value}
+use Rattle.fraction_rows.proofs.SmallNumbers.{top_some}
 use Rattle.fraction_rows.proofs.entries.word_crossed.Goals as goal
 
 pub returns-in-Some-bounded_difference : goal.returns-in-Some-bounded_difference
@@ -21,5 +21,7 @@ returns-in-Some-bounded_difference c =
     let product_is = simp to_z-of_z at c.in-Some.ensures in
     let difference = simp to_z-of_z at c.in-Some-bounded_difference.ensures in
     let made : c.whole_wide.result ≡ whole value = c.whole_wide.ensures ∙ ap (λ (z : ℤ). whole z) (to_z-of_z w128 value value_fits) in
-    short_value c.args.top c.size-in-Some.result c.args.old c.args.factor c.args.quotient product value c.from.result c.whole_wide.result made product_is difference.0 (c.from.ensures ∙ to_z-of_z w64 c.args.old old_fits) difference.1 c.size-in-Some.ensures.value
+    short_value c.args.top c.size-in-Some.result c.args.old c.args.factor c.args.quotient product value c.from.result
+    c.whole_wide.result made product_is difference.0 (c.from.ensures ∙ to_z-of_z w64 c.args.old old_fits)
+    difference.1 c.size-in-Some.ensures.value
     (top_some c.args.top c.value.ensures.width)

@@ -8,10 +8,10 @@ use Rattle.wide_fraction.specs.Widths.{IsWithin}
 use Rattle.fraction_rows.specs.Entries.{IsPassing}
 use Rattle.path_rows.specs.Basis.{entry}
 use Rattle.fraction_rows.specs.TableRows.{nothing}
-use Rattle.fraction_rows.proofs.Numbers.{lowest_zero, minus_nothing, times_nothing}
-use Rattle.fraction_rows.proofs.Passing.{named_passes}
+use Rattle.fraction_rows.proofs.ZeroFractions.{lowest_zero, minus_nothing, times_nothing}
+use Rattle.fraction_rows.proofs.NamedSteps.{named_passes}
 use Rattle.fraction_rows.proofs.RowLaws.{number_at}
-use Rattle.fraction_rows.proofs.Tops.{whole_number}
+use Rattle.fraction_rows.proofs.SmallNumbers.{whole_number}
 use Rattle.fraction_rows.proofs.sum.add_term.Goals as goal
 
 pub mul-requires-clause-left_within : goal.mul-requires-clause-left_within

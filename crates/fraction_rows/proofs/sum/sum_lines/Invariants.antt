@@ -9,7 +9,9 @@ use Rattle.fraction_rows.proofs.sum.sum_lines.Given as goal
 
 abbrev pub invariant-loop-term : goal.invariant-loop-term
 invariant-loop-term l = record {
-  sums : (place : ℕ) → place < length l.initial.row → entry l.row place ≡ fold plus (entry l.initial.row place) (take l.term-index (terms l.form.coefficients l.lines place));
+  sums : (place : ℕ) → place < length l.initial.row →
+      entry l.row place ≡ fold plus (entry l.initial.row place)
+      (take l.term-index (terms l.form.coefficients l.lines place));
   numbers : AreNumbers l.top l.row;
   width : length l.row ≡ length l.initial.row;
   scratch : length l.scratch ≡ length l.initial.row;

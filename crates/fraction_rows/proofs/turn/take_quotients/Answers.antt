@@ -10,9 +10,9 @@ use Rattle.path_rows.specs.Basis.{entry}
 use Rattle.fraction_rows.specs.TableRows.{AreNumbers, IsDivideStep, IsNumber, IsWideStep, divided_without}
 use Rattle.fraction_rows.specs.Turns.{IsQuotientStepOf}
 use Rattle.fraction_rows.specs.Turns.IsQuotientStepOf.{dividing, inverting}
-use Rattle.fraction_rows.proofs.Filled.{always_ok}
-use Rattle.fraction_rows.proofs.Numbers.{divided_number}
-use Rattle.fraction_rows.proofs.Passing.{named_passes}
+use Rattle.fraction_rows.proofs.FilledRows.{always_ok}
+use Rattle.fraction_rows.proofs.ZeroFractions.{divided_number}
+use Rattle.fraction_rows.proofs.NamedSteps.{named_passes}
 use Rattle.fraction_rows.proofs.RowLaws.{number_at, one_within}
 use Rattle.fraction_rows.proofs.turn.take_quotients.Goals as goal
 
@@ -29,17 +29,22 @@ returns-in_err-divide-clause-wide c =
     let wide = c.in_err-divide.field-0.0 in
     let told = c.in_err-divide.ensures.wide in
     rw (p.1, p.2) (
-      dividing wide.step wide.left wide.right (subst (λ (q : Fraction). IsDivideStep q c.args.row.now wide.step wide.left wide.right) c.entry-divisor.ensures told.0),
+      dividing wide.step wide.left wide.right
+          (subst (λ (q : Fraction). IsDivideStep q c.args.row.now wide.step wide.left wide.right)
+          c.entry-divisor.ensures told.0),
       told.1,
     )
 
 pub div-requires-clause-left_within : goal.div-requires-clause-left_within
 div-requires-clause-left_within c =
-    subst (IsWithin c.args.top) (sym c.whole.ensures) (one_within c.args.top (entry c.args.row.now (suc c.args.column)) (number_at c.args.top c.args.row.now (suc c.args.column) c.requires.numbers c.requires.column))
+    subst (IsWithin c.args.top) (sym c.whole.ensures)
+    (one_within c.args.top (entry c.args.row.now (suc c.args.column))
+    (number_at c.args.top c.args.row.now (suc c.args.column) c.requires.numbers c.requires.column))
 
 pub div-requires-clause-right_within : goal.div-requires-clause-right_within
 div-requires-clause-right_within c =
-    let own_is = subst (IsNumber c.args.top) (sym c.entry-divisor.ensures) (number_at c.args.top c.args.row.now (suc c.args.column) c.requires.numbers c.requires.column) in
+    let own_is = subst (IsNumber c.args.top) (sym c.entry-divisor.ensures)
+    (number_at c.args.top c.args.row.now (suc c.args.column) c.requires.numbers c.requires.column) in
     own_is.within
 
 pub div-requires-clause-not_zero : goal.div-requires-clause-not_zero
@@ -54,24 +59,31 @@ pub returns-clause-quotient_numbers : goal.returns-clause-quotient_numbers
 returns-clause-quotient_numbers c =
     always_ok c.div.result (AreNumbers c.args.top c.divide.new.into) c.in_ok-divide.ensures.numbers
 
-seen_quotient : (r : Result Fraction Wide) (p q first second : Fraction) → p ≡ first → q ≡ second → IfOk r (λ x. x ≡ divided p q) → IfOk r (λ x. x ≡ divided first second)
+seen_quotient : (r : Result Fraction Wide) (p q first second : Fraction) → p ≡ first → q ≡ second →
+    IfOk r (λ x. x ≡ divided p q) → IfOk r (λ x. x ≡ divided first second)
 seen_quotient (Ok x) p q first second p_is q_is exact = exact ∙ ap (λ (f : Fraction). divided f q) p_is ∙ ap (λ (f : Fraction). divided first f) q_is
 seen_quotient (Err wide) p q first second p_is q_is exact = tt
 
 pub returns-clause-inverse : goal.returns-clause-inverse
 returns-clause-inverse c =
-    seen_quotient c.div.result c.whole.result c.entry-divisor.result (whole (pos 1)) (entry c.args.row.now (suc c.args.column)) c.whole.ensures c.entry-divisor.ensures c.div.ensures.exact
+    seen_quotient c.div.result c.whole.result c.entry-divisor.result (whole (pos 1))
+    (entry c.args.row.now (suc c.args.column)) c.whole.ensures c.entry-divisor.ensures c.div.ensures.exact
 
-quotient_number : (r : Result Fraction Wide) (top : ℕ) (p q : Fraction) → 0 < p.denominator → IfOk r (λ x. x ≡ divided p q) → IfOk r (λ x. IsWithin top x) → IfOk r (λ x. IsNumber top x)
+quotient_number : (r : Result Fraction Wide) (top : ℕ) (p q : Fraction) → 0 < p.denominator →
+    IfOk r (λ x. x ≡ divided p q) → IfOk r (λ x. IsWithin top x) → IfOk r (λ x. IsNumber top x)
 quotient_number (Ok x) top p q positive exact within = divided_number top p q x positive exact within
 quotient_number (Err wide) top p q positive exact within = tt
 
 pub returns-clause-number : goal.returns-clause-number
 returns-clause-number c =
-    let exact = seen_quotient c.div.result c.whole.result c.entry-divisor.result (whole (pos 1)) (entry c.args.row.now (suc c.args.column)) c.whole.ensures c.entry-divisor.ensures c.div.ensures.exact in
+    let exact = seen_quotient c.div.result c.whole.result c.entry-divisor.result (whole (pos 1))
+    (entry c.args.row.now (suc c.args.column)) c.whole.ensures c.entry-divisor.ensures c.div.ensures.exact in
     quotient_number c.div.result c.args.top (whole (pos 1)) (entry c.args.row.now (suc c.args.column)) (omega arith) exact c.div.ensures.within
 
-inverse_wide : (r : Result Fraction Wide) (top : ℕ) (fs : List Fraction) (place : ℕ) (p d : Fraction) → p ≡ whole (pos 1) → d ≡ entry fs place → IfErr r (λ wide. wide ≡ record { step = Div; left = p; right = d }) → OnErr r (Passes top Div p d) → IfErr r (λ wide. IsWideStep top (IsQuotientStepOf fs place) wide.step wide.left wide.right)
+inverse_wide : (r : Result Fraction Wide) (top : ℕ) (fs : List Fraction) (place : ℕ) (p d : Fraction) →
+    p ≡ whole (pos 1) → d ≡ entry fs place → IfErr r (λ wide. wide ≡ record { step = Div; left = p; right = d }) →
+    OnErr r (Passes top Div p d) →
+    IfErr r (λ wide. IsWideStep top (IsQuotientStepOf fs place) wide.step wide.left wide.right)
 inverse_wide (Ok x) top fs place p d p_is d_is named passes = tt
 inverse_wide (Err wide) top fs place p d p_is d_is named passes = (
   subst (λ (w : Wide). IsQuotientStepOf fs place w.step w.left w.right) (sym named)
@@ -82,4 +94,5 @@ inverse_wide (Err wide) top fs place p d p_is d_is named passes = (
 
 pub returns-clause-wide : goal.returns-clause-wide
 returns-clause-wide c =
-    inverse_wide c.div.result c.args.top c.args.row.now (suc c.args.column) c.whole.result c.entry-divisor.result c.whole.ensures c.entry-divisor.ensures c.div.ensures.named c.div.ensures.passes
+    inverse_wide c.div.result c.args.top c.args.row.now (suc c.args.column) c.whole.result c.entry-divisor.result
+    c.whole.ensures c.entry-divisor.ensures c.div.ensures.named c.div.ensures.passes

@@ -1,6 +1,6 @@
 -- One more row is turned.
-use Rattle.std.proofs.Common.{◌≡◌, suc, ◌∙◌, [], ap, sym, subst, List, length, arith}
-use Rattle.std.specs.Prelude.{slice_index_or, slice_set}
+use Rattle.std.proofs.Common.{suc, ◌∙◌, [], ap, sym, subst, List, length, arith}
+use Rattle.std.specs.Prelude.{slice_set}
 use Rattle.std.proofs.lemmas.List.Edits.{map_over_more}
 use Rattle.std.proofs.lemmas.List.{get_or_default}
 use Rattle.std.proofs.lemmas.Result.{err_from_is_err_and}
@@ -14,9 +14,8 @@ pub turn_row-requires : goal.turn_row-requires
 turn_row-requires c =
     let i = c.loop-row.row-index in
     let d = c.row-item.result in
-    let same : slice_index_or c.loop-row.rows i d ≡ slice_index_or c.args.rows.now i d =
-    ap (λ (l : List (List Fraction)). slice_index_or l i d) c.loop-row.invariant.turned
-    ∙ later_same (λ fs. turned_by fs c.args.quotients.now (suc c.args.column) c.args.inverse) c.args.rows.now i d in
+    let same = later_same (λ fs. turned_by fs c.args.quotients.now (suc c.args.column) c.args.inverse) c.args.rows.now
+    c.loop-row.rows i d c.loop-row.invariant.turned in
     let here = rows_at c.args.top _ c.args.rows.now i d c.requires.rows c.loop-row-test.true in
     rw same
     (record {
@@ -34,15 +33,15 @@ pub loop-row-preserved : goal.loop-row-preserved
 loop-row-preserved c =
     let i = c.loop-row.row-index in
     let d = c.row-item.result in
-    let same : slice_index_or c.loop-row.rows i d ≡ slice_index_or c.args.rows.now i d =
-    ap (λ (l : List (List Fraction)). slice_index_or l i d) c.loop-row.invariant.turned
-    ∙ later_same (λ fs. turned_by fs c.args.quotients.now (suc c.args.column) c.args.inverse) c.args.rows.now i d in
+    let same = later_same (λ fs. turned_by fs c.args.quotients.now (suc c.args.column) c.args.inverse) c.args.rows.now
+    c.loop-row.rows i d c.loop-row.invariant.turned in
     let here = rows_at c.args.top (length c.args.quotients.now) c.args.rows.now i d c.requires.rows c.loop-row-test.true in
     record {
       turned =
           ap (λ (r : List Fraction). slice_set c.loop-row.rows i r) c.in_ok-turn_row.ensures.turned
           ∙ ap (λ (r : List Fraction). slice_set c.loop-row.rows i (turned_by r c.args.quotients.now (suc c.args.column) c.args.inverse)) (sym c.row-item.is)
-          ∙ map_over_more (λ fs. turned_by fs c.args.quotients.now (suc c.args.column) c.args.inverse) c.args.rows.now c.loop-row.rows i c.row-item.result c.loop-row-test.true c.loop-row.invariant.turned c.row-item.is;
+          ∙ map_over_more (λ fs. turned_by fs c.args.quotients.now (suc c.args.column) c.args.inverse) c.args.rows.now
+          c.loop-row.rows i c.row-item.result c.loop-row-test.true c.loop-row.invariant.turned c.row-item.is;
       numbers =
           rows_set c.args.top (length c.args.quotients.now) c.loop-row.rows i c.turn_row.new.row c.loop-row.invariant.numbers
           (c.turn_row.ensures.width ∙ ap length same ∙ here.0)
@@ -56,13 +55,14 @@ returns-in_err-turn_row-clause-wide c =
     let i = c.loop-row.row-index in
     let d = c.row-item.result in
     let wide = c.in_err-turn_row.field-0.0 in
-    let same : slice_index_or c.loop-row.rows i d ≡ slice_index_or c.args.rows.now i [] =
-    ap (λ (l : List (List Fraction)). slice_index_or l i d) c.loop-row.invariant.turned
-    ∙ later_same (λ fs. turned_by fs c.args.quotients.now (suc c.args.column) c.args.inverse) c.args.rows.now i d
+    let same =
+    later_same (λ fs. turned_by fs c.args.quotients.now (suc c.args.column) c.args.inverse) c.args.rows.now c.loop-row.rows i d c.loop-row.invariant.turned
     ∙ get_or_default c.args.rows.now i d [] c.loop-row-test.true in
     rw (p.1, p.2)
     (record {
       row = i;
       row_in = c.loop-row-test.true;
-      wide = subst (λ (fs : List Fraction). IsWideStep c.args.top (IsTurnStep fs c.args.quotients.now (suc c.args.column) c.args.inverse) wide.step wide.left wide.right) same c.in_err-turn_row.ensures.wide;
+      wide = subst (λ (fs : List Fraction).
+          IsWideStep c.args.top (IsTurnStep fs c.args.quotients.now (suc c.args.column) c.args.inverse) wide.step
+          wide.left wide.right) same c.in_err-turn_row.ensures.wide;
     })

@@ -11,4 +11,5 @@ loop-column-init c =
 pub loop-column-preserved : goal.loop-column-preserved
 loop-column-preserved c =
     filled_more c.args.top c.args.costs.now c.args.form.now c.args.lines.now c.loop-column.column c.loop-column.line c.push.new.self c.in_ok-entry.entry
-    (omega (arith, c.loop-column-test.true, ap length c.as_slice.ensures)) c.in_ok-entry.ensures.exact c.in_ok-entry.ensures.number c.push.ensures c.loop-column.invariant
+    (omega (arith, c.loop-column-test.true, ap length c.as_slice.ensures)) c.in_ok-entry.ensures.exact
+    c.in_ok-entry.ensures.number c.push.ensures c.loop-column.invariant

@@ -6,7 +6,7 @@ use Rattle.wide_fraction.specs.Widths.{IsWithin}
 use Rattle.path_rows.specs.Basis.{entry}
 use Rattle.fraction_rows.specs.Entries.{IsPassing}
 use Rattle.fraction_rows.specs.TableRows.{nothing}
-use Rattle.fraction_rows.proofs.Numbers.{lowest_zero, nothing_times}
+use Rattle.fraction_rows.proofs.ZeroFractions.{lowest_zero, nothing_times}
 use Rattle.fraction_rows.proofs.RowLaws.{number_at}
 use Rattle.fraction_table.proofs.choice.entry_order.Goals as goal
 
@@ -37,8 +37,13 @@ returns-then-is_zero-2-clause-order c =
     let q = c.args.quotient in
     let own_is = number_at c.args.top fs (suc c.args.column) c.requires.numbers c.requires.column in
     let others_is = number_at c.args.top fs (suc c.args.other) c.requires.numbers c.requires.other in
-    let own : entry fs (suc c.args.column) ≡ nothing = lowest_zero (entry fs (suc c.args.column)) own_is.lowest (ap (λ (p : Fraction). p.numerator) (sym c.entry-own.ensures) ∙ c.is_zero.ensures.0 c.if-is_zero.true) in
-    let others : entry fs (suc c.args.other) ≡ nothing = lowest_zero (entry fs (suc c.args.other)) others_is.lowest (ap (λ (p : Fraction). p.numerator) (sym c.entry-others.ensures) ∙ c.is_zero-then-is_zero.ensures.0 c.if-is_zero-2.true) in
+    let own : entry fs (suc c.args.column) ≡ nothing =
+    lowest_zero (entry fs (suc c.args.column)) own_is.lowest
+    (ap (λ (p : Fraction). p.numerator) (sym c.entry-own.ensures) ∙ c.is_zero.ensures.0 c.if-is_zero.true) in
+    let others : entry fs (suc c.args.other) ≡ nothing =
+    lowest_zero (entry fs (suc c.args.other)) others_is.lowest
+    (ap (λ (p : Fraction). p.numerator) (sym c.entry-others.ensures)
+    ∙ c.is_zero-then-is_zero.ensures.0 c.if-is_zero-2.true) in
     sym
     (ap (λ (p : Fraction). order p (times (entry fs (suc c.args.column)) q)) others
     ∙ ap (λ (p : Fraction). order nothing (times p q)) own

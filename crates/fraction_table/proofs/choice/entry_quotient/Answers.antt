@@ -3,7 +3,7 @@ use Rattle.std.proofs.Common.{suc, sym, subst}
 use Rattle.cost_base.specs.declared.StepName.TheVariants.{Div}
 use Rattle.whole_numbers.specs.Fractions.{Fraction}
 use Rattle.wide_fraction.specs.Widths.{IsWithin}
-use Rattle.fraction_rows.proofs.Passing.{named_passes}
+use Rattle.fraction_rows.proofs.NamedSteps.{named_passes}
 use Rattle.fraction_rows.proofs.RowLaws.{number_at}
 use Rattle.fraction_table.proofs.choice.entry_quotient.Goals as goal
 

@@ -8,22 +8,29 @@ use borrow.Author.Count.{below_more}
 use Rattle.path_rows.specs.declared.form.Term.{Term}
 use Rattle.path_rows.specs.Forms.{terms_from, terms_of}
 use Rattle.path_rows.proofs.TermLaws.{each_term}
-use Rattle.fraction_rows.proofs.Sums.{no_term, term_in}
+use Rattle.fraction_rows.proofs.TermSums.{no_term, term_in}
 use Rattle.fraction_table.proofs.fit.are_small.Goals as goal
 
 each_coefficient : (P : ℤ → Type 0) (first : ℕ) (cs : List ℤ) → P (pos 0) → All (λ (t : Term). P t.coefficient) (terms_from first cs) → All P cs
 each_coefficient P first [] none each = All-nil P
 each_coefficient P first (pos zero ∷ cs) none each = All-cons P (pos zero) cs none (each_coefficient P (suc first) cs none each)
 each_coefficient P first (pos (suc n) ∷ cs) none each =
-    All-cons P (pos (suc n)) cs (each 0 no_term (omega arith)) (each_coefficient P (suc first) cs none (All-tail (λ (t : Term). P t.coefficient) (record { var = first; coefficient = pos (suc n) }) (terms_from (suc first) cs) each))
+    All-cons P (pos (suc n)) cs (each 0 no_term (omega arith))
+    (each_coefficient P (suc first) cs none
+    (All-tail (λ (t : Term). P t.coefficient) (record { var = first; coefficient = pos (suc n) })
+    (terms_from (suc first) cs) each))
 each_coefficient P first (negsuc n ∷ cs) none each =
-    All-cons P (negsuc n) cs (each 0 no_term (omega arith)) (each_coefficient P (suc first) cs none (All-tail (λ (t : Term). P t.coefficient) (record { var = first; coefficient = negsuc n }) (terms_from (suc first) cs) each))
+    All-cons P (negsuc n) cs (each 0 no_term (omega arith))
+    (each_coefficient P (suc first) cs none
+    (All-tail (λ (t : Term). P t.coefficient) (record { var = first; coefficient = negsuc n })
+    (terms_from (suc first) cs) each))
 
 pub returns : goal.returns
 returns c =
     let ts = c.terms-terms.result.now in
     let small : All (λ (t : Term). nat_abs t.coefficient ≤ 2 ^ 26) ts = λ k d k_in.
-    subst (λ (t : Term). nat_abs t.coefficient ≤ 2 ^ 26) (get_or_default ts k no_term d k_in) (c.loop-term.invariant k (omega (arith, k_in, c.loop-term-test.false))) in (
+    subst (λ (t : Term). nat_abs t.coefficient ≤ 2 ^ 26) (get_or_default ts k no_term d k_in)
+    (c.loop-term.invariant k (omega (arith, k_in, c.loop-term-test.false))) in (
       λ told. each_coefficient (λ (z : ℤ). nat_abs z ≤ 2 ^ 26) 0 c.args.form.now.coefficients (omega arith)
           (subst (All (λ (t : Term). nat_abs t.coefficient ≤ 2 ^ 26)) c.terms-terms.ensures.terms small),
       λ all. refl,

@@ -8,7 +8,8 @@ use Rattle.fraction_table.proofs.fit.fit_box.Goals as goal
 
 pub returns : goal.returns
 returns c = (
-  λ told k d k_in. subst (FitsBox c.args.costs.now) (get_or_default c.args.rows.now k no_form d k_in) (c.loop-index.invariant k (omega (arith, k_in, c.loop-index-test.false))),
+  λ told k d k_in. subst (FitsBox c.args.costs.now) (get_or_default c.args.rows.now k no_form d k_in)
+      (c.loop-index.invariant k (omega (arith, k_in, c.loop-index-test.false))),
   λ all. refl,
 )
 

@@ -9,22 +9,25 @@ use Rattle.fraction_rows.specs.TableRows.{IsNumber}
 use Rattle.fraction_table.specs.Moves.{IsRaiseStep}
 use Rattle.fraction_table.specs.Moves.IsRaiseStep.{product, sum}
 use Rattle.fraction_rows.proofs.RowLaws.{number_at}
-use Rattle.fraction_rows.proofs.Passing.{named_passes}
+use Rattle.fraction_rows.proofs.NamedSteps.{named_passes}
 use Rattle.fraction_table.proofs.MoveLines.{none_raised, raised_is, raised_numbers}
 use Rattle.fraction_table.proofs.moves.raise_constant.Goals as goal
 
 pub returns-then-is_zero-clause-raised : goal.returns-then-is_zero-clause-raised
 returns-then-is_zero-clause-raised c =
-    none_raised c.args.top c.args.line.now c.args.column c.args.fall c.entry-entry.result c.requires.column c.requires.numbers c.requires.fall c.entry-entry.ensures (c.is_zero.ensures.0 c.if-is_zero.true)
+    none_raised c.args.top c.args.line.now c.args.column c.args.fall c.entry-entry.result c.requires.column
+    c.requires.numbers c.requires.fall c.entry-entry.ensures (c.is_zero.ensures.0 c.if-is_zero.true)
 
 pub mul-requires-clause-left_within : goal.mul-requires-clause-left_within
 mul-requires-clause-left_within c =
-    let here = subst (IsNumber c.args.top) (sym c.entry-entry.ensures) (number_at c.args.top c.args.line.now (suc c.args.column) c.requires.numbers c.requires.column) in
+    let here = subst (IsNumber c.args.top) (sym c.entry-entry.ensures)
+    (number_at c.args.top c.args.line.now (suc c.args.column) c.requires.numbers c.requires.column) in
     here.within
 
 pub add-requires-clause-left_within : goal.add-requires-clause-left_within
 add-requires-clause-left_within c =
-    let here = subst (IsNumber c.args.top) (sym c.constant.ensures) (number_at c.args.top c.args.line.now 0 c.requires.numbers (omega (arith, c.requires.column))) in
+    let here = subst (IsNumber c.args.top) (sym c.constant.ensures)
+    (number_at c.args.top c.args.line.now 0 c.requires.numbers (omega (arith, c.requires.column))) in
     here.within
 
 pub returns-in_err-product-clause-wide : goal.returns-in_err-product-clause-wide
@@ -54,12 +57,17 @@ returns-in_err-raised-clause-wide c =
 
 pub returns-clause-raised : goal.returns-clause-raised
 returns-clause-raised c =
-    raised_is c.args.line.now c.set_constant.new.self c.args.column c.args.fall c.entry-entry.result c.constant.result c.in_ok-product.product c.in_ok-raised.raised
+    raised_is c.args.line.now c.set_constant.new.self c.args.column c.args.fall c.entry-entry.result c.constant.result
+    c.in_ok-product.product c.in_ok-raised.raised
     c.entry-entry.ensures c.constant.ensures c.in_ok-product.ensures.exact c.in_ok-raised.ensures.exact c.set_constant.ensures
 
 pub returns-clause-numbers : goal.returns-clause-numbers
 returns-clause-numbers c =
-    let here = subst (IsNumber c.args.top) (sym c.entry-entry.ensures) (number_at c.args.top c.args.line.now (suc c.args.column) c.requires.numbers c.requires.column) in
-    let first = subst (IsNumber c.args.top) (sym c.constant.ensures) (number_at c.args.top c.args.line.now 0 c.requires.numbers (omega (arith, c.requires.column))) in
-    raised_numbers c.args.top c.args.line.now c.set_constant.new.self c.args.fall c.entry-entry.result c.constant.result c.in_ok-product.product c.in_ok-raised.raised
-    c.requires.numbers first here c.requires.fall c.in_ok-product.ensures.exact c.in_ok-raised.ensures.exact c.in_ok-raised.ensures.within c.set_constant.ensures
+    let here = subst (IsNumber c.args.top) (sym c.entry-entry.ensures)
+    (number_at c.args.top c.args.line.now (suc c.args.column) c.requires.numbers c.requires.column) in
+    let first = subst (IsNumber c.args.top) (sym c.constant.ensures)
+    (number_at c.args.top c.args.line.now 0 c.requires.numbers (omega (arith, c.requires.column))) in
+    raised_numbers c.args.top c.args.line.now c.set_constant.new.self c.args.fall c.entry-entry.result c.constant.result
+    c.in_ok-product.product c.in_ok-raised.raised
+    c.requires.numbers first here c.requires.fall c.in_ok-product.ensures.exact c.in_ok-raised.ensures.exact
+    c.in_ok-raised.ensures.within c.set_constant.ensures

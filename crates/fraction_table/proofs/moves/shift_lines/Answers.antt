@@ -17,7 +17,8 @@ lower_constant-requires-clause-numbers c =
 pub returns-in-None-clause-numbers : goal.returns-in-None-clause-numbers
 returns-in-None-clause-numbers c count rows =
     let here = rows_at c.args.top count c.args.lines.now c.args.own c.index-lines-own.result rows c.requires.own in
-    rows_set c.args.top count c.args.lines.now c.args.own c.lower_constant.new.line rows (c.lower_constant.ensures.width ∙ here.0) c.lower_constant.ensures.numbers
+    rows_set c.args.top count c.args.lines.now c.args.own c.lower_constant.new.line rows (c.lower_constant.ensures.width
+    ∙ here.0) c.lower_constant.ensures.numbers
 
 pub returns-in_ok-raise_constants-in-Some-clause-numbers : goal.returns-in_ok-raise_constants-in-Some-clause-numbers
 returns-in_ok-raise_constants-in-Some-clause-numbers c count rows =

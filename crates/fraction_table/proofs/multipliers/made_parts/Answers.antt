@@ -10,7 +10,7 @@ use Rattle.wide_fraction.specs.declared.steps.Wide.{Wide}
 use Rattle.fraction_table.specs.Multipliers.{fractions}
 use Rattle.fraction_rows.specs.Entries.{IsPassing}
 use Rattle.fraction_table.proofs.MultiplierSteps.{all_more, made_next, made_wide, part_number, part_put, read_back, wide_multiplier}
-use Rattle.fraction_rows.proofs.Tops.{top_small}
+use Rattle.fraction_rows.proofs.SmallNumbers.{top_small}
 use Rattle.fraction_table.proofs.multipliers.made_parts.Goals as goal
 
 pub mul-requires-clause-left_within : goal.mul-requires-clause-left_within
@@ -24,18 +24,39 @@ returns-in_err-product-clause-wide c =
     rw (p.1, p.2)
     (wide_multiplier c.args.top (fractions c.args.parts.now) wide
     (made_wide c.args.parts.now c.loop-index.index c.index-parts-index-in-loop-index.result c.args.multiple wide c.loop-index-test.true c.requires.multiple
-    (c.in_err-product.ensures.named ∙ ap {B = Wide} (λ (q : Fraction). record { step = Mul; left = (slice_index_or c.args.parts.now c.loop-index.index c.index-parts-index-in-loop-index.result).1; right = q }) (c.whole_wide.ensures ∙ ap whole (to_z-of_z w128 c.args.multiple c.ranges.multiple))))
+    (c.in_err-product.ensures.named
+    ∙ ap {B = Wide} (λ (q : Fraction).
+    record {
+      step = Mul;
+      left =
+          (slice_index_or c.args.parts.now c.loop-index.index c.index-parts-index-in-loop-index.result).1;
+      right =
+          q;
+    }) (c.whole_wide.ensures ∙ ap whole (to_z-of_z w128 c.args.multiple c.ranges.multiple))))
     (subst (IsPassing c.args.top) (sym c.in_err-product.ensures.named) c.in_err-product.ensures.passes))
 
 pub loop-index-preserved : goal.loop-index-preserved
 loop-index-preserved c =
     let parts = c.args.parts.now in
     let d = c.index-parts-index-in-loop-index.result in
-    let read = read_back c.numerator.result (omega (arith, ap nat_abs c.numerator.ensures.value, c.in_ok-product.ensures.within.numerator, top_small c.args.top c.value.ensures.width)) in
+    let read = read_back c.numerator.result
+    (omega (
+      arith,
+      ap nat_abs c.numerator.ensures.value,
+      c.in_ok-product.ensures.within.numerator,
+      top_small c.args.top c.value.ensures.width,
+    )) in
     let size_is = c.unsigned_abs.ensures.value ∙ ap nat_abs (read ∙ c.numerator.ensures.value) in
-    let put = part_put parts c.loop-index.index d c.index-parts-index.result c.loop-index.made.items c.push.new.self.items c.unsigned_abs.result (nat_abs c.in_ok-product.product.numerator) c.loop-index-test.true size_is c.in_ok-push.ensures.items in
+    let put = part_put parts c.loop-index.index d c.index-parts-index.result c.loop-index.made.items
+    c.push.new.self.items c.unsigned_abs.result (nat_abs c.in_ok-product.product.numerator) c.loop-index-test.true
+    size_is c.in_ok-push.ensures.items in
     record {
-      so_far = made_next parts c.loop-index.index d c.args.multiple c.loop-index.made.items c.push.new.self.items c.in_ok-product.product c.loop-index-test.true c.requires.multiple c.loop-index.invariant.so_far
-          (c.in_ok-product.ensures.exact ∙ ap (times (slice_index_or parts c.loop-index.index d).1) (c.whole_wide.ensures ∙ ap whole (to_z-of_z w128 c.args.multiple c.ranges.multiple))) put;
-      within = all_more c.args.top c.loop-index.made.items c.push.new.self.items ((slice_index_or parts c.loop-index.index d).0, nat_abs c.in_ok-product.product.numerator) put c.loop-index.invariant.within c.in_ok-product.ensures.within.numerator;
+      so_far = made_next parts c.loop-index.index d c.args.multiple c.loop-index.made.items c.push.new.self.items
+          c.in_ok-product.product c.loop-index-test.true c.requires.multiple c.loop-index.invariant.so_far
+          (c.in_ok-product.ensures.exact
+          ∙ ap (times (slice_index_or parts c.loop-index.index d).1) (c.whole_wide.ensures
+          ∙ ap whole (to_z-of_z w128 c.args.multiple c.ranges.multiple))) put;
+      within = all_more c.args.top c.loop-index.made.items c.push.new.self.items
+          ((slice_index_or parts c.loop-index.index d).0, nat_abs c.in_ok-product.product.numerator) put
+          c.loop-index.invariant.within c.in_ok-product.ensures.within.numerator;
     }

@@ -28,7 +28,9 @@ returns-in_err-made-clause-wide c =
 
 pub check_sum-requires-clause-positive : goal.check_sum-requires-clause-positive
 check_sum-requires-clause-positive c =
-    subst (λ (ps : List (ℕ × ℕ)). 0 < sum_by (λ part. part.1) ps) (sym (c.as_slice.ensures.value ∙ c.in_ok-made.ensures.exact)) (parts_sum c.args.top c.args.parts.now c.requires.parts)
+    subst (λ (ps : List (ℕ × ℕ)). 0 < sum_by (λ part. part.1) ps)
+    (sym (c.as_slice.ensures.value ∙ c.in_ok-made.ensures.exact))
+    (parts_sum c.args.top c.args.parts.now c.requires.parts)
 
 pub returns-in_err-check_sum-clause-wide : goal.returns-in_err-check_sum-clause-wide
 returns-in_err-check_sum-clause-wide c =
@@ -56,7 +58,8 @@ from_items-requires-clause-positive c =
 pub returns-clause-made : goal.returns-clause-made
 returns-clause-made c =
     subst (IsPermutation (whole_parts c.args.parts.now)) (sym c.from_items.ensures)
-    (subst (λ (ps : List (ℕ × ℕ)). IsPermutation ps c.sort_unstable_by_key.new.self.items) c.in_ok-made.ensures.exact c.sort_unstable_by_key.ensures.permutation)
+    (subst (λ (ps : List (ℕ × ℕ)). IsPermutation ps c.sort_unstable_by_key.new.self.items) c.in_ok-made.ensures.exact
+    c.sort_unstable_by_key.ensures.permutation)
 
 pub returns-clause-small : goal.returns-clause-small
 returns-clause-small c =

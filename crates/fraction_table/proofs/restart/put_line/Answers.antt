@@ -20,9 +20,12 @@ pub returns-in-High-clause-line : goal.returns-in-High-clause-line
 returns-in-High-clause-line c =
     let costs = c.args.costs.now in
     let rows = c.args.rows.now in
-    high_starts costs rows c.in-High.var c.in-High.bound (slice_index c.as_slice-low.result.now c.in-High.var) c.range_of-range.result c.put_unit_line-in-High.new.line (subst (IsFormOf costs rows) c.in-High.is c.requires.form)
+    high_starts costs rows c.in-High.var c.in-High.bound (slice_index c.as_slice-low.result.now c.in-High.var)
+    c.range_of-range.result c.put_unit_line-in-High.new.line
+    (subst (IsFormOf costs rows) c.in-High.is c.requires.form)
     (ap (λ (bs : List ℕ). slice_index bs c.in-High.var) c.as_slice-low.ensures) c.range_of-range.ensures.range
     (c.put_unit_line-in-High.ensures.line
-    ∙ ap (λ z. whole z ∷ map whole (unit (length c.as_slice-low.result.now) c.in-High.var (negsuc 0))) (kept_number c.range_of-range.result c.range_of-range.ensures.small)
+    ∙ ap (λ z. whole z ∷ map whole (unit (length c.as_slice-low.result.now) c.in-High.var (negsuc 0)))
+    (kept_number c.range_of-range.result c.range_of-range.ensures.small)
     ∙ ap (λ (n : ℕ). whole c.range_of-range.result ∷ map whole (unit n c.in-High.var (negsuc 0))) (ap length c.as_slice-low.ensures))
     ∙ ap (starting_line costs rows) (sym c.in-High.is)

@@ -2,9 +2,10 @@
 use Rattle.std.proofs.Common.{◌∷◌, ◌∙◌, ap, map, suc, length, rules, SFits, w64}
 use Rattle.std.specs.Prelude.{pos, negsuc, ◌-ℤ◌, slice_index}
 use Rattle.std.proofs.lemmas.Int.{to_z-of_z}
+use Rattle.cost_base.proofs.ListLemmas.{put_more}
 use Rattle.whole_numbers.specs.Fractions.{whole}
 use Rattle.path_rows.specs.Basis.{unit}
-use Rattle.fraction_table.proofs.StartLines.{put_more, rows_more, unit_line_long}
+use Rattle.fraction_table.proofs.StartLines.{rows_more, unit_line_long}
 use Rattle.fraction_table.proofs.start.push_high_rows.Goals as goal
 
 pub loop-var-preserved : goal.loop-var-preserved
@@ -12,6 +13,14 @@ loop-var-preserved c =
     let line = c.in_ok-bound_row.field-0 in
     let fits : SFits w64 c.range_of-range.result = search rules in
     record {
-      rows = put_more c.args.rows.now.items c.loop-var.rows.items c.push_row.new.rows.items (λ v. whole (pos (slice_index c.args.high.now v) -ℤ pos (slice_index c.args.low.now v)) ∷ map whole (unit (length c.args.low.now) v (negsuc 0))) c.loop-var.var line c.in_ok-push_row.ensures c.loop-var.invariant.rows (c.in_ok-bound_row.ensures.row ∙ ap (λ z. whole z ∷ map whole (unit (length c.args.low.now) c.loop-var.var (negsuc 0))) (to_z-of_z w64 c.range_of-range.result fits ∙ c.range_of-range.ensures.range));
-      numbers = rows_more c.args.top (suc (length c.args.low.now)) c.loop-var.rows.items c.push_row.new.rows.items line c.in_ok-push_row.ensures c.loop-var.invariant.numbers (unit_line_long line (length c.args.low.now) c.loop-var.var _ (negsuc 0) c.in_ok-bound_row.ensures.row) c.in_ok-bound_row.ensures.numbers;
+      rows = put_more c.args.rows.now.items c.loop-var.rows.items c.push_row.new.rows.items
+          (λ v. whole (pos (slice_index c.args.high.now v) -ℤ pos (slice_index c.args.low.now v))
+          ∷ map whole (unit (length c.args.low.now) v (negsuc 0))) c.loop-var.var line c.in_ok-push_row.ensures
+          c.loop-var.invariant.rows (c.in_ok-bound_row.ensures.row
+          ∙ ap (λ z. whole z ∷ map whole (unit (length c.args.low.now) c.loop-var.var (negsuc 0)))
+          (to_z-of_z w64 c.range_of-range.result fits ∙ c.range_of-range.ensures.range));
+      numbers = rows_more c.args.top (suc (length c.args.low.now)) c.loop-var.rows.items c.push_row.new.rows.items line
+          c.in_ok-push_row.ensures c.loop-var.invariant.numbers
+          (unit_line_long line (length c.args.low.now) c.loop-var.var _ (negsuc 0) c.in_ok-bound_row.ensures.row)
+          c.in_ok-bound_row.ensures.numbers;
     }

@@ -9,6 +9,8 @@ use Rattle.fraction_table.proofs.start.push_high_rows.Given as goal
 
 abbrev pub invariant-loop-var : goal.invariant-loop-var
 invariant-loop-var l = record {
-  rows : l.rows.items ≡ l.initial.rows.items ++ map (λ v. whole (pos (slice_index l.high v) -ℤ pos (slice_index l.low v)) ∷ map whole (unit (length l.low) v (negsuc 0))) (numbers_from 0 l.var);
+  rows : l.rows.items ≡ l.initial.rows.items
+      ++ map (λ v. whole (pos (slice_index l.high v) -ℤ pos (slice_index l.low v))
+      ∷ map whole (unit (length l.low) v (negsuc 0))) (numbers_from 0 l.var);
   numbers : AreRows l.top (suc (length l.low)) l.rows.items;
 }

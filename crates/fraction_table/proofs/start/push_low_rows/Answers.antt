@@ -1,15 +1,21 @@
 -- One more line is put.
 use Rattle.std.proofs.Common.{◌∷◌, map, suc}
 use Rattle.std.specs.Prelude.{pos}
+use Rattle.cost_base.proofs.ListLemmas.{put_more}
 use Rattle.whole_numbers.specs.Fractions.{whole}
 use Rattle.path_rows.specs.Basis.{unit}
-use Rattle.fraction_table.proofs.StartLines.{put_more, rows_more, unit_line_long}
+use Rattle.fraction_table.proofs.StartLines.{rows_more, unit_line_long}
 use Rattle.fraction_table.proofs.start.push_low_rows.Goals as goal
 
 pub loop-var-preserved : goal.loop-var-preserved
 loop-var-preserved c =
     let line = c.in_ok-bound_row.field-0 in
     record {
-      rows = put_more c.args.rows.now.items c.loop-var.rows.items c.push_row.new.rows.items (λ v. whole (pos 0) ∷ map whole (unit c.args.width v (pos 1))) c.loop-var.var line c.in_ok-push_row.ensures c.loop-var.invariant.rows c.in_ok-bound_row.ensures.row;
-      numbers = rows_more c.args.top (suc c.args.width) c.loop-var.rows.items c.push_row.new.rows.items line c.in_ok-push_row.ensures c.loop-var.invariant.numbers (unit_line_long line c.args.width c.loop-var.var (pos 0) (pos 1) c.in_ok-bound_row.ensures.row) c.in_ok-bound_row.ensures.numbers;
+      rows = put_more c.args.rows.now.items c.loop-var.rows.items c.push_row.new.rows.items
+          (λ v. whole (pos 0) ∷ map whole (unit c.args.width v (pos 1))) c.loop-var.var line c.in_ok-push_row.ensures
+          c.loop-var.invariant.rows c.in_ok-bound_row.ensures.row;
+      numbers = rows_more c.args.top (suc c.args.width) c.loop-var.rows.items c.push_row.new.rows.items line
+          c.in_ok-push_row.ensures c.loop-var.invariant.numbers
+          (unit_line_long line c.args.width c.loop-var.var (pos 0) (pos 1) c.in_ok-bound_row.ensures.row)
+          c.in_ok-bound_row.ensures.numbers;
     }

@@ -1,6 +1,6 @@
 -- The rows before the counter have 0, and what stands first is as it was.
 use Rattle.std.proofs.Common.{◌≡◌, ℕ, ◌+◌, ◌<◌, pos}
-use Rattle.fraction_table.specs.Wholes.{number_at}
+use Rattle.whole_numbers.specs.Lists.{number_at}
 use Rattle.table_kernel.proofs.line.clear_rows.Given as goal
 
 abbrev pub invariant-loop-row : goal.invariant-loop-row

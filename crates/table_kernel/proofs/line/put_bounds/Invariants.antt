@@ -1,7 +1,7 @@
 -- The variables before the counter are done.
 use Rattle.std.proofs.Common.{◌≡◌, ℕ, ◌+◌, ◌<◌, []}
 use Rattle.std.specs.Prelude.{neg_ℤ, slice_index_or}
-use Rattle.fraction_table.specs.Wholes.{number_at}
+use Rattle.whole_numbers.specs.Lists.{number_at}
 use Rattle.table_kernel.proofs.line.put_bounds.Given as goal
 
 abbrev pub invariant-loop-var : goal.invariant-loop-var

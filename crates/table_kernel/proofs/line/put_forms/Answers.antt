@@ -2,8 +2,8 @@
 use Rattle.std.proofs.Common.{◌+◌, ◌≤◌, arith, ◌∙◌, ap, get_or, length, sym}
 use Rattle.std.specs.Prelude.{slice_index_or}
 use Rattle.path_rows.specs.Forms.{no_form}
-use Rattle.table_kernel.specs.Uses.{uses_by}
-use Rattle.table_kernel.proofs.UseLaws.{lists_many}
+use Rattle.integer_pivots.specs.Uses.{uses_by}
+use Rattle.integer_pivots.proofs.UseLaws.{lists_many}
 use Rattle.table_kernel.proofs.Lines.{bounds_small, by_column}
 use Rattle.table_kernel.proofs.line.put_forms.Goals as goal
 
@@ -21,7 +21,9 @@ put_rows-requires-clause-count c = λ k d k_in.
     omega (arith, few, lists_many c.args.uses.now c.args.rows.now (length c.args.lows.now) c.requires.uses)
 
 pub put_rows-requires-clause-small : goal.put_rows-requires-clause-small
-put_rows-requires-clause-small c = bounds_small c.args.lows.now c.put_bounds.new.along c.args.column c.requires.small c.put_bounds.ensures.low c.put_bounds.ensures.high
+put_rows-requires-clause-small c =
+    bounds_small c.args.lows.now c.put_bounds.new.along c.args.column c.requires.small c.put_bounds.ensures.low
+    c.put_bounds.ensures.high
 
 pub returns-clause-low : goal.returns-clause-low
 returns-clause-low c = λ v v_in. c.put_rows.ensures.before v (omega (arith, v_in)) ∙ c.put_bounds.ensures.low v v_in
@@ -33,4 +35,5 @@ pub returns-clause-rows : goal.returns-clause-rows
 returns-clause-rows c = λ row row_in.
     let f = slice_index_or c.args.rows.now row no_form in
     c.put_rows.ensures.rows row row_in
-    ∙ by_column c.args.lows.now c.put_bounds.new.along c.args.column f (c.requires.count row no_form row_in) (omega (arith, c.requires.room, c.put_bounds.auto.along)) c.put_bounds.ensures.low
+    ∙ by_column c.args.lows.now c.put_bounds.new.along c.args.column f (c.requires.count row no_form row_in)
+    (omega (arith, c.requires.room, c.put_bounds.auto.along)) c.put_bounds.ensures.low

@@ -1,12 +1,11 @@
 -- The uses of one more variable are put.
 use Rattle.std.proofs.Common.{◌^◌, ◌+◌, ◌<◌, ◌≤◌, ◌∙◌, arith, get_or, length, subst, sym}
 use Rattle.std.specs.Prelude.{ℤ, nat_abs}
+use Rattle.whole_numbers.specs.Lists.{number_at}
 use Rattle.path_rows.specs.Forms.{no_form}
-use Rattle.fraction_table.specs.Wholes.{number_at}
-use Rattle.table_kernel.proofs.LineSums.{read}
-use Rattle.table_kernel.proofs.Sizes.{read_number}
-use Rattle.table_kernel.proofs.UseLaws.{list_read}
-use Rattle.table_kernel.proofs.UseSums.{IsPart, no_part, row_part, uses_known, uses_room, whole_part}
+use Rattle.integer_pivots.proofs.Sizes.{read, read_number}
+use Rattle.integer_pivots.proofs.UseLaws.{list_read}
+use Rattle.integer_pivots.proofs.UseSums.{IsPart, no_part, row_part, uses_known, uses_room, whole_part}
 use Rattle.table_kernel.proofs.line.put_rows.Goals as goal
 
 pub loop-var-init : goal.loop-var-init
@@ -21,14 +20,18 @@ pub put_uses-requires-clause-known : goal.put_uses-requires-clause-known
 put_uses-requires-clause-known c =
     let list = c.index-uses-var.result in
     let are = list_read c.args.uses.now c.args.rows.now c.loop-var.var list c.requires.uses c.loop-var-test.true c.index-uses-var.is in
-    uses_known c.args.rows.now list.items c.loop-var.var c.args.first (length c.loop-var.along) are (omega (arith, c.requires.room, c.loop-var.auto.along, c.clear_rows.auto.along))
+    uses_known c.args.rows.now list.items c.loop-var.var c.args.first (length c.loop-var.along) are
+    (omega (arith, c.requires.room, c.loop-var.auto.along, c.clear_rows.auto.along))
 
 pub put_uses-requires-clause-number : goal.put_uses-requires-clause-number
 put_uses-requires-clause-number c =
     let v = c.loop-var.var in
     let v_in : v < c.args.first = omega (arith, c.loop-var-test.true, c.requires.before) in
-    let small : nat_abs (number_at c.loop-var.along v) ≤ 2 ^ 22 = subst (λ (z : ℤ). nat_abs z ≤ 2 ^ 22) (sym (c.loop-var.invariant.before v v_in)) (c.requires.small v v_in) in
-    subst (λ (z : ℤ). nat_abs z ≤ 2 ^ 22) (sym (read_number (number_at c.loop-var.along v) (let e : nat_abs (number_at c.loop-var.along v) < 2 ^ 63 = omega (arith, small) in e))) small
+    let small : nat_abs (number_at c.loop-var.along v) ≤ 2 ^ 22 =
+    subst (λ (z : ℤ). nat_abs z ≤ 2 ^ 22) (sym (c.loop-var.invariant.before v v_in)) (c.requires.small v v_in) in
+    subst (λ (z : ℤ). nat_abs z ≤ 2 ^ 22)
+    (sym (read_number (number_at c.loop-var.along v) (let e : nat_abs (number_at c.loop-var.along v) < 2 ^ 63 =
+    omega (arith, small) in e))) small
 
 pub put_uses-requires-clause-small : goal.put_uses-requires-clause-small
 put_uses-requires-clause-small c =
@@ -46,12 +49,14 @@ loop-var-preserved c =
     let small = c.requires.small v v_in in
     let there = c.loop-var.invariant.before v v_in in
     let small_there : nat_abs (number_at c.loop-var.along v) ≤ 2 ^ 22 = subst (λ (z : ℤ). nat_abs z ≤ 2 ^ 22) (sym there) small in
-    let number_is = read_number (number_at c.loop-var.along v) (let e : nat_abs (number_at c.loop-var.along v) < 2 ^ 63 = omega (arith, small_there) in e) ∙ there in
+    let number_is = read_number (number_at c.loop-var.along v)
+    (let e : nat_abs (number_at c.loop-var.along v) < 2 ^ 63 = omega (arith, small_there) in e) ∙ there in
     record {
       before = λ w w_in. c.put_uses.ensures.before w w_in ∙ c.loop-var.invariant.before w w_in;
       rows = λ row row_in.
           let few : length (get_or c.args.rows.now row no_form).coefficients ≤ length c.args.uses.now = c.requires.count row no_form row_in in
-          row_part c.args.rows.now list.items zs v row (read (number_at c.loop-var.along v)) (number_at c.loop-var.along (c.args.first + row)) (number_at c.put_uses.new.sums (c.args.first + row)) are
+          row_part c.args.rows.now list.items zs v row (read (number_at c.loop-var.along v))
+          (number_at c.loop-var.along (c.args.first + row)) (number_at c.put_uses.new.sums (c.args.first + row)) are
           (omega (arith, few, c.requires.before, c.requires.room)) small number_is (c.put_uses.ensures.rows row) (c.loop-var.invariant.rows row row_in);
     }
 

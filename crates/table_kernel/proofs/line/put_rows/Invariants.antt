@@ -1,8 +1,8 @@
 -- With the rest of the variables each row's sum is its number, and what stands first is as it was.
 use Rattle.std.proofs.Common.{◌≡◌, ℕ, ◌+◌, ◌<◌, length, get_or}
+use Rattle.whole_numbers.specs.Lists.{number_at}
 use Rattle.path_rows.specs.Forms.{no_form}
-use Rattle.fraction_table.specs.Wholes.{number_at}
-use Rattle.table_kernel.proofs.UseSums.{IsPart}
+use Rattle.integer_pivots.proofs.UseSums.{IsPart}
 use Rattle.table_kernel.proofs.line.put_rows.Given as goal
 
 abbrev pub invariant-loop-var : goal.invariant-loop-var

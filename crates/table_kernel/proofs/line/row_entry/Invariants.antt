@@ -1,6 +1,6 @@
 -- The sum with what is left of the terms is the whole one.
 use Rattle.std.proofs.Common.{map}
-use Rattle.fraction_table.specs.Wholes.{number_at}
+use Rattle.whole_numbers.specs.Lists.{number_at}
 use Rattle.table_kernel.proofs.LineSums.{IsSummed}
 use Rattle.table_kernel.proofs.line.row_entry.Given as goal
 

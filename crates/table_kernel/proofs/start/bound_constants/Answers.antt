@@ -3,7 +3,7 @@ use Rattle.std.proofs.Common.{map, length, ◌^◌, ◌∙◌, ◌<◌, append-n
 use Rattle.std.specs.Prelude.{pos, ◌-ℤ◌, nat_abs, slice_index}
 use Rattle.std.proofs.lemmas.Int.{to_z-of_z}
 use Rattle.cost_base.specs.Lists.{numbers_from}
-use Rattle.fraction_table.proofs.StartLines.{put_more}
+use Rattle.cost_base.proofs.ListLemmas.{put_more}
 use Rattle.table_kernel.proofs.StartNumbers.{within_more, zeros_within}
 use Rattle.table_kernel.proofs.start.bound_constants.Goals as goal
 
@@ -20,6 +20,9 @@ loop-var-preserved c =
     let fits : SFits w64 c.range_of.result = search rules in
     let same = to_z-of_z w64 c.range_of.result fits in
     record {
-      constants = put_more (map (λ v. pos 0) (numbers_from 0 (length low))) c.loop-var.constants.items c.push.new.list.items (λ v. pos (slice_index high v) -ℤ pos (slice_index low v)) c.loop-var.var _ c.in_ok-push.ensures c.loop-var.invariant.constants (same ∙ c.range_of.ensures.range);
-      small = within_more (2 ^ 27) c.loop-var.constants.items c.push.new.list.items _ c.in_ok-push.ensures c.loop-var.invariant.small (subst (λ z. nat_abs z < 2 ^ 27) (sym same) c.range_of.ensures.small);
+      constants = put_more (map (λ v. pos 0) (numbers_from 0 (length low))) c.loop-var.constants.items
+          c.push.new.list.items (λ v. pos (slice_index high v) -ℤ pos (slice_index low v)) c.loop-var.var _
+          c.in_ok-push.ensures c.loop-var.invariant.constants (same ∙ c.range_of.ensures.range);
+      small = within_more (2 ^ 27) c.loop-var.constants.items c.push.new.list.items _ c.in_ok-push.ensures
+          c.loop-var.invariant.small (subst (λ z. nat_abs z < 2 ^ 27) (sym same) c.range_of.ensures.small);
     }

@@ -1,7 +1,7 @@
 -- One more zero is put.
 use Rattle.std.proofs.Common.{refl, []}
 use Rattle.std.specs.Prelude.{pos}
-use Rattle.fraction_table.proofs.StartLines.{put_more}
+use Rattle.cost_base.proofs.ListLemmas.{put_more}
 use Rattle.table_kernel.proofs.start.zeros.Goals as goal
 
 pub loop-preserved : goal.loop-preserved

@@ -17,6 +17,8 @@ returns-then-value-lt0 c =
     let size : c.unsigned_abs.result ≡ nat_abs n = c.unsigned_abs.ensures.value ∙ ap nat_abs (to_z-of_z w128 n fits) in
     let whole_is : c.quotient.result ≡ (nat_abs n - 1) / d = c.quotient.ensures ∙ ap (λ (k : ℕ). (k - 1) / d) size in
     let small : (nat_abs n - 1) / d ≤ nat_abs n - 1 = div-le_self (nat_abs n - 1) d in
-    let seen : to_z w128 (of_z w128 (negsuc 0 -ℤ to_z w128 c.quotient.result)) ≡ negsuc c.quotient.result = omega (arith, ints, whole_is, small, c.value.invariant.numerator) in
+    let seen : to_z w128 (of_z w128 (negsuc 0 -ℤ to_z w128 c.quotient.result)) ≡ negsuc c.quotient.result =
+    omega (arith, ints, whole_is, small, c.value.invariant.numerator) in
     subst (λ (q : Fraction). IsFloor q (to_z w128 (of_z w128 (negsuc 0 -ℤ to_z w128 c.quotient.result)))) c.value.view_is
-    (subst (λ (z : ℤ). IsFloor (record { numerator = n; denominator = d }) z) (sym (seen ∙ ap negsuc whole_is)) (floor_negative n d c.value.invariant.lowest.positive negative))
+    (subst (λ (z : ℤ). IsFloor (record { numerator = n; denominator = d }) z) (sym (seen ∙ ap negsuc whole_is))
+    (floor_negative n d c.value.invariant.lowest.positive negative))

@@ -22,5 +22,7 @@ returns-in-Some c =
     let product_fits : SFits w128 c.in-Some.product = search rules in
     let answer = simp to_z-of_z at c.in-Some.ensures in
     let left_within : IsWithin c.size.result (whole c.args.left) = subst (λ (t : ℕ). IsWithin t (whole c.args.left)) (sym c.size.ensures.value) c.requires in
-    whole_answer c.size.result c.args.top (listed_of_product (whole c.args.left) (whole c.args.right)) _ c.whole_wide.result c.in-Some.product c.size.ensures.value (c.whole_wide.ensures ∙ ap (λ (z : ℤ). whole z) (to_z-of_z w128 c.in-Some.product product_fits))
+    whole_answer c.size.result c.args.top (listed_of_product (whole c.args.left) (whole c.args.right)) _
+    c.whole_wide.result c.in-Some.product c.size.ensures.value (c.whole_wide.ensures
+    ∙ ap (λ (z : ℤ). whole z) (to_z-of_z w128 c.in-Some.product product_fits))
     (whole_product_answer c.size.result c.args.left c.args.right c.in-Some.product left_within answer.0 answer.1)

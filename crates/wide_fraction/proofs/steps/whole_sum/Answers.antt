@@ -21,7 +21,11 @@ returns-in-Some c =
     let right_fits : SFits w128 c.args.right = c.ranges.right in
     let sum_fits : SFits w128 c.in-Some.sum = search rules in
     let answer = simp to_z-of_z at c.in-Some.ensures in
-    let left_within : IsWithin c.size.result (whole c.args.left) = subst (λ (t : ℕ). IsWithin t (whole c.args.left)) (sym c.size.ensures.value) c.requires.left_within in
-    let right_within : IsWithin c.size.result (whole c.args.right) = subst (λ (t : ℕ). IsWithin t (whole c.args.right)) (sym c.size.ensures.value) c.requires.right_within in
-    whole_answer c.size.result c.args.top (listed_of_sum (whole c.args.left) (whole c.args.right)) _ c.whole_wide.result c.in-Some.sum c.size.ensures.value (c.whole_wide.ensures ∙ ap (λ (z : ℤ). whole z) (to_z-of_z w128 c.in-Some.sum sum_fits))
+    let left_within : IsWithin c.size.result (whole c.args.left) =
+    subst (λ (t : ℕ). IsWithin t (whole c.args.left)) (sym c.size.ensures.value) c.requires.left_within in
+    let right_within : IsWithin c.size.result (whole c.args.right) =
+    subst (λ (t : ℕ). IsWithin t (whole c.args.right)) (sym c.size.ensures.value) c.requires.right_within in
+    whole_answer c.size.result c.args.top (listed_of_sum (whole c.args.left) (whole c.args.right)) _ c.whole_wide.result
+    c.in-Some.sum c.size.ensures.value (c.whole_wide.ensures
+    ∙ ap (λ (z : ℤ). whole z) (to_z-of_z w128 c.in-Some.sum sum_fits))
     (whole_sum_answer c.size.result c.args.left c.args.right c.in-Some.sum left_within right_within answer.0 answer.1)

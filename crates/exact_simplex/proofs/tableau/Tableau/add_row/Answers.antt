@@ -20,5 +20,8 @@ invariant_of-self-2 c =
           (opened a (subst (λ (r : Result (Unit {0}) Wide). OnOk r (IsActive a)) w.in-Ok.is put.active))
       | in-Err w ↦
           subst (IsSoundActive a) (sym w.self-is)
-          (stopped a w.in-Err.step (subst (λ (r : Result (Unit {0}) Wide). IfErr r (λ wide. IsTooWide t.top t.costs t.rows.items (wide_at wide t.basis.items))) w.in-Err.is put.wide) put.room)
+          (stopped a w.in-Err.step (subst
+          (λ (r : Result (Unit {0}) Wide).
+          IfErr r (λ wide. IsTooWide t.top t.costs t.rows.items (wide_at wide t.basis.items))) w.in-Err.is
+          put.wide) put.room)
     ]

@@ -10,7 +10,8 @@ pub returns : goal.returns
 returns c =
     let costs = c.args.costs.now in
     let width : length costs.low ≡ length c.args.self.now.costs.low =
-    sym (ap length c.as_slice.ensures) ∙ c.if-as_slice-width.false ∙ ap length c.as_slice-width.ensures ∙ ap (λ (h : Held). length h.costs.low) c.self.view_is in
+    sym (ap length c.as_slice.ensures) ∙ c.if-as_slice-width.false ∙ ap length c.as_slice-width.ensures
+    ∙ ap (λ (h : Held). length h.costs.low) c.self.view_is in
     let rows_are : c.as_slice-2.result.now ≡ c.args.self.now.rows = c.as_slice-2.ensures.value ∙ ap (λ (h : Held). h.rows) c.self.view_is in
     let box = c.is_box.ensures.0 c.if-not-is_box.false in (
       λ told. (

@@ -24,15 +24,20 @@ invariant_of-self c =
           (subst (λ (r : Result Solved Wide). IfOk r (λ solved. IsShown t.basis.items (table_of a).lines.items (Ended solved))) w.in-Ok.is left.shown))
       | in-Err w ↦
           subst (IsSoundActive a) (sym w.self-is)
-          (stopped a w.in-Err.wide (subst (λ (r : Result Solved Wide). IfErr r (λ wide. IsTooWide t.top t.costs t.rows.items (wide_at wide t.basis.items))) w.in-Err.is left.wide) left.room)
+          (stopped a w.in-Err.wide (subst
+          (λ (r : Result Solved Wide).
+          IfErr r (λ wide. IsTooWide t.top t.costs t.rows.items (wide_at wide t.basis.items))) w.in-Err.is
+          left.wide) left.room)
     ]
 
 pub returns-clause-solved : goal.returns-clause-solved
 returns-clause-solved c =
     subst (λ (h : Held). IfOk c.settle-settled.result (λ solved. IsSolved h.costs h.rows solved)) c.self.view_is
-    (settled_rightly c.self.inside.table.kernel.table c.settle-settled.new.self c.settle-settled.result c.settle-settled.ensures.keeps c.settle-settled.ensures.active c.settle-settled.ensures.shown)
+    (settled_rightly c.self.inside.table.kernel.table c.settle-settled.new.self c.settle-settled.result
+    c.settle-settled.ensures.keeps c.settle-settled.ensures.active c.settle-settled.ensures.shown)
 
 pub returns-clause-among : goal.returns-clause-among
 returns-clause-among c =
     subst (λ (h : Held). IfOk c.settle-settled.result (IsAmongForms h.costs h.rows)) c.self.view_is
-    (settled_among_forms c.self.inside.table.kernel.table c.settle-settled.new.self c.settle-settled.result c.settle-settled.ensures.keeps c.settle-settled.ensures.active c.settle-settled.ensures.shown)
+    (settled_among_forms c.self.inside.table.kernel.table c.settle-settled.new.self c.settle-settled.result
+    c.settle-settled.ensures.keeps c.settle-settled.ensures.active c.settle-settled.ensures.shown)

@@ -3,7 +3,7 @@ use Rattle.std.proofs.Common.{◌≡◌, ℕ, ◌-◌, ◌∙◌, ap, List, ◌�
 use Rattle.cost_base.specs.Lists.{numbers_from}
 use Rattle.whole_numbers.specs.Fractions.{Fraction}
 use Rattle.fraction_rows.specs.TableRows.{filled, nothing}
-use Rattle.fraction_rows.proofs.Filled.{width_is}
+use Rattle.fraction_rows.proofs.FilledRows.{width_is}
 use Rattle.fraction_rows.proofs.row.TableRow.clear.Goals as goal
 
 pub returns : goal.returns

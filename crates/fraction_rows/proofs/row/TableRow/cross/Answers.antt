@@ -6,7 +6,7 @@ use Rattle.path_rows.specs.Basis.{entry}
 use Rattle.fraction_rows.specs.TableRows.{AreNumbers, Rises, crossed_by, filled}
 use Rattle.fraction_rows.specs.Marks.{AllMarked}
 use Rattle.fraction_rows.specs.Entries.{IsMade, crossed_at}
-use Rattle.fraction_rows.proofs.Filled.{row_crossed_as, row_numbers, entry_numbers, term_step, crossed_wide, width_is, same_width, on_ok, always_ok}
+use Rattle.fraction_rows.proofs.FilledRows.{row_crossed_as, row_numbers, entry_numbers, term_step, crossed_wide, width_is, same_width, on_ok, always_ok}
 use Rattle.fraction_rows.proofs.row.TableRow.cross.Goals.{After-quotients}
 use Rattle.fraction_rows.proofs.row.TableRow.cross.Goals as goal
 
@@ -15,14 +15,16 @@ into_width : (c : After-quotients) → c.into.inside.width ≡ c.self.inside.wid
 into_width c =
     let s = c.self.inside in
     let i = c.into.inside in
-    same_width i.constant s.constant i.width s.width i.entries.items s.entries.items c.args.into.now c.args.self.now c.into.view_is c.self.view_is c.requires.into
+    same_width i.constant s.constant i.width s.width i.entries.items s.entries.items c.args.into.now c.args.self.now
+    c.into.view_is c.self.view_is c.requires.into
 
 -- and so are the quotients
 quotients_width : (c : After-quotients) → c.quotients.inside.width ≡ c.self.inside.width
 quotients_width c =
     let s = c.self.inside in
     let q = c.quotients.inside in
-    same_width q.constant s.constant q.width s.width q.entries.items s.entries.items c.args.quotients.now c.args.self.now c.quotients.view_is c.self.view_is c.requires.quotients
+    same_width q.constant s.constant q.width s.width q.entries.items s.entries.items c.args.quotients.now
+    c.args.self.now c.quotients.view_is c.self.view_is c.requires.quotients
 
 pub returns-in_err-into-inside-clause-wide : goal.returns-in_err-into-inside-clause-wide
 returns-in_err-into-inside-clause-wide c =
@@ -32,7 +34,8 @@ returns-in_err-into-inside-clause-wide c =
     let place_in : 0 < length c.args.self.now = omega (arith, width_is s.constant s.width s.entries.items c.args.self.now c.self.view_is) in
     rw (p.1, p.2) (
       term_step c.args.factor s.constant q.constant c.args.self.now c.args.quotients.now 0 c.in_err-into-inside.field-0.0 place_in
-          (ap (λ (l : List Fraction). entry l 0) (sym c.self.view_is)) (ap (λ (l : List Fraction). entry l 0) (sym c.quotients.view_is)) c.in_err-into-inside.ensures.step,
+          (ap (λ (l : List Fraction). entry l 0) (sym c.self.view_is))
+          (ap (λ (l : List Fraction). entry l 0) (sym c.quotients.view_is)) c.in_err-into-inside.ensures.step,
       c.in_err-into-inside.ensures.passes,
     )
 
@@ -45,13 +48,16 @@ cross_entries-made-requires-clause-quotients c =
 pub cross_entries-made-requires-clause-old_numbers : goal.cross_entries-made-requires-clause-old_numbers
 cross_entries-made-requires-clause-old_numbers c =
     let s = c.self.inside in
-    rw c.as_slice.ensures.value (entry_numbers c.args.top s.constant s.width s.entries.items c.self.invariant.rises (subst (AreNumbers c.args.top) (sym c.self.view_is) c.requires.numbers))
+    rw c.as_slice.ensures.value (entry_numbers c.args.top s.constant s.width s.entries.items c.self.invariant.rises
+    (subst (AreNumbers c.args.top) (sym c.self.view_is) c.requires.numbers))
 
 pub cross_entries-made-requires-clause-quotient_numbers :
     goal.cross_entries-made-requires-clause-quotient_numbers
 cross_entries-made-requires-clause-quotient_numbers c =
     let q = c.quotients.inside in
-    rw c.as_slice-2.ensures.value (entry_numbers c.args.top q.constant q.width q.entries.items c.quotients.invariant.rises (subst (AreNumbers c.args.top) (sym c.quotients.view_is) c.requires.quotient_numbers))
+    rw c.as_slice-2.ensures.value (entry_numbers c.args.top q.constant q.width q.entries.items
+    c.quotients.invariant.rises
+    (subst (AreNumbers c.args.top) (sym c.quotients.view_is) c.requires.quotient_numbers))
 
 pub cross_entries-made-requires-clause-room : goal.cross_entries-made-requires-clause-room
 cross_entries-made-requires-clause-room c =
@@ -77,7 +83,9 @@ returns-clause-crossed c =
     on_ok c.cross_entries-made.result
     (IsMade s.width (crossed_at c.args.factor) c.as_slice.result.now c.as_slice-2.result.now c.cross_entries-made.new.made.items)
     (c.in_ok-into-inside.field-0 ∷ filled i.width c.cross_entries-made.new.made.items ≡ crossed_by c.args.factor c.args.self.now c.args.quotients.now)
-    (row_crossed_as c.in_ok-into-inside.field-0 c.args.factor s.constant q.constant s.width i.width q.width s.entries.items q.entries.items c.cross_entries-made.new.made.items c.as_slice.result.now c.as_slice-2.result.now c.args.self.now c.args.quotients.now
+    (row_crossed_as c.in_ok-into-inside.field-0 c.args.factor s.constant q.constant s.width i.width q.width
+    s.entries.items q.entries.items c.cross_entries-made.new.made.items c.as_slice.result.now
+    c.as_slice-2.result.now c.args.self.now c.args.quotients.now
     c.in_ok-into-inside.ensures.exact same width c.as_slice.ensures.value c.as_slice-2.ensures.value c.self.view_is c.quotients.view_is)
     c.cross_entries-made.ensures.made
 
@@ -85,12 +93,16 @@ pub returns-clause-numbers : goal.returns-clause-numbers
 returns-clause-numbers c =
     let i = c.into.inside in
     always_ok c.cross_entries-made.result (AreNumbers c.args.top (c.in_ok-into-inside.field-0 ∷ filled i.width c.cross_entries-made.new.made.items))
-    (row_numbers c.args.top c.in_ok-into-inside.field-0 i.width c.cross_entries-made.new.made.items c.in_ok-into-inside.ensures.number c.cross_entries-made.ensures.numbers)
+    (row_numbers c.args.top c.in_ok-into-inside.field-0 i.width c.cross_entries-made.new.made.items
+    c.in_ok-into-inside.ensures.number c.cross_entries-made.ensures.numbers)
 
 pub returns-clause-wide : goal.returns-clause-wide
 returns-clause-wide c =
     let s = c.self.inside in
     let q = c.quotients.inside in
     let width = quotients_width (goal.at.returns-clause-wide c).After-quotients in
-    crossed_wide c.cross_entries-made.result c.args.top c.args.factor s.constant q.constant s.width q.width s.entries.items q.entries.items c.as_slice.result.now c.as_slice-2.result.now c.args.self.now c.args.quotients.now
-    width c.as_slice.ensures.value c.as_slice-2.ensures.value c.self.view_is c.quotients.view_is c.cross_entries-made.ensures.step c.cross_entries-made.ensures.passes
+    crossed_wide c.cross_entries-made.result c.args.top c.args.factor s.constant q.constant s.width q.width
+    s.entries.items q.entries.items c.as_slice.result.now c.as_slice-2.result.now c.args.self.now
+    c.args.quotients.now
+    width c.as_slice.ensures.value c.as_slice-2.ensures.value c.self.view_is c.quotients.view_is
+    c.cross_entries-made.ensures.step c.cross_entries-made.ensures.passes

@@ -7,9 +7,9 @@ use Rattle.path_rows.specs.Basis.{entry}
 use Rattle.fraction_rows.specs.TableRows.{AreNumbers, IsNumber, Rises, divided_without, filled}
 use Rattle.fraction_rows.specs.Marks.{AllMarked}
 use Rattle.fraction_rows.specs.Entries.{IsMade, divided_at}
-use Rattle.fraction_rows.proofs.Numbers.{divided_number}
-use Rattle.fraction_rows.proofs.Passing.{named_passes}
-use Rattle.fraction_rows.proofs.Filled.{row_divided_as, row_numbers, entry_numbers, quotient_step, divided_wide, width_is, same_width, on_ok, always_ok}
+use Rattle.fraction_rows.proofs.ZeroFractions.{divided_number}
+use Rattle.fraction_rows.proofs.NamedSteps.{named_passes}
+use Rattle.fraction_rows.proofs.FilledRows.{row_divided_as, row_numbers, entry_numbers, quotient_step, divided_wide, width_is, same_width, on_ok, always_ok}
 use Rattle.fraction_rows.proofs.row.TableRow.divide.Goals.{After-self}
 use Rattle.fraction_rows.proofs.row.TableRow.divide.Goals as goal
 
@@ -18,7 +18,8 @@ into_width : (c : After-self) → c.into.inside.width ≡ c.self.inside.width
 into_width c =
     let s = c.self.inside in
     let i = c.into.inside in
-    same_width i.constant s.constant i.width s.width i.entries.items s.entries.items c.args.into.now c.args.self.now c.into.view_is c.self.view_is c.requires.into
+    same_width i.constant s.constant i.width s.width i.entries.items s.entries.items c.args.into.now c.args.self.now
+    c.into.view_is c.self.view_is c.requires.into
 
 pub returns-in_err-into-inside-clause-wide : goal.returns-in_err-into-inside-clause-wide
 returns-in_err-into-inside-clause-wide c =
@@ -27,14 +28,16 @@ returns-in_err-into-inside-clause-wide c =
     let wide = c.in_err-into-inside.field-0.0 in
     let place_in : 0 < length c.args.self.now = omega (arith, width_is s.constant s.width s.entries.items c.args.self.now c.self.view_is) in
     rw (p.1, p.2) (
-      quotient_step c.args.divisor s.constant c.args.self.now 0 wide place_in (ap (λ (l : List Fraction). entry l 0) (sym c.self.view_is)) c.in_err-into-inside.ensures.named,
+      quotient_step c.args.divisor s.constant c.args.self.now 0 wide place_in
+          (ap (λ (l : List Fraction). entry l 0) (sym c.self.view_is)) c.in_err-into-inside.ensures.named,
       named_passes {X = Fraction} (Err wide) c.args.top Div s.constant c.args.divisor c.in_err-into-inside.ensures.named c.in_err-into-inside.ensures.passes,
     )
 
 pub divide_entries-made-requires-clause-old_numbers : goal.divide_entries-made-requires-clause-old_numbers
 divide_entries-made-requires-clause-old_numbers c =
     let s = c.self.inside in
-    rw c.as_slice.ensures.value (entry_numbers c.args.top s.constant s.width s.entries.items c.self.invariant.rises (subst (AreNumbers c.args.top) (sym c.self.view_is) c.requires.numbers))
+    rw c.as_slice.ensures.value (entry_numbers c.args.top s.constant s.width s.entries.items c.self.invariant.rises
+    (subst (AreNumbers c.args.top) (sym c.self.view_is) c.requires.numbers))
 
 pub divide_entries-made-requires-clause-room : goal.divide_entries-made-requires-clause-room
 divide_entries-made-requires-clause-room c =
@@ -58,7 +61,8 @@ returns-clause-divided c =
     on_ok c.divide_entries-made.result
     (IsMade s.width (divided_at c.args.left_out c.args.divisor) c.as_slice.result.now [] c.divide_entries-made.new.made.items)
     (c.in_ok-into-inside.field-0 ∷ filled i.width c.divide_entries-made.new.made.items ≡ divided_without (suc c.args.left_out) c.args.divisor c.args.self.now 0)
-    (row_divided_as c.args.left_out c.in_ok-into-inside.field-0 c.args.divisor s.constant s.width i.width s.entries.items c.divide_entries-made.new.made.items c.as_slice.result.now c.args.self.now
+    (row_divided_as c.args.left_out c.in_ok-into-inside.field-0 c.args.divisor s.constant s.width i.width
+    s.entries.items c.divide_entries-made.new.made.items c.as_slice.result.now c.args.self.now
     c.in_ok-into-inside.ensures.exact same c.as_slice.ensures.value c.self.view_is)
     c.divide_entries-made.ensures.made
 
@@ -67,7 +71,9 @@ returns-clause-numbers c =
     let s = c.self.inside in
     let i = c.into.inside in
     let first = subst (AreNumbers c.args.top) (sym c.self.view_is) c.requires.numbers in
-    let value_is : IsNumber c.args.top c.in_ok-into-inside.field-0 = divided_number c.args.top s.constant c.args.divisor c.in_ok-into-inside.field-0 first.0.lowest.positive c.in_ok-into-inside.ensures.exact c.in_ok-into-inside.ensures.within in
+    let value_is : IsNumber c.args.top c.in_ok-into-inside.field-0 =
+    divided_number c.args.top s.constant c.args.divisor c.in_ok-into-inside.field-0 first.0.lowest.positive
+    c.in_ok-into-inside.ensures.exact c.in_ok-into-inside.ensures.within in
     always_ok c.divide_entries-made.result (AreNumbers c.args.top (c.in_ok-into-inside.field-0 ∷ filled i.width c.divide_entries-made.new.made.items))
     (row_numbers c.args.top c.in_ok-into-inside.field-0 i.width c.divide_entries-made.new.made.items value_is c.divide_entries-made.ensures.numbers)
 

@@ -3,7 +3,7 @@ use Rattle.std.proofs.Common.{◌≡◌, ℕ, suc, ◌-◌, ◌∙◌, ap, sym, 
 use Rattle.whole_numbers.specs.Fractions.{Fraction}
 use Rattle.path_rows.specs.Basis.{entry}
 use Rattle.fraction_rows.specs.TableRows.{Rises, filled}
-use Rattle.fraction_rows.proofs.Filled.{width_is}
+use Rattle.fraction_rows.proofs.FilledRows.{width_is}
 use Rattle.fraction_rows.proofs.row.TableRow.entries.Goals as goal
 
 less_one : (n w : ℕ) → n ≡ suc w → w ≡ n - 1

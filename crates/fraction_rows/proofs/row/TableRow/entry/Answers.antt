@@ -3,7 +3,7 @@ use Rattle.std.proofs.Common.{◌<◌, ℕ, suc, ◌∙◌, ap, sym, List, arith
 use Rattle.whole_numbers.specs.Fractions.{Fraction}
 use Rattle.path_rows.specs.Basis.{entry}
 use Rattle.fraction_rows.specs.TableRows.{fraction_at}
-use Rattle.fraction_rows.proofs.Filled.{row_entry, width_is}
+use Rattle.fraction_rows.proofs.FilledRows.{row_entry, width_is}
 use Rattle.fraction_rows.proofs.MarkLaws.{unmarked_nothing}
 use Rattle.fraction_rows.proofs.row.TableRow.entry.Goals as goal
 

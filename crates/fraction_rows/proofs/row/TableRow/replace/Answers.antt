@@ -8,7 +8,7 @@ use Rattle.fraction_rows.specs.TableRows.{Rises, filled}
 use Rattle.fraction_rows.specs.Entries.{AreRising, replaced}
 use Rattle.fraction_rows.specs.Marks.{AllMarked}
 use Rattle.fraction_rows.proofs.Columns.{replaced_rises, replaced_here, replaced_other}
-use Rattle.fraction_rows.proofs.Filled.{row_entry, row_written, width_is}
+use Rattle.fraction_rows.proofs.FilledRows.{row_entry, row_written, width_is}
 use Rattle.fraction_rows.proofs.MarkLaws.{replaced_marked}
 use Rattle.fraction_rows.proofs.row.TableRow.replace.Goals as goal
 
@@ -19,10 +19,17 @@ pub invariant_of-self : goal.invariant_of-self
 invariant_of-self c =
     let s = c.self.inside in
     let new_is = c.replace_fraction.ensures ∙ ap (map (replaced c.args.column c.args.value)) c.deref_mut.ensures.value in
-    let counted : length c.replace_fraction.new.entries ≡ s.entries.len = omega (arith, ap length new_is ∙ length-map s.entries.items (replaced c.args.column c.args.value), s.entries.ok.0) in
+    let counted : length c.replace_fraction.new.entries ≡ s.entries.len =
+    omega (
+      arith,
+      ap length new_is ∙ length-map s.entries.items (replaced c.args.column c.args.value),
+      s.entries.ok.0,
+    ) in
     let kept = with_items_is s.entries c.replace_fraction.new.entries counted ∙ new_is in
     record {
-      rises = subst (λ (l : List (ℕ × Fraction)). Rises 0 s.width l) (sym kept) (replaced_rises 0 s.width c.args.column c.args.value s.entries.items c.requires.not_zero c.self.invariant.rises);
+      rises = subst (λ (l : List (ℕ × Fraction)). Rises 0 s.width l) (sym kept)
+          (replaced_rises 0 s.width c.args.column c.args.value s.entries.items c.requires.not_zero
+          c.self.invariant.rises);
       room = c.self.invariant.room;
       marked = subst (AllMarked s.marks) (sym kept) (replaced_marked s.marks c.args.column c.args.value s.entries.items c.self.invariant.marked);
     }
@@ -34,12 +41,18 @@ pub returns : goal.returns
 returns c =
     let s = c.self.inside in
     let new_is = c.replace_fraction.ensures ∙ ap (map (replaced c.args.column c.args.value)) c.deref_mut.ensures.value in
-    let counted : length c.replace_fraction.new.entries ≡ s.entries.len = omega (arith, ap length new_is ∙ length-map s.entries.items (replaced c.args.column c.args.value), s.entries.ok.0) in
+    let counted : length c.replace_fraction.new.entries ≡ s.entries.len =
+    omega (
+      arith,
+      ap length new_is ∙ length-map s.entries.items (replaced c.args.column c.args.value),
+      s.entries.ok.0,
+    ) in
     let kept = with_items_is s.entries c.replace_fraction.new.entries counted ∙ new_is in
     let column_in : c.args.column < s.width = omega (arith, c.requires.within, width_is s.constant s.width s.entries.items c.args.self.now c.self.view_is) in
     ap (λ (l : List (ℕ × Fraction)). s.constant ∷ filled s.width l) kept
     ∙ row_written s.constant s.width s.entries.items (map (replaced c.args.column c.args.value) s.entries.items) c.args.column c.args.value column_in
     (replaced_here c.args.column c.args.value s.entries.items
-    (λ none. c.requires.before (ap (λ (l : List Fraction). entry l (suc c.args.column)) (sym c.self.view_is) ∙ row_entry s.constant s.width s.entries.items c.args.column column_in ∙ none)))
+    (λ none. c.requires.before (ap (λ (l : List Fraction). entry l (suc c.args.column)) (sym c.self.view_is)
+    ∙ row_entry s.constant s.width s.entries.items c.args.column column_in ∙ none)))
     (λ m m_in other. replaced_other c.args.column m c.args.value s.entries.items (apart m c.args.column other))
     ∙ ap (λ (l : List Fraction). slice_set l (suc c.args.column) c.args.value) c.self.view_is

@@ -1,7 +1,7 @@
 -- The new column comes before the best so far.
 use Rattle.std.proofs.Common.{◌<◌, subst, length, arith}
 use Rattle.fraction_table.specs.Pivots.{IsBestBelow, IsOrdered}
-use Rattle.fraction_table.proofs.Bests.{best_changes}
+use Rattle.fraction_table.proofs.BestColumns.{best_changes}
 use Rattle.fraction_table.proofs.table.Table.better.Goals as goal
 
 pub returns-then-changes-clause-best : goal.returns-then-changes-clause-best

@@ -1,23 +1,18 @@
 -- Each step puts one more denominator to the multiple.
-use Rattle.std.proofs.Common.{◌≡◌, ℕ, ◌<◌, ◌≤◌, ◌^◌, SFits, of_z, to_z, refl, ◌∙◌, ap, sym, subst, length, arith}
+use Rattle.std.proofs.Common.{◌≡◌, ℕ, ◌<◌, ◌≤◌, ◌^◌, of_z, to_z, refl, ◌∙◌, ap, sym, subst, length, arith}
 use Rattle.std.specs.Int.{w128}
 use Rattle.std.specs.Prelude.{ℤ, pos, nat_abs, ◌<ℤ◌}
-use Rattle.std.proofs.lemmas.Int.{fits_signed_from_abs, ints, to_z-of_z}
+use Rattle.std.proofs.lemmas.Int.{ints}
 use Rattle.std.proofs.lemmas.List.{take_all}
 use Rattle.std.proofs.lemmas.Result.{err_from_is_err_and}
 use Rattle.whole_numbers.specs.Fractions.{Fraction}
 use Rattle.path_rows.specs.Steps.{lcm_of}
 use Rattle.fraction_table.specs.Corners.{denominators_of}
 use Rattle.fraction_rows.specs.Entries.{IsPassing}
+use Rattle.fraction_table.proofs.MultiplierSteps.{read_back}
 use Rattle.fraction_table.proofs.Pivots.{lines_long}
 use Rattle.fraction_table.proofs.CornerScales.{constant_read, denominator_within, denominators_long, multiple_more, multiple_wide, taken_positive, top_bounds}
 use Rattle.fraction_table.proofs.table.Table.common_denominator.Goals as goal
-
--- a number of up to 127 bits is read as it is
-read_back : (z : ℤ) → nat_abs z < 2 ^ 127 → to_z w128 (of_z w128 z) ≡ z
-read_back z small =
-    let fits : SFits w128 z = fits_signed_from_abs w128 z small in
-    to_z-of_z w128 z fits
 
 below_read : (z : ℤ) (d : ℕ) → z ≡ pos d → d < 2 ^ 127 → to_z w128 (of_z w128 z) ≡ pos d
 below_read z d is small = read_back z (subst (λ (y : ℤ). nat_abs y < 2 ^ 127) (sym is) small) ∙ is
@@ -41,7 +36,8 @@ lcm-requires-clause-right_within c =
     let t = c.args.self.now in
     let var_in : c.loop-var.var < length t.costs.low = omega (arith, c.loop-var-test.true, ap length c.as_slice-var-end.ensures) in
     let constant_is = constant_read t c.requires.whole c.loop-var.var c.constant.result c.index.result.now var_in c.constant.ensures c.index.ensures in
-    let read = below_read c.denominator-denominator.result c.constant.result.denominator c.denominator-denominator.ensures.value c.denominator-denominator.ensures.kept.denominator in
+    let read = below_read c.denominator-denominator.result c.constant.result.denominator
+    c.denominator-denominator.ensures.value c.denominator-denominator.ensures.kept.denominator in
     subst (λ (z : ℤ). nat_abs z ≤ t.top) (sym (read ∙ ap (λ (q : Fraction). pos q.denominator) constant_is))
     (denominator_within t c.requires.whole c.loop-var.var var_in)
 
@@ -51,7 +47,8 @@ returns-in_err-multiple-clause-wide c =
     let t = c.args.self.now in
     let var_in : c.loop-var.var < length t.costs.low = omega (arith, c.loop-var-test.true, ap length c.as_slice-var-end.ensures) in
     let constant_is = constant_read t c.requires.whole c.loop-var.var c.constant.result c.index.result.now var_in c.constant.ensures c.index.ensures in
-    let read = below_read c.denominator-denominator.result c.constant.result.denominator c.denominator-denominator.ensures.value c.denominator-denominator.ensures.kept.denominator in
+    let read = below_read c.denominator-denominator.result c.constant.result.denominator
+    c.denominator-denominator.ensures.value c.denominator-denominator.ensures.kept.denominator in
     rw (p.1, p.2)
     (multiple_wide t c.requires.whole c.loop-var.var _ _ c.in_err-multiple.field-0.0 var_in c.loop-var.invariant.so_far
     (read ∙ ap (λ (q : Fraction). pos q.denominator) constant_is) c.in_err-multiple.ensures.named
@@ -62,7 +59,8 @@ loop-var-preserved c =
     let t = c.args.self.now in
     let var_in : c.loop-var.var < length t.costs.low = omega (arith, c.loop-var-test.true, ap length c.as_slice-var-end.ensures) in
     let constant_is = constant_read t c.requires.whole c.loop-var.var c.constant.result c.index.result.now var_in c.constant.ensures c.index.ensures in
-    let read = below_read c.denominator-denominator.result c.constant.result.denominator c.denominator-denominator.ensures.value c.denominator-denominator.ensures.kept.denominator in
+    let read = below_read c.denominator-denominator.result c.constant.result.denominator
+    c.denominator-denominator.ensures.value c.denominator-denominator.ensures.kept.denominator in
     let small : nat_abs c.in_ok-multiple.multiple < 2 ^ 127 = omega (arith, c.in_ok-multiple.ensures.within, (top_bounds t.top c.value.ensures.width).1) in
     let back = read_back c.in_ok-multiple.multiple small in
     record {
@@ -75,4 +73,10 @@ pub returns-clause-multiple : goal.returns-clause-multiple
 returns-clause-multiple c =
     let t = c.args.self.now in
     c.loop-var.invariant.so_far
-    ∙ ap (λ ds. pos (lcm_of ds)) (take_all c.loop-var.var (denominators_of t) (omega (arith, c.loop-var-test.false, ap length c.as_slice-var-end.ensures, denominators_long t c.requires.whole)))
+    ∙ ap (λ ds. pos (lcm_of ds)) (take_all c.loop-var.var (denominators_of t)
+    (omega (
+      arith,
+      c.loop-var-test.false,
+      ap length c.as_slice-var-end.ensures,
+      denominators_long t c.requires.whole,
+    )))

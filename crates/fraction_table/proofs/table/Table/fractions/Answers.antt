@@ -20,8 +20,11 @@ pub loop-column-preserved : goal.loop-column-preserved
 loop-column-preserved c =
     let t = c.args.self.now in
     let row_is = line_read t c.args.line c.index.result.now c.index.ensures c.requires.line in
-    fractions_next t.basis.items (member_at t c.args.line) (line_at t c.args.line) c.loop-column.column (length t.costs.low) c.index-in-loop-column.result.now c.entry-entry.result c.loop-column.parts.items c.put_negated.new.parts.items
-    (omega (arith, c.loop-column-test.true)) (omega (arith, c.loop-column-test.true, c.requires.whole.unboxed.count)) (line_long t c.requires.whole c.args.line c.requires.line)
+    fractions_next t.basis.items (member_at t c.args.line) (line_at t c.args.line) c.loop-column.column
+    (length t.costs.low) c.index-in-loop-column.result.now c.entry-entry.result c.loop-column.parts.items
+    c.put_negated.new.parts.items
+    (omega (arith, c.loop-column-test.true)) (omega (arith, c.loop-column-test.true, c.requires.whole.unboxed.count))
+    (line_long t c.requires.whole c.args.line c.requires.line)
     c.loop-column.invariant c.index-in-loop-column.ensures
     (c.entry-entry.ensures ∙ ap (λ (row : List Fraction). entry row (suc c.loop-column.column)) row_is)
     c.in_ok-put_negated.ensures

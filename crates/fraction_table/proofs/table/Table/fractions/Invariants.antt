@@ -8,4 +8,5 @@ use Rattle.fraction_table.proofs.table.Table.fractions.Given as goal
 
 abbrev pub invariant-loop-column : goal.invariant-loop-column
 invariant-loop-column l =
-    l.parts.items ≡ numbered (member_at l.self l.line) (whole (pos 1) ∷ []) ++ columns_numbered (take l.column l.self.basis.items) (drop 1 (line_at l.self l.line))
+    l.parts.items ≡ numbered (member_at l.self l.line) (whole (pos 1) ∷ [])
+    ++ columns_numbered (take l.column l.self.basis.items) (drop 1 (line_at l.self l.line))

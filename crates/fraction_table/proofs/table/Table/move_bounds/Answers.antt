@@ -5,7 +5,7 @@ use Rattle.std.proofs.lemmas.Result.{err_from_is_err_and}
 use Rattle.fraction_table.specs.Tableaus.{between}
 use Rattle.fraction_table.specs.Moves.{IsMoved}
 use Rattle.fraction_table.proofs.Shifts.{moved_same, unboxed_shape}
-use Rattle.fraction_table.proofs.Between.{AreAlike, all_moved, high_move, high_step, keeps_both, low_move, low_step, none_moved}
+use Rattle.fraction_table.proofs.BetweenBoxes.{AreAlike, all_moved, high_move, high_step, keeps_both, low_move, low_step, none_moved}
 use Rattle.fraction_table.proofs.table.Table.move_bounds.Goals as goal
 
 pub loop-var-init : goal.loop-var-init
@@ -25,14 +25,20 @@ loop-var-preserved c =
     let v = c.loop-var.var in
     let alike : AreAlike old.costs costs = record { high = c.requires.unboxed.high_count; new_low = c.requires.low; new_high = c.requires.high } in
     let v_in : v < length old.costs.low = omega (arith, c.loop-var-test.true, ap length c.as_slice-low.ensures, c.requires.low) in
-    let middle = low_step old c.loop-var.self c.move_low.new.self costs v (slice_index c.as_slice-low.result.now v) alike v_in (ap (λ bounds. slice_index bounds v) c.as_slice-low.ensures) c.loop-var.invariant.moved c.in_ok-move_low.ensures.moved in
-    let last = high_step old c.move_low.new.self c.move_high.new.self costs v (slice_index c.as_slice-high.result.now v) alike v_in (ap (λ bounds. slice_index bounds v) c.as_slice-high.ensures) middle c.in_ok-move_high.ensures.moved in
+    let middle = low_step old c.loop-var.self c.move_low.new.self costs v (slice_index c.as_slice-low.result.now v)
+    alike v_in (ap (λ bounds. slice_index bounds v) c.as_slice-low.ensures) c.loop-var.invariant.moved
+    c.in_ok-move_low.ensures.moved in
+    let last = high_step old c.move_low.new.self c.move_high.new.self costs v (slice_index c.as_slice-high.result.now v)
+    alike v_in (ap (λ bounds. slice_index bounds v) c.as_slice-high.ensures) middle
+    c.in_ok-move_high.ensures.moved in
     let next : suc v ≡ v + 1 = omega arith in
     record {
       unboxed = c.in_ok-move_high.ensures.unboxed;
       room = c.move_high.ensures.shape.room;
       moved = subst (λ k. IsMoved old (between old.costs costs k k) c.move_high.new.self) next last;
-      keeps = keeps_both old c.loop-var.self c.move_high.new.self c.loop-var.invariant.keeps (keeps_both c.loop-var.self c.move_low.new.self c.move_high.new.self c.move_low.ensures.keeps c.move_high.ensures.keeps);
+      keeps = keeps_both old c.loop-var.self c.move_high.new.self c.loop-var.invariant.keeps
+          (keeps_both c.loop-var.self c.move_low.new.self c.move_high.new.self c.move_low.ensures.keeps
+          c.move_high.ensures.keeps);
     }
 
 pub move_low-requires : goal.move_low-requires
@@ -48,7 +54,14 @@ move_high-requires c =
     record {
       unboxed = c.in_ok-move_low.ensures.unboxed;
       room = c.move_low.ensures.shape.room;
-      var = omega (arith, c.loop-var-test.true, ap length c.as_slice-low.ensures, c.requires.low, c.loop-var.invariant.keeps.width, c.move_low.ensures.keeps.width);
+      var = omega (
+        arith,
+        c.loop-var-test.true,
+        ap length c.as_slice-low.ensures,
+        c.requires.low,
+        c.loop-var.invariant.keeps.width,
+        c.move_low.ensures.keeps.width,
+      );
     }
 
 pub returns-in_err-move_low-clause-wide : goal.returns-in_err-move_low-clause-wide
@@ -60,7 +73,8 @@ returns-in_err-move_low-clause-wide c =
     let alike : AreAlike old.costs costs = record { high = c.requires.unboxed.high_count; new_low = c.requires.low; new_high = c.requires.high } in
     let v_in : v < length old.costs.low = omega (arith, c.loop-var-test.true, ap length c.as_slice-low.ensures, c.requires.low) in
     rw p.1
-    (low_move old c.loop-var.self costs v (slice_index c.as_slice-low.result.now v) c.in_err-move_low.field-0.0 alike v_in (ap (λ bounds. slice_index bounds v) c.as_slice-low.ensures)
+    (low_move old c.loop-var.self costs v (slice_index c.as_slice-low.result.now v) c.in_err-move_low.field-0.0 alike
+    v_in (ap (λ bounds. slice_index bounds v) c.as_slice-low.ensures)
     c.loop-var.invariant.keeps c.loop-var.invariant.moved c.in_err-move_low.ensures.wide)
 
 pub returns-in_err-move_low-clause-keeps : goal.returns-in_err-move_low-clause-keeps
@@ -75,21 +89,33 @@ returns-in_err-move_high-clause-wide c =
     let v = c.loop-var.var in
     let alike : AreAlike old.costs costs = record { high = c.requires.unboxed.high_count; new_low = c.requires.low; new_high = c.requires.high } in
     let v_in : v < length old.costs.low = omega (arith, c.loop-var-test.true, ap length c.as_slice-low.ensures, c.requires.low) in
-    let middle = low_step old c.loop-var.self c.move_low.new.self costs v (slice_index c.as_slice-low.result.now v) alike v_in (ap (λ bounds. slice_index bounds v) c.as_slice-low.ensures) c.loop-var.invariant.moved c.in_ok-move_low.ensures.moved in
+    let middle = low_step old c.loop-var.self c.move_low.new.self costs v (slice_index c.as_slice-low.result.now v)
+    alike v_in (ap (λ bounds. slice_index bounds v) c.as_slice-low.ensures) c.loop-var.invariant.moved
+    c.in_ok-move_low.ensures.moved in
     rw p.1
-    (high_move old c.move_low.new.self costs v (slice_index c.as_slice-high.result.now v) c.in_err-move_high.field-0.0 alike v_in (ap (λ bounds. slice_index bounds v) c.as_slice-high.ensures)
+    (high_move old c.move_low.new.self costs v (slice_index c.as_slice-high.result.now v) c.in_err-move_high.field-0.0
+    alike v_in (ap (λ bounds. slice_index bounds v) c.as_slice-high.ensures)
     (keeps_both old c.loop-var.self c.move_low.new.self c.loop-var.invariant.keeps c.move_low.ensures.keeps) middle c.in_err-move_high.ensures.wide)
 
 pub returns-in_err-move_high-clause-keeps : goal.returns-in_err-move_high-clause-keeps
 returns-in_err-move_high-clause-keeps c =
-    keeps_both c.args.self.now c.loop-var.self c.move_high.new.self c.loop-var.invariant.keeps (keeps_both c.loop-var.self c.move_low.new.self c.move_high.new.self c.move_low.ensures.keeps c.move_high.ensures.keeps)
+    keeps_both c.args.self.now c.loop-var.self c.move_high.new.self c.loop-var.invariant.keeps
+    (keeps_both c.loop-var.self c.move_low.new.self c.move_high.new.self c.move_low.ensures.keeps
+    c.move_high.ensures.keeps)
 
 pub returns-clause-moved : goal.returns-clause-moved
 returns-clause-moved c =
     let old = c.args.self.now in
     let costs = c.args.costs.now in
     let alike : AreAlike old.costs costs = record { high = c.requires.unboxed.high_count; new_low = c.requires.low; new_high = c.requires.high } in
-    all_moved old c.loop-var.self costs c.loop-var.var alike (omega (arith, c.loop-var-test.false, c.loop-var.auto.var-end, ap length c.as_slice-low.ensures, c.requires.low)) c.loop-var.invariant.moved
+    all_moved old c.loop-var.self costs c.loop-var.var alike
+    (omega (
+      arith,
+      c.loop-var-test.false,
+      c.loop-var.auto.var-end,
+      ap length c.as_slice-low.ensures,
+      c.requires.low,
+    )) c.loop-var.invariant.moved
 
 pub returns-clause-shape : goal.returns-clause-shape
 returns-clause-shape c = unboxed_shape c.loop-var.self c.loop-var.invariant.unboxed c.loop-var.invariant.room

@@ -3,12 +3,15 @@ use Rattle.std.proofs.Common.{◌≡◌, suc, ◌∙◌, ap, sym, length, arith,
 use Rattle.std.specs.Prelude.{slice_index}
 use Rattle.std.proofs.lemmas.List.{length-set}
 use Rattle.std.proofs.lemmas.Result.{err_from_is_err_and}
-use Rattle.fraction_table.proofs.Shifts.{kept_number, lines_many, low_after, low_stays, low_wide, unboxed_shape}
+use Rattle.path_rows.specs.Boxes.{with_low}
+use Rattle.fraction_table.proofs.Shifts.{IsMovedTo, kept_number, lines_many, low_after, low_stays, low_wide, unboxed_shape}
+use Rattle.fraction_table.proofs.table.Table.move_low.Goals.{After-set}
 use Rattle.fraction_table.proofs.table.Table.move_low.Goals as goal
 
 pub returns-then-bound-low-clause-moved : goal.returns-then-bound-low-clause-moved
 returns-then-bound-low-clause-moved c =
-    let stays = low_stays c.args.self.now c.requires.unboxed c.args.var c.args.bound (c.if-bound-low.true ∙ ap (λ bounds. slice_index bounds c.args.var) c.as_slice.ensures) in
+    let stays = low_stays c.args.self.now c.requires.unboxed c.args.var c.args.bound (c.if-bound-low.true
+    ∙ ap (λ bounds. slice_index bounds c.args.var) c.as_slice.ensures) in
     record { costs_are = stays.0; basis = stays.1 }
 
 pub returns-then-bound-low-clause-shape : goal.returns-then-bound-low-clause-shape
@@ -24,37 +27,58 @@ pub returns-in_err-shift-clause-wide : goal.returns-in_err-shift-clause-wide
 returns-in_err-shift-clause-wide c =
     let p = err_from_is_err_and c.from_residual.result c.from_residual.ensures.1 in
     rw (p.1, p.2)
-    (low_wide c.args.self.now c.requires.unboxed c.args.var c.args.bound (slice_index c.as_slice.result.now c.args.var) (to_z w64 (of_z w64 c.range_of-fall.result)) c.in_err-shift.field-0.0 c.requires.var
-    (ap (λ bounds. slice_index bounds c.args.var) c.as_slice.ensures) (kept_number c.range_of-fall.result c.range_of-fall.ensures.small ∙ c.range_of-fall.ensures.range) c.in_err-shift.ensures.wide)
+    (low_wide c.args.self.now c.requires.unboxed c.args.var c.args.bound (slice_index c.as_slice.result.now c.args.var)
+    (to_z w64 (of_z w64 c.range_of-fall.result)) c.in_err-shift.field-0.0 c.requires.var
+    (ap (λ bounds. slice_index bounds c.args.var) c.as_slice.ensures)
+    (kept_number c.range_of-fall.result c.range_of-fall.ensures.small ∙ c.range_of-fall.ensures.range)
+    c.in_err-shift.ensures.wide)
 
 pub returns-in_err-shift-clause-keeps : goal.returns-in_err-shift-clause-keeps
 returns-in_err-shift-clause-keeps c =
     let k = c.shift.ensures.keeps in
     record { top = k.top; rows = k.rows; width = ap (λ costs. length costs.low) k.costs }
 
+-- the table after the bound was set
+moved_here : (c : After-set) →
+    IsMovedTo c.args.self.now c.shift.new.self (record { low = c.set.new.self; high = c.shift.new.self.costs.high })
+    (with_low c.args.self.now.costs c.args.var c.args.bound)
+moved_here c =
+    low_after c.args.self.now c.shift.new.self c.requires.unboxed c.args.var c.args.bound
+    (slice_index c.as_slice.result.now c.args.var) (to_z w64 (of_z w64 c.range_of-fall.result)) c.set.new.self
+    c.requires.var
+    c.shift.ensures.keeps c.shift.ensures.shape (ap (λ bounds. slice_index bounds c.args.var) c.as_slice.ensures)
+    (kept_number c.range_of-fall.result c.range_of-fall.ensures.small ∙ c.range_of-fall.ensures.range)
+    c.in_ok-shift.ensures.shifted c.set.ensures
+
 pub returns-clause-unboxed : goal.returns-clause-unboxed
 returns-clause-unboxed c =
-    let after = low_after c.args.self.now c.shift.new.self c.requires.unboxed c.args.var c.args.bound (slice_index c.as_slice.result.now c.args.var) (to_z w64 (of_z w64 c.range_of-fall.result)) c.set.new.self c.requires.var
-    c.shift.ensures.keeps c.shift.ensures.shape (ap (λ bounds. slice_index bounds c.args.var) c.as_slice.ensures) (kept_number c.range_of-fall.result c.range_of-fall.ensures.small ∙ c.range_of-fall.ensures.range) c.in_ok-shift.ensures.shifted c.set.ensures in
-    after.1
+    (moved_here (goal.at.returns-clause-unboxed c).After-set).unboxed
 
 pub returns-clause-moved : goal.returns-clause-moved
 returns-clause-moved c =
-    let after = low_after c.args.self.now c.shift.new.self c.requires.unboxed c.args.var c.args.bound (slice_index c.as_slice.result.now c.args.var) (to_z w64 (of_z w64 c.range_of-fall.result)) c.set.new.self c.requires.var
-    c.shift.ensures.keeps c.shift.ensures.shape (ap (λ bounds. slice_index bounds c.args.var) c.as_slice.ensures) (kept_number c.range_of-fall.result c.range_of-fall.ensures.small ∙ c.range_of-fall.ensures.range) c.in_ok-shift.ensures.shifted c.set.ensures in
-    record { costs_are = after.0.0; basis = after.0.1 }
+    let after = moved_here (goal.at.returns-clause-moved c).After-set in
+    record { costs_are = after.costs_are; basis = after.basis }
 
 pub returns-clause-shape : goal.returns-clause-shape
 returns-clause-shape c =
     let s = c.shift.new.self in
-    let after = low_after c.args.self.now s c.requires.unboxed c.args.var c.args.bound (slice_index c.as_slice.result.now c.args.var) (to_z w64 (of_z w64 c.range_of-fall.result)) c.set.new.self c.requires.var
-    c.shift.ensures.keeps c.shift.ensures.shape (ap (λ bounds. slice_index bounds c.args.var) c.as_slice.ensures) (kept_number c.range_of-fall.result c.range_of-fall.ensures.small ∙ c.range_of-fall.ensures.range) c.in_ok-shift.ensures.shifted c.set.ensures in
+    let after = moved_here (goal.at.returns-clause-shape c).After-set in
     let width : length c.set.new.self ≡ length s.costs.low = ap length c.set.ensures ∙ length-set s.costs.low c.args.var c.args.bound in
     let room = c.shift.ensures.shape.room in
-    unboxed_shape _ after.1 (record { few = omega (arith, width, room.few); quotients = room.quotients ∙ ap suc (sym width); scratch = room.scratch ∙ ap suc (sym width) })
+    unboxed_shape _ after.unboxed (record {
+      few = omega (arith, width, room.few);
+      quotients = room.quotients
+          ∙ ap suc (sym width);
+      scratch = room.scratch ∙ ap suc (sym width);
+    })
 
 pub returns-clause-keeps : goal.returns-clause-keeps
 returns-clause-keeps c =
     let s = c.shift.new.self in
     let k = c.shift.ensures.keeps in
-    record { top = k.top; rows = k.rows; width = ap length c.set.ensures ∙ length-set s.costs.low c.args.var c.args.bound ∙ ap (λ costs. length costs.low) k.costs }
+    record {
+      top = k.top;
+      rows = k.rows;
+      width = ap length c.set.ensures
+          ∙ length-set s.costs.low c.args.var c.args.bound ∙ ap (λ costs. length costs.low) k.costs;
+    }

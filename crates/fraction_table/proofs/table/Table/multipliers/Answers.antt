@@ -16,15 +16,18 @@ whole_multipliers-requires c =
 
 pub returns-clause-refutes : goal.returns-clause-refutes
 returns-clause-refutes c =
-    made_refute c.args.self.now c.args.line c.as_slice.result.now c.whole_multipliers.result (record { whole = c.requires.whole; line_in = c.requires.line; stuck = c.requires.stuck })
+    made_refute c.args.self.now c.args.line c.as_slice.result.now c.whole_multipliers.result
+    (record { whole = c.requires.whole; line_in = c.requires.line; stuck = c.requires.stuck })
     (c.as_slice.ensures.value ∙ c.in_ok-fractions.ensures) c.whole_multipliers.ensures.made c.whole_multipliers.ensures.small
 
 pub returns-clause-few : goal.returns-clause-few
 returns-clause-few c =
-    made_few c.args.self.now c.args.line c.as_slice.result.now c.whole_multipliers.result (record { whole = c.requires.whole; line_in = c.requires.line; stuck = c.requires.stuck })
+    made_few c.args.self.now c.args.line c.as_slice.result.now c.whole_multipliers.result
+    (record { whole = c.requires.whole; line_in = c.requires.line; stuck = c.requires.stuck })
     (c.as_slice.ensures.value ∙ c.in_ok-fractions.ensures) c.whole_multipliers.ensures.made
 
 pub returns-clause-told : goal.returns-clause-told
 returns-clause-told c =
-    made_told c.args.self.now c.args.line c.as_slice.result.now c.whole_multipliers.result (record { whole = c.requires.whole; line_in = c.requires.line; stuck = c.requires.stuck })
+    made_told c.args.self.now c.args.line c.as_slice.result.now c.whole_multipliers.result
+    (record { whole = c.requires.whole; line_in = c.requires.line; stuck = c.requires.stuck })
     (c.as_slice.ensures.value ∙ c.in_ok-fractions.ensures) c.whole_multipliers.ensures.wide

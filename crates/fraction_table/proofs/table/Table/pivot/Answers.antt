@@ -1,5 +1,5 @@
 -- The quotients are made, each line is turned, and the line's form enters the basis.
-use Rattle.std.proofs.Common.{◌<◌, ◌≡◌, ℕ, suc, Vec, ◌∙◌, ap, sym, subst, List, length, arith}
+use Rattle.std.proofs.Common.{◌<◌, ◌≡◌, ℕ, suc, Vec, ◌∙◌, ap, sym, subst, List, map, length, arith}
 use Rattle.std.specs.Prelude.{pos, slice_set}
 use Rattle.std.specs.Vec.{with_items}
 use Rattle.std.proofs.lemmas.List.{with_items_is, length-map}
@@ -17,6 +17,7 @@ use Rattle.fraction_table.proofs.WholeTurns.{turned_line}
 use Rattle.fraction_rows.proofs.PivotSteps.{quotient_own}
 use Rattle.fraction_table.proofs.Pivots.{inverse_not_zero, line_long, line_read, member_in, news_turned, pivot_whole, quotients_wide, turning_wide, whole_line, whole_rows}
 use Rattle.fraction_table.proofs.Ranks.{rank_rises}
+use Rattle.fraction_table.proofs.table.Table.pivot.Goals.{In_ok-turn_rows}
 use Rattle.fraction_table.proofs.table.Table.pivot.Goals as goal
 
 -- the lines are what was written into them
@@ -34,7 +35,8 @@ take_quotients-requires-clause-width c =
 pub take_quotients-requires-clause-numbers : goal.take_quotients-requires-clause-numbers
 take_quotients-requires-clause-numbers c =
     let t = c.args.self.now in
-    subst (AreNumbers t.top) (sym (line_read t c.args.line c.index.result.now c.index.ensures c.requires.line)) (whole_line t c.requires.whole c.args.line c.requires.line).numbers
+    subst (AreNumbers t.top) (sym (line_read t c.args.line c.index.result.now c.index.ensures c.requires.line))
+    (whole_line t c.requires.whole c.args.line c.requires.line).numbers
 
 pub returns-in_err-inverse-clause-wide : goal.returns-in_err-inverse-clause-wide
 returns-in_err-inverse-clause-wide c =
@@ -43,7 +45,9 @@ returns-in_err-inverse-clause-wide c =
     let wide = c.in_err-inverse.field-0.0 in
     rw (p.1, p.2)
     (quotients_wide t c.requires.whole c.args.line c.args.column c.requires.line c.requires.pivot wide
-    (subst (λ (row : List Fraction). IsWideStep t.top (IsQuotientStepOf row (suc c.args.column)) wide.step wide.left wide.right) (line_read t c.args.line c.index.result.now c.index.ensures c.requires.line) c.in_err-inverse.ensures.wide))
+    (subst (λ (row : List Fraction). IsWideStep t.top (IsQuotientStepOf row (suc c.args.column)) wide.step wide.left
+    wide.right) (line_read t c.args.line c.index.result.now c.index.ensures c.requires.line)
+    c.in_err-inverse.ensures.wide))
 
 pub turn_rows-requires-clause-rows : goal.turn_rows-requires-clause-rows
 turn_rows-requires-clause-rows c =
@@ -57,13 +61,27 @@ turn_rows-requires-clause-none_there c =
     let row = c.index.result.now in
     let row_is = line_read t c.args.line row c.index.ensures c.requires.line in
     ap (λ (qs : List Fraction). entry qs (suc c.args.column)) c.in_ok-inverse.ensures.quotients
-    ∙ quotient_own (suc c.args.column) (entry row (suc c.args.column)) row (omega (arith, ap length row_is, line_long t c.requires.whole c.args.line c.requires.line, c.requires.pivot.column, c.requires.whole.unboxed.count))
+    ∙ quotient_own (suc c.args.column) (entry row (suc c.args.column)) row
+    (omega (
+      arith,
+      ap length row_is,
+      line_long t c.requires.whole c.args.line c.requires.line,
+      c.requires.pivot.column,
+      c.requires.whole.unboxed.count,
+    ))
 
 pub turn_rows-requires-clause-not_zero : goal.turn_rows-requires-clause-not_zero
 turn_rows-requires-clause-not_zero c none =
     let t = c.args.self.now in
     let row_is = line_read t c.args.line c.index.result.now c.index.ensures c.requires.line in
-    let here = number_there t.top (line_at t c.args.line) (suc c.args.column) (whole_line t c.requires.whole c.args.line c.requires.line).numbers (omega (arith, line_long t c.requires.whole c.args.line c.requires.line, c.requires.pivot.column, c.requires.whole.unboxed.count)) in
+    let here = number_there t.top (line_at t c.args.line) (suc c.args.column)
+    (whole_line t c.requires.whole c.args.line c.requires.line).numbers
+    (omega (
+      arith,
+      line_long t c.requires.whole c.args.line c.requires.line,
+      c.requires.pivot.column,
+      c.requires.whole.unboxed.count,
+    )) in
     inverse_not_zero (entry (line_at t c.args.line) (suc c.args.column)) here.lowest.positive c.requires.pivot.above
     (ap (λ (row : List Fraction). (divided (whole (pos 1)) (entry row (suc c.args.column))).numerator) (sym row_is)
     ∙ ap (λ (q : Fraction). q.numerator) (sym c.in_ok-inverse.ensures.inverse) ∙ none)
@@ -79,29 +97,47 @@ returns-in_err-turn_rows-clause-wide c =
     (c.in_ok-inverse.ensures.quotients ∙ ap (λ (row : List Fraction). divided_without (suc c.args.column) (entry row (suc c.args.column)) row 0) row_is)
     (c.in_ok-inverse.ensures.inverse ∙ ap (λ (row : List Fraction). divided (whole (pos 1)) (entry row (suc c.args.column))) row_is)
     wide
-    (subst (λ (lines : List (List Fraction)). TurnsWide t.top lines c.take_quotients.new.quotients (suc c.args.column) c.in_ok-inverse.inverse wide.step wide.left wide.right) c.as_mut_slice.ensures.value c.in_err-turn_rows.ensures.wide))
+    (subst (λ (lines : List (List Fraction)). TurnsWide t.top lines c.take_quotients.new.quotients
+    (suc c.args.column) c.in_ok-inverse.inverse wide.step wide.left wide.right) c.as_mut_slice.ensures.value
+    c.in_err-turn_rows.ensures.wide))
+
+-- the lines are turned
+news_are : (c : In_ok-turn_rows) →
+    c.turn_rows.new.rows ≡ map (turned_line (line_at c.args.self.now c.args.line) (suc c.args.column))
+    c.args.self.now.lines.items
+news_are c =
+    let t = c.args.self.now in
+    news_turned (line_at t c.args.line) c.index.result.now c.take_quotients.new.quotients
+    (suc c.args.column) c.in_ok-inverse.inverse c.turn_rows.new.rows c.as_mut_slice.result.now t.lines.items
+    c.in_ok-turn_rows.ensures.turned c.as_mut_slice.ensures.value c.in_ok-inverse.ensures.quotients
+    c.in_ok-inverse.ensures.inverse (line_read t c.args.line c.index.result.now c.index.ensures c.requires.line)
+
+news_kept : (c : In_ok-turn_rows) → (with_items c.args.self.now.lines c.turn_rows.new.rows).items ≡ c.turn_rows.new.rows
+news_kept c =
+    let t = c.args.self.now in
+    lines_kept t.lines c.turn_rows.new.rows (ap length (news_are c) ∙ length-map t.lines.items (turned_line (line_at t c.args.line) (suc c.args.column)))
+
+news_numbers : (c : In_ok-turn_rows) → AreRows c.args.self.now.top (suc (length c.args.self.now.costs.low)) c.turn_rows.new.rows
+news_numbers c =
+    subst (λ (count : ℕ). AreRows c.args.self.now.top count c.turn_rows.new.rows) (c.take_quotients.ensures.width
+    ∙ c.requires.room.quotients) c.in_ok-turn_rows.ensures.numbers
 
 pub returns-clause-whole : goal.returns-clause-whole
 returns-clause-whole c =
     let t = c.args.self.now in
     let news = c.turn_rows.new.rows in
-    let row_is = line_read t c.args.line c.index.result.now c.index.ensures c.requires.line in
-    let news_are = news_turned (line_at t c.args.line) c.index.result.now c.take_quotients.new.quotients (suc c.args.column) c.in_ok-inverse.inverse news c.as_mut_slice.result.now t.lines.items
-    c.in_ok-turn_rows.ensures.turned c.as_mut_slice.ensures.value c.in_ok-inverse.ensures.quotients c.in_ok-inverse.ensures.inverse row_is in
-    let kept = lines_kept t.lines news (ap length news_are ∙ length-map t.lines.items (turned_line (line_at t c.args.line) (suc c.args.column))) in
-    let numbers = subst (λ (count : ℕ). AreRows t.top count news) (c.take_quotients.ensures.width ∙ c.requires.room.quotients) c.in_ok-turn_rows.ensures.numbers in
-    subst (λ (m : Member). IsWhole t.top t.costs t.rows.items (slice_set t.basis.items c.args.column m) (with_items t.lines news).items) (sym c.member_at-member.ensures)
-    (subst (λ (lines : List (List Fraction)). IsWhole t.top t.costs t.rows.items (slice_set t.basis.items c.args.column (member_at t c.args.line)) lines) (sym kept)
-    (pivot_whole t c.requires.whole c.args.line c.args.column news c.requires.line c.requires.pivot c.requires.least news_are numbers))
+    let turned = (goal.at.returns-clause-whole c).In_ok-turn_rows in
+    subst (λ (m : Member). IsWhole t.top t.costs t.rows.items (slice_set t.basis.items c.args.column m)
+    (with_items t.lines news).items) (sym c.member_at-member.ensures)
+    (subst (λ (lines : List (List Fraction)).
+    IsWhole t.top t.costs t.rows.items (slice_set t.basis.items c.args.column (member_at t c.args.line)) lines)
+    (sym (news_kept turned))
+    (pivot_whole t c.requires.whole c.args.line c.args.column news c.requires.line c.requires.pivot c.requires.least (news_are turned) (news_numbers turned)))
 
 pub returns-clause-rises : goal.returns-clause-rises
 returns-clause-rises c =
     let t = c.args.self.now in
     let news = c.turn_rows.new.rows in
-    let row_is = line_read t c.args.line c.index.result.now c.index.ensures c.requires.line in
-    let news_are = news_turned (line_at t c.args.line) c.index.result.now c.take_quotients.new.quotients (suc c.args.column) c.in_ok-inverse.inverse news c.as_mut_slice.result.now t.lines.items
-    c.in_ok-turn_rows.ensures.turned c.as_mut_slice.ensures.value c.in_ok-inverse.ensures.quotients c.in_ok-inverse.ensures.inverse row_is in
-    let kept = lines_kept t.lines news (ap length news_are ∙ length-map t.lines.items (turned_line (line_at t c.args.line) (suc c.args.column))) in
-    let numbers = subst (λ (count : ℕ). AreRows t.top count news) (c.take_quotients.ensures.width ∙ c.requires.room.quotients) c.in_ok-turn_rows.ensures.numbers in
-    subst (λ (lines : List (List Fraction)). rank t < digits_number (past_heights t.top) (heights t.top (length t.costs.low) lines)) (sym kept)
-    (rank_rises t c.requires.whole c.args.line c.args.column news c.requires.line c.requires.pivot c.requires.least news_are numbers)
+    let turned = (goal.at.returns-clause-rises c).In_ok-turn_rows in
+    subst (λ (lines : List (List Fraction)). rank t < digits_number (past_heights t.top) (heights t.top (length t.costs.low) lines)) (sym (news_kept turned))
+    (rank_rises t c.requires.whole c.args.line c.args.column news c.requires.line c.requires.pivot c.requires.least (news_are turned) (news_numbers turned))

@@ -33,6 +33,7 @@ loop-var-preserved c =
     let constant_is = constant_read t c.requires.whole k c.constant.result c.index.result.now var_in c.constant.ensures c.index.ensures in
     record {
       places = ap length c.set.ensures ∙ length-set c.loop-var.into k c.raised-value.result ∙ c.loop-var.invariant.places;
-      values = values_more t c.args.scale k c.raised-value.result c.loop-var.into c.set.new.self (omega (arith, var_in, c.loop-var.invariant.places)) c.loop-var.invariant.values
+      values = values_more t c.args.scale k c.raised-value.result c.loop-var.into c.set.new.self
+          (omega (arith, var_in, c.loop-var.invariant.places)) c.loop-var.invariant.values
           (c.raised-value.ensures ∙ entry_read t c.as_slice-low.result.now c.constant.result c.args.scale k c.as_slice-low.ensures constant_is) c.set.ensures;
     }

@@ -19,11 +19,15 @@ fill_line-filled-requires-clause-many c =
 pub returns-clause-whole : goal.returns-clause-whole
 returns-clause-whole c =
     let t = c.args.self.now in
-    put_whole {X = Unit {0}} c.fill_line-filled.result t.top t.costs t.rows.items c.push_reserved.new.self.items t.basis.items t.lines.items c.as_slice-lines.result.now c.push_reserved-2.new.self.items c.args.row.form c.fill_line-filled.new.line
-    c.requires.whole c.requires.fits c.as_slice-lines.ensures.value c.push_reserved.ensures.items c.push_reserved-2.ensures.items c.fill_line-filled.ensures.line
+    put_whole {X = Unit {0}} c.fill_line-filled.result t.top t.costs t.rows.items c.push_reserved.new.self.items
+    t.basis.items t.lines.items c.as_slice-lines.result.now c.push_reserved-2.new.self.items c.args.row.form
+    c.fill_line-filled.new.line
+    c.requires.whole c.requires.fits c.as_slice-lines.ensures.value c.push_reserved.ensures.items
+    c.push_reserved-2.ensures.items c.fill_line-filled.ensures.line
 
 pub returns-clause-wide : goal.returns-clause-wide
 returns-clause-wide c =
     let t = c.args.self.now in
-    put_wide {X = Unit {0}} c.fill_line-filled.result t.top t.costs t.rows.items c.push_reserved.new.self.items t.basis.items t.lines.items c.as_slice-lines.result.now c.args.row.form
+    put_wide {X = Unit {0}} c.fill_line-filled.result t.top t.costs t.rows.items c.push_reserved.new.self.items
+    t.basis.items t.lines.items c.as_slice-lines.result.now c.args.row.form
     c.requires.whole c.requires.fits c.as_slice-lines.ensures.value c.push_reserved.ensures.items c.fill_line-filled.ensures.wide

@@ -1,7 +1,7 @@
 -- The best of all columns is the least.
 use Rattle.std.proofs.Common.{subst, length}
 use Rattle.fraction_table.specs.Pivots.{IsBestBelow}
-use Rattle.fraction_table.proofs.Bests.{best_least}
+use Rattle.fraction_table.proofs.BestColumns.{best_least}
 use Rattle.fraction_table.proofs.table.Table.raise.Goals as goal
 
 pub pivot-requires-clause-least : goal.pivot-requires-clause-least

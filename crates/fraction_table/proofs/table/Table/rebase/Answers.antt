@@ -6,7 +6,7 @@ use Rattle.path_rows.specs.declared.form.CostBox.{CostBox}
 use Rattle.path_rows.specs.Boxes.{IsBox}
 use Rattle.fraction_table.specs.Tableaus.{FitsBox, starting}
 use Rattle.fraction_table.proofs.Restarts.{held_is, moved_rebased}
-use Rattle.fraction_table.proofs.Between.{keeps_both}
+use Rattle.fraction_table.proofs.BetweenBoxes.{keeps_both}
 use Rattle.fraction_table.proofs.table.Table.rebase.Goals as goal
 
 pub move_bounds-requires : goal.move_bounds-requires
@@ -33,8 +33,10 @@ returns-in-Ok-clause-whole c =
     let costs = c.args.costs.now in
     let same = c.in-Ok.ensures.moved.costs_are in
     record {
-      box = subst (λ (box : CostBox). IsBox (length box.low) box) (sym same) (subst (λ (n : ℕ). IsBox n costs) (sym c.requires.ranges.low_count) c.requires.ranges);
-      fit = subst (λ (box : CostBox). All (FitsBox box) c.move_bounds.new.self.rows.items) (sym same) (subst (λ (rows : List Form). All (FitsBox costs) rows) (sym keeps.rows) c.requires.fits);
+      box = subst (λ (box : CostBox). IsBox (length box.low) box) (sym same)
+          (subst (λ (n : ℕ). IsBox n costs) (sym c.requires.ranges.low_count) c.requires.ranges);
+      fit = subst (λ (box : CostBox). All (FitsBox box) c.move_bounds.new.self.rows.items) (sym same)
+          (subst (λ (rows : List Form). All (FitsBox costs) rows) (sym keeps.rows) c.requires.fits);
       unboxed = c.in-Ok.ensures.unboxed;
     }
 
@@ -44,4 +46,9 @@ returns-in-Ok-clause-rebased c =
 
 pub returns-in-Err-clause-rebased : goal.returns-in-Err-clause-rebased
 returns-in-Err-clause-rebased c =
-    inr (c.in-Err.ensures.wide, held_is c.args.self.now c.restart.new.self c.args.costs.now (starting c.args.costs.now) (keeps_both c.args.self.now c.move_bounds.new.self c.restart.new.self c.move_bounds.ensures.keeps c.restart.ensures.keeps) c.restart.ensures.costs c.restart.ensures.basis)
+    inr (
+      c.in-Err.ensures.wide,
+      held_is c.args.self.now c.restart.new.self c.args.costs.now (starting c.args.costs.now)
+          (keeps_both c.args.self.now c.move_bounds.new.self c.restart.new.self c.move_bounds.ensures.keeps
+          c.restart.ensures.keeps) c.restart.ensures.costs c.restart.ensures.basis,
+    )

@@ -30,21 +30,31 @@ start_lines-requires c =
             high = ap length high_is ∙ c.requires.ranges.high_count ∙ sym low_long;
             basis = ap length basis_is ∙ counted ∙ s.basis ∙ sym low_long;
             lines = subst (λ (n : ℕ). AreRows t.top (suc n) t.lines.items) (sym low_long) s.lines;
-            many = s.many ∙ members_same t.costs (record { low = c.put_bounds.new.bounds; high = c.put_bounds-2.new.bounds }) (length t.rows.items) (sym low_long);
-            room = record { few = omega (arith, low_long, s.room.few); quotients = s.room.quotients ∙ ap suc (sym low_long); scratch = s.room.scratch ∙ ap suc (sym low_long) };
+            many = s.many ∙ members_same t.costs
+                (record { low = c.put_bounds.new.bounds; high = c.put_bounds-2.new.bounds }) (length t.rows.items)
+                (sym low_long);
+            room = record {
+              few = omega (arith, low_long, s.room.few);
+              quotients = s.room.quotients
+                  ∙ ap suc (sym low_long);
+              scratch = s.room.scratch ∙ ap suc (sym low_long);
+            };
           };
     }
 
 pub returns-clause-costs : goal.returns-clause-costs
 returns-clause-costs c =
     let costs = c.args.costs.now in
-    c.start_lines.ensures.keeps.costs ∙ bounds_are costs c.put_bounds.new.bounds c.put_bounds-2.new.bounds (c.put_bounds.ensures ∙ c.as_slice.ensures) (c.put_bounds-2.ensures ∙ c.as_slice-2.ensures)
+    c.start_lines.ensures.keeps.costs
+    ∙ bounds_are costs c.put_bounds.new.bounds c.put_bounds-2.new.bounds (c.put_bounds.ensures ∙ c.as_slice.ensures)
+    (c.put_bounds-2.ensures ∙ c.as_slice-2.ensures)
 
 pub returns-clause-basis : goal.returns-clause-basis
 returns-clause-basis c =
     let t = c.args.self.now in
     let costs = c.args.costs.now in
-    let counted : length c.put_start.new.basis ≡ length t.basis.items = ap length c.put_start.ensures ∙ starting_many costs ∙ c.requires.ranges.low_count ∙ sym c.requires.shape.basis in
+    let counted : length c.put_start.new.basis ≡ length t.basis.items = ap length c.put_start.ensures
+    ∙ starting_many costs ∙ c.requires.ranges.low_count ∙ sym c.requires.shape.basis in
     let basis_is = with_items_is t.basis c.put_start.new.basis (omega (arith, counted, t.basis.ok.0)) in
     ap (λ basis. basis.items) c.start_lines.ensures.keeps.basis ∙ basis_is ∙ c.put_start.ensures
 
@@ -52,12 +62,16 @@ pub returns-clause-whole : goal.returns-clause-whole
 returns-clause-whole c =
     let t = c.args.self.now in
     let costs = c.args.costs.now in
-    let counted : length c.put_start.new.basis ≡ length t.basis.items = ap length c.put_start.ensures ∙ starting_many costs ∙ c.requires.ranges.low_count ∙ sym c.requires.shape.basis in
+    let counted : length c.put_start.new.basis ≡ length t.basis.items = ap length c.put_start.ensures
+    ∙ starting_many costs ∙ c.requires.ranges.low_count ∙ sym c.requires.shape.basis in
     let basis_is = with_items_is t.basis c.put_start.new.basis (omega (arith, counted, t.basis.ok.0)) in
     restarted c.start_lines.new.self costs t.rows.items
-    (c.start_lines.ensures.keeps.costs ∙ bounds_are costs c.put_bounds.new.bounds c.put_bounds-2.new.bounds (c.put_bounds.ensures ∙ c.as_slice.ensures) (c.put_bounds-2.ensures ∙ c.as_slice-2.ensures))
+    (c.start_lines.ensures.keeps.costs
+    ∙ bounds_are costs c.put_bounds.new.bounds c.put_bounds-2.new.bounds (c.put_bounds.ensures
+    ∙ c.as_slice.ensures) (c.put_bounds-2.ensures ∙ c.as_slice-2.ensures))
     (ap (λ rows. rows.items) c.start_lines.ensures.keeps.rows) (ap (λ basis. basis.items) c.start_lines.ensures.keeps.basis ∙ basis_is ∙ c.put_start.ensures)
-    c.start_lines.ensures.lines c.start_lines.ensures.shape (subst (λ (n : ℕ). IsBox n costs) (sym c.requires.ranges.low_count) c.requires.ranges) c.requires.fits
+    c.start_lines.ensures.lines c.start_lines.ensures.shape
+    (subst (λ (n : ℕ). IsBox n costs) (sym c.requires.ranges.low_count) c.requires.ranges) c.requires.fits
 
 pub returns-clause-room : goal.returns-clause-room
 returns-clause-room c = c.start_lines.ensures.shape.room

@@ -1,5 +1,6 @@
 -- The lines and the basis move together.
 use Rattle.std.proofs.Common.{◌≡◌, suc, ◌∙◌, ap, sym, subst, List, length, arith, w64}
+use Rattle.std.specs.Vec.{with_items}
 use Rattle.std.proofs.lemmas.Int.{to_z-of_z}
 use Rattle.std.proofs.lemmas.List.{with_items_is}
 use Rattle.std.proofs.lemmas.Result.{err_from_is_err_and}
@@ -8,8 +9,9 @@ use Rattle.path_rows.specs.declared.tree.Member.{Member}
 use Rattle.fraction_rows.specs.TableRows.{IsNumber}
 use Rattle.fraction_rows.specs.Turns.{AreRows}
 use Rattle.fraction_table.specs.Moves.{IsColumnOf, ShiftsWide, shifted_lines}
-use Rattle.fraction_rows.proofs.Tops.{whole_number}
+use Rattle.fraction_rows.proofs.SmallNumbers.{whole_number}
 use Rattle.fraction_table.proofs.MoveLines.{column_in, column_there, length-put}
+use Rattle.fraction_table.proofs.table.Table.shift.Goals.{After-shift_lines}
 use Rattle.fraction_table.proofs.table.Table.shift.Goals as goal
 
 pub shift_lines-requires-clause-own : goal.shift_lines-requires-clause-own
@@ -21,7 +23,8 @@ shift_lines-requires-clause-lines c =
     let n = length t.costs.low in (
       suc n,
       omega arith,
-      column_in c.as_slice.result.now c.args.before c.column_of-column.result n c.column_of-column.ensures (ap length c.as_slice.ensures.value ∙ c.requires.shape.basis),
+      column_in c.as_slice.result.now c.args.before c.column_of-column.result n c.column_of-column.ensures
+          (ap length c.as_slice.ensures.value ∙ c.requires.shape.basis),
       subst (AreRows t.top (suc n)) (sym c.as_mut_slice.ensures.value) c.requires.shape.lines,
     )
 
@@ -36,19 +39,36 @@ put_member-requires c =
     column_there c.args.self.now.basis.items c.args.before c.column_of-column.result
     (subst (λ (bs : List Member). IsColumnOf bs c.args.before c.column_of-column.result) c.as_slice.ensures.value c.column_of-column.ensures)
 
+-- the lines that were written are the table's, as many as before, and numbers within the top
+lines_long : (c : After-shift_lines) → length c.shift_lines.new.lines ≡ length c.args.self.now.lines.items
+lines_long c = c.shift_lines.ensures.count ∙ ap length c.as_mut_slice.ensures.value
+
+lines_kept : (c : After-shift_lines) → (with_items c.args.self.now.lines c.shift_lines.new.lines).items ≡ c.shift_lines.new.lines
+lines_kept c =
+    let t = c.args.self.now in
+    let same = lines_long c in
+    with_items_is t.lines c.shift_lines.new.lines (omega (arith, same, t.lines.ok.0))
+
+lines_numbers : (c : After-shift_lines) →
+    AreRows c.args.self.now.top (suc (length c.args.self.now.costs.low))
+    (with_items c.args.self.now.lines c.shift_lines.new.lines).items
+lines_numbers c =
+    let t = c.args.self.now in
+    let count = suc (length t.costs.low) in
+    subst (AreRows t.top count) (sym (lines_kept c))
+    (c.shift_lines.ensures.numbers count
+    (subst (AreRows t.top count) (sym c.as_mut_slice.ensures.value) c.requires.shape.lines))
+
 pub returns-in_err-shift_lines-clause-shape : goal.returns-in_err-shift_lines-clause-shape
 returns-in_err-shift_lines-clause-shape c =
     let t = c.args.self.now in
-    let n = length t.costs.low in
     let s = c.requires.shape in
-    let news = c.shift_lines.new.lines in
-    let same : length news ≡ length t.lines.items = c.shift_lines.ensures.count ∙ ap length c.as_mut_slice.ensures.value in
-    let kept = with_items_is t.lines news (omega (arith, same, t.lines.ok.0)) in
+    let shifted = (goal.at.returns-in_err-shift_lines-clause-shape c).After-shift_lines in
     record {
       high = s.high;
       basis = s.basis;
-      lines = subst (AreRows t.top (suc n)) (sym kept) (c.shift_lines.ensures.numbers (suc n) (subst (AreRows t.top (suc n)) (sym c.as_mut_slice.ensures.value) s.lines));
-      many = ap length kept ∙ same ∙ s.many;
+      lines = lines_numbers shifted;
+      many = ap length (lines_kept shifted) ∙ lines_long shifted ∙ s.many;
       room = record { few = s.room.few; quotients = s.room.quotients; scratch = s.room.scratch };
     }
 
@@ -64,22 +84,21 @@ returns-in_err-shift_lines-clause-wide c =
       found = subst (λ (bs : List Member). IsColumnOf bs c.args.before column) c.as_slice.ensures.value c.column_of-column.ensures;
       is_wide =
           subst (λ (lines : List (List Fraction)). ShiftsWide t.top column c.args.own (whole c.args.fall) lines wide) c.as_mut_slice.ensures.value
-          (subst (λ (q : Fraction). ShiftsWide t.top column c.args.own q c.as_mut_slice.result.now wide) (c.whole-fall.ensures ∙ ap whole (to_z-of_z w64 c.args.fall c.ranges.fall)) c.in_err-shift_lines.ensures.wide);
+          (subst (λ (q : Fraction). ShiftsWide t.top column c.args.own q c.as_mut_slice.result.now wide)
+          (c.whole-fall.ensures ∙ ap whole (to_z-of_z w64 c.args.fall c.ranges.fall))
+          c.in_err-shift_lines.ensures.wide);
     })
 
 pub returns-clause-shape : goal.returns-clause-shape
 returns-clause-shape c =
     let t = c.args.self.now in
-    let n = length t.costs.low in
     let s = c.requires.shape in
-    let news = c.shift_lines.new.lines in
-    let same : length news ≡ length t.lines.items = c.shift_lines.ensures.count ∙ ap length c.as_mut_slice.ensures.value in
-    let kept = with_items_is t.lines news (omega (arith, same, t.lines.ok.0)) in
+    let shifted = (goal.at.returns-clause-shape c).After-shift_lines in
     record {
       high = s.high;
       basis = ap length c.put_member.ensures ∙ length-put c.column_of-column.result c.args.after t.basis.items ∙ s.basis;
-      lines = subst (AreRows t.top (suc n)) (sym kept) (c.shift_lines.ensures.numbers (suc n) (subst (AreRows t.top (suc n)) (sym c.as_mut_slice.ensures.value) s.lines));
-      many = ap length kept ∙ same ∙ s.many;
+      lines = lines_numbers shifted;
+      many = ap length (lines_kept shifted) ∙ lines_long shifted ∙ s.many;
       room = record { few = s.room.few; quotients = s.room.quotients; scratch = s.room.scratch };
     }
 
@@ -87,15 +106,12 @@ pub returns-clause-shifted : goal.returns-clause-shifted
 returns-clause-shifted c =
     let t = c.args.self.now in
     let column = c.column_of-column.result in
-    let news = c.shift_lines.new.lines in
-    let same : length news ≡ length t.lines.items = c.shift_lines.ensures.count ∙ ap length c.as_mut_slice.ensures.value in
-    let kept = with_items_is t.lines news (omega (arith, same, t.lines.ok.0)) in
     record {
       column = column;
       found = subst (λ (bs : List Member). IsColumnOf bs c.args.before column) c.as_slice.ensures.value c.column_of-column.ensures;
       basis = c.put_member.ensures;
       lines =
-          kept ∙ c.in_ok-shift_lines.ensures.shifted
+          lines_kept (goal.at.returns-clause-shifted c).After-shift_lines ∙ c.in_ok-shift_lines.ensures.shifted
           ∙ ap (λ (lines : List (List Fraction)). shifted_lines column c.args.own c.whole-fall.result lines) c.as_mut_slice.ensures.value
           ∙ ap (λ (q : Fraction). shifted_lines column c.args.own q t.lines.items) (c.whole-fall.ensures ∙ ap whole (to_z-of_z w64 c.args.fall c.ranges.fall));
     }

@@ -13,7 +13,7 @@ use Rattle.fraction_table.specs.Wholes.{members_of, starting_line}
 use Rattle.fraction_table.specs.Tableaus.{FitsBox}
 use Rattle.fraction_table.specs.Pivots.{member_at}
 use Rattle.fraction_rows.proofs.RowLaws.{rows_at, rows_set}
-use Rattle.fraction_table.proofs.Starts.{members_are}
+use Rattle.fraction_table.proofs.StartingTables.{members_are}
 use Rattle.fraction_table.proofs.Restarts.{line_long}
 use Rattle.fraction_table.proofs.table.Table.start_line.Goals as goal
 
@@ -35,7 +35,8 @@ put_line-requires c =
     record {
       form =
           subst (λ (rows : List Form). IsFormOf costs rows c.member_at-member.result) (sym c.as_slice-rows.ensures.value)
-          (subst (λ (m : Member). IsFormOf costs t.rows.items m) (sym c.member_at-member.ensures) (subst (λ (box : CostBox). IsFormOf box t.rows.items (member_at t c.args.line)) c.requires.costs form));
+          (subst (λ (m : Member). IsFormOf costs t.rows.items m) (sym c.member_at-member.ensures)
+          (subst (λ (box : CostBox). IsFormOf box t.rows.items (member_at t c.args.line)) c.requires.costs form));
       ranges = c.requires.ranges;
       fits = subst (λ (rows : List Form). All (FitsBox costs) rows) (sym c.as_slice-rows.ensures.value) c.requires.fits;
       few = omega (arith, c.requires.shape.room.few, ap (λ (box : CostBox). length box.low) c.requires.costs);
@@ -60,7 +61,8 @@ returns-clause-shape c =
     ∙ ap (starting_line costs t.rows.items) c.member_at-member.ensures in
     let long : length c.put_line.new.line ≡ suc (length t.costs.low) =
     ap length line_is
-    ∙ line_long costs t.rows.items (member_at t c.args.line) c.requires.fits (subst (λ (box : CostBox). IsFormOf box t.rows.items (member_at t c.args.line)) c.requires.costs form)
+    ∙ line_long costs t.rows.items (member_at t c.args.line) c.requires.fits
+    (subst (λ (box : CostBox). IsFormOf box t.rows.items (member_at t c.args.line)) c.requires.costs form)
     ∙ ap (λ (box : CostBox). suc (length box.low)) (sym c.requires.costs) in
     record {
       high = s.high;

@@ -14,7 +14,9 @@ start_line-requires c =
     let keeps = c.loop-line.invariant.keeps in
     let counted : c.len-line-end.result ≡ length t.lines.items = omega (arith, c.len-line-end.ensures, t.lines.ok.0) in
     let many : length c.loop-line.self.lines.items ≡ length (members_of t.costs (length t.rows.items)) =
-    c.loop-line.invariant.shape.many ∙ ap (λ (box : CostBox). length (members_of box (length c.loop-line.self.rows.items))) keeps.costs ∙ ap (λ rows. length (members_of t.costs (length rows.items))) keeps.rows in
+    c.loop-line.invariant.shape.many
+    ∙ ap (λ (box : CostBox). length (members_of box (length c.loop-line.self.rows.items))) keeps.costs
+    ∙ ap (λ rows. length (members_of t.costs (length rows.items))) keeps.rows in
     record {
       costs = keeps.costs ∙ c.requires.costs;
       ranges = c.requires.ranges;
@@ -30,7 +32,9 @@ loop-line-preserved c =
     let counted : c.len-line-end.result ≡ length t.lines.items = omega (arith, c.len-line-end.ensures, t.lines.ok.0) in
     let many = c.requires.shape.many ∙ ap (λ (box : CostBox). length (members_of box (length t.rows.items))) c.requires.costs in
     record {
-      lines = started_next t s c.args.costs.now c.loop-line.line c.start_line.new.self.lines.items c.loop-line.invariant.keeps c.requires.costs many (omega (arith, c.loop-line-test.true, counted)) c.loop-line.invariant.lines c.start_line.ensures.lines;
+      lines = started_next t s c.args.costs.now c.loop-line.line c.start_line.new.self.lines.items
+          c.loop-line.invariant.keeps c.requires.costs many (omega (arith, c.loop-line-test.true, counted))
+          c.loop-line.invariant.lines c.start_line.ensures.lines;
       shape = c.start_line.ensures.shape;
       keeps = keeps_lines t s c.start_line.new.self c.loop-line.invariant.keeps c.start_line.ensures.keeps;
     }
@@ -40,4 +44,5 @@ returns-clause-lines c =
     let t = c.args.self.now in
     let counted : c.len-line-end.result ≡ length t.lines.items = omega (arith, c.len-line-end.ensures, t.lines.ok.0) in
     let many = c.requires.shape.many ∙ ap (λ (box : CostBox). length (members_of box (length t.rows.items))) c.requires.costs in
-    started_all t c.args.costs.now c.loop-line.line c.loop-line.self.lines.items many (omega (arith, c.loop-line-test.false, c.loop-line.auto.line-end, counted)) c.loop-line.invariant.lines
+    started_all t c.args.costs.now c.loop-line.line c.loop-line.self.lines.items many
+    (omega (arith, c.loop-line-test.false, c.loop-line.auto.line-end, counted)) c.loop-line.invariant.lines

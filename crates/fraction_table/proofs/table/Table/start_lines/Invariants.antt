@@ -6,7 +6,9 @@ use Rattle.fraction_table.proofs.table.Table.start_lines.Given as goal
 
 abbrev pub invariant-loop-line : goal.invariant-loop-line
 invariant-loop-line l = record {
-  lines : l.self.lines.items ≡ take l.line (map (starting_line l.costs l.initial.self.rows.items) (members_of l.costs (length l.initial.self.rows.items))) ++ drop l.line l.initial.self.lines.items;
+  lines : l.self.lines.items ≡ take l.line
+      (map (starting_line l.costs l.initial.self.rows.items) (members_of l.costs (length l.initial.self.rows.items)))
+      ++ drop l.line l.initial.self.lines.items;
   shape : HasShape l.self;
   keeps : KeepsAllButLines l.initial.self l.self;
 }

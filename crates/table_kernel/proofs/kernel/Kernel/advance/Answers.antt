@@ -11,4 +11,6 @@ returns-in-None-clause-ahead c =
 
 pub returns-in-Some-clause-held_up : goal.returns-in-Some-clause-held_up
 returns-in-Some-clause-held_up c =
-    held_up c.args.self.now c.raise.new.self c.in-Some.place c.raise.result (subst (IsFoundNegative c.args.self.now) c.in-Some.is c.first_negative.ensures) c.raise.ensures.same c.raise.ensures.refused
+    held_up c.args.self.now c.raise.new.self c.in-Some.place c.raise.result
+    (subst (IsFoundNegative c.args.self.now) c.in-Some.is c.first_negative.ensures) c.raise.ensures.same
+    c.raise.ensures.refused

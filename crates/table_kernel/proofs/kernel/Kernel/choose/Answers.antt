@@ -4,8 +4,8 @@ use Rattle.std.specs.Prelude.{vec_len, ◌==◌, true}
 use Rattle.std.proofs.lemmas.Bool.Decides.{nat_tests}
 use Rattle.table_kernel.specs.declared.kernel.Kernel.{Kernel}
 use Rattle.table_kernel.specs.Choices.{AreLeft}
-use Rattle.table_kernel.proofs.Lefts.{chosen_best, latest_read, left_of, none_best}
-use Rattle.table_kernel.proofs.Rooms.{keeps_kernel, keeps_twice, left_keeps}
+use Rattle.table_kernel.proofs.LeftColumns.{chosen_best, latest_read, left_of, none_best}
+use Rattle.table_kernel.proofs.SameButRoom.{keeps_kernel, keeps_twice, left_keeps}
 use Rattle.table_kernel.proofs.kernel.Kernel.choose.Goals as goal
 
 pub look_at_all-requires-clause-kernel : goal.look_at_all-requires-clause-kernel
@@ -21,7 +21,9 @@ put_latest-latest-requires-clause-leads c =
 
 pub look_at_all-requires-clause-left : goal.look_at_all-requires-clause-left
 look_at_all-requires-clause-left c = left_of c.args.self.now c.put_latest-latest.result c.put_latest-latest.new.left.items c.requires.kernel
-    (latest_read c.args.self.now c.as_slice.result.now c.as_slice-2.result.now c.put_latest-latest.result c.put_latest-latest.new.left.items c.as_slice.ensures.value c.as_slice-2.ensures.value c.put_latest-latest.ensures.latest)
+    (latest_read c.args.self.now c.as_slice.result.now c.as_slice-2.result.now c.put_latest-latest.result
+    c.put_latest-latest.new.left.items c.as_slice.ensures.value c.as_slice-2.ensures.value
+    c.put_latest-latest.ensures.latest)
 
 pub returns-then-is_empty-clause-best : goal.returns-then-is_empty-clause-best
 returns-then-is_empty-clause-best c =
@@ -29,7 +31,8 @@ returns-then-is_empty-clause-best c =
     let tested : (vec_len left == 0) ≡ true = sym c.is_empty.ensures ∙ c.if-is_empty.true in
     let none : vec_len left ≡ 0 = grind (arith, nat_tests) in
     none_best c.args.self.now c.put_latest-latest.result left.items c.requires.kernel.shaped
-    (latest_read c.args.self.now c.as_slice.result.now c.as_slice-2.result.now c.put_latest-latest.result left.items c.as_slice.ensures.value c.as_slice-2.ensures.value c.put_latest-latest.ensures.latest)
+    (latest_read c.args.self.now c.as_slice.result.now c.as_slice-2.result.now c.put_latest-latest.result left.items
+    c.as_slice.ensures.value c.as_slice-2.ensures.value c.put_latest-latest.ensures.latest)
     (omega (arith, none, left.ok.0))
 
 pub returns-clause-best : goal.returns-clause-best

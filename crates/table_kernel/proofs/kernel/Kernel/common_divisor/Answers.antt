@@ -8,7 +8,14 @@ use Rattle.table_kernel.proofs.kernel.Kernel.common_divisor.Goals as goal
 pub index-requires : goal.index-requires
 index-requires c =
     let k = c.args.self.now in
-    omega (arith, c.loop-var-test.true, c.width-var-end.ensures, c.requires.kernel.shaped.constants, members_long k.table.costs (length k.table.rows.items), k.constants.ok.0)
+    omega (
+      arith,
+      c.loop-var-test.true,
+      c.width-var-end.ensures,
+      c.requires.kernel.shaped.constants,
+      members_long k.table.costs (length k.table.rows.items),
+      k.constants.ok.0,
+    )
 
 pub loop-var-init : goal.loop-var-init
 loop-var-init c =
@@ -22,4 +29,6 @@ loop-var-preserved c =
     let v = c.loop-var.var in
     let v_in : v < width_of k = omega (arith, c.loop-var-test.true, c.width-var-end.ensures) in
     let read = constant_read k c.requires.kernel v c.size_of.result c.index.result.now v_in c.index.ensures c.size_of.ensures in
-    divisor_more k.common k.constants.items v c.size_of.result c.loop-var.divisor c.greatest_common_divisor-divisor.result read.0 c.greatest_common_divisor-divisor.ensures.value c.greatest_common_divisor-divisor.ensures.positive c.loop-var.invariant
+    divisor_more k.common k.constants.items v c.size_of.result c.loop-var.divisor
+    c.greatest_common_divisor-divisor.result read.0 c.greatest_common_divisor-divisor.ensures.value
+    c.greatest_common_divisor-divisor.ensures.positive c.loop-var.invariant

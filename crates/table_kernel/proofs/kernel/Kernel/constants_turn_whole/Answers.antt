@@ -1,11 +1,11 @@
 -- One more constant turns into a whole one.
 use Rattle.std.proofs.Common.{◌<◌, ◌∙◌, sym, length, arith}
 use Rattle.std.specs.Prelude.{pos}
-use Rattle.fraction_table.specs.Wholes.{number_at}
-use Rattle.table_kernel.specs.Turnings.{IsWholeTurn}
-use Rattle.table_kernel.proofs.Crossings.{crossed_from, item_is}
-use Rattle.table_kernel.proofs.Tests.{failed, never}
-use Rattle.table_kernel.proofs.Written.{all_more}
+use Rattle.whole_numbers.specs.Lists.{number_at}
+use Rattle.integer_pivots.specs.Turns.{IsWholeTurn}
+use Rattle.integer_pivots.proofs.Crossings.{crossed_from, item_is}
+use Rattle.integer_pivots.proofs.FailedTests.{failed, never}
+use Rattle.integer_pivots.proofs.WrittenPlaces.{all_more}
 use Rattle.table_kernel.proofs.kernel.Kernel.constants_turn_whole.Goals as goal
 
 pub loop-place-preserved : goal.loop-place-preserved
@@ -18,7 +18,8 @@ loop-place-preserved c =
     all_more (λ p. IsWholeTurn c.args.turn (number_at k.constants.items p) (number_at k.along.items p)) i c.loop-place.invariant (
       whole.0,
       whole.1 ∙ crossed_from c.args.turn c.index.result.now c.index-in-loop-place.result.now (number_at k.constants.items i) (number_at k.along.items i)
-          (item_is k.constants.items i c.index.result.now c.index.ensures i_in) (item_is k.along.items i c.index-in-loop-place.result.now c.index-in-loop-place.ensures along_in)
+          (item_is k.constants.items i c.index.result.now c.index.ensures i_in)
+          (item_is k.along.items i c.index-in-loop-place.result.now c.index-in-loop-place.ensures along_in)
           (c.requires.ready.limit i (pos 0) i_in) (c.requires.ready.along i (pos 0) along_in),
     )
 
@@ -29,7 +30,8 @@ returns-then-not-is_whole c =
     let i_in : i < length k.constants.items = omega (arith, c.loop-place-test.true, c.len-place-end.ensures) in
     let along_in : i < length k.along.items = omega (arith, i_in, c.requires.ready.constants) in
     let same = crossed_from c.args.turn c.index.result.now c.index-in-loop-place.result.now (number_at k.constants.items i) (number_at k.along.items i)
-    (item_is k.constants.items i c.index.result.now c.index.ensures i_in) (item_is k.along.items i c.index-in-loop-place.result.now c.index-in-loop-place.ensures along_in)
+    (item_is k.constants.items i c.index.result.now c.index.ensures i_in)
+    (item_is k.along.items i c.index-in-loop-place.result.now c.index-in-loop-place.ensures along_in)
     (c.requires.ready.limit i (pos 0) i_in) (c.requires.ready.along i (pos 0) along_in) in
     never
     (λ whole. (

@@ -1,7 +1,7 @@
 -- The constants before the place turn into whole ones.
 use Rattle.std.proofs.Common.{ℕ, ◌<◌}
-use Rattle.fraction_table.specs.Wholes.{number_at}
-use Rattle.table_kernel.specs.Turnings.{IsWholeTurn}
+use Rattle.whole_numbers.specs.Lists.{number_at}
+use Rattle.integer_pivots.specs.Turns.{IsWholeTurn}
 use Rattle.table_kernel.proofs.kernel.Kernel.constants_turn_whole.Given as goal
 
 abbrev pub invariant-loop-place : goal.invariant-loop-place

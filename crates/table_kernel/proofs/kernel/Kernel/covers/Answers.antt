@@ -1,8 +1,8 @@
 -- The reach is small.
 use Rattle.std.proofs.Common.{◌^◌, ◌≤◌, arith, subst, sym}
 use Rattle.std.specs.Prelude.{ℤ, pos, ◌≤ℤ◌, nat_abs}
+use Rattle.integer_pivots.proofs.Sizes.{read_number}
 use Rattle.table_kernel.proofs.Columns.{reach_within}
-use Rattle.table_kernel.proofs.Sizes.{read_number}
 use Rattle.table_kernel.proofs.kernel.Kernel.covers.Goals as goal
 
 pub is_light-requires-clause-some : goal.is_light-requires-clause-some

@@ -1,7 +1,7 @@
 -- No constant before the counter is negative.
 use Rattle.std.proofs.Common.{ℕ, ◌<◌}
 use Rattle.std.specs.Prelude.{pos, ◌≤ℤ◌}
-use Rattle.fraction_table.specs.Wholes.{number_at}
+use Rattle.whole_numbers.specs.Lists.{number_at}
 use Rattle.table_kernel.proofs.kernel.Kernel.first_negative.Given as goal
 
 abbrev pub invariant-loop-place : goal.invariant-loop-place

@@ -8,20 +8,21 @@ use Rattle.path_rows.specs.Basis.{IsFormOf, member_form}
 use Rattle.fraction_table.specs.Multipliers.{columns_numbered, numbered}
 use Rattle.fraction_table.specs.Pivots.{line_at, member_at}
 use Rattle.fraction_table.proofs.MultiplierColumns.{fractions_next}
+use Rattle.integer_pivots.proofs.Sizes.{read_number, size_most}
 use Rattle.table_kernel.specs.Kernels.{stated, width_of}
 use Rattle.table_kernel.specs.Numbers.{number_in}
 use Rattle.table_kernel.specs.Turns.{column_of, form_in}
 use Rattle.table_kernel.proofs.AtBasis.{kernel_moves}
 use Rattle.table_kernel.proofs.Columns.{place_is, place_number_within}
-use Rattle.table_kernel.proofs.OverCommon.{over_as, size_most}
-use Rattle.table_kernel.proofs.Sizes.{read_number}
+use Rattle.table_kernel.proofs.OverCommon.{over_as}
 use Rattle.table_kernel.proofs.StatedLines.{stated_entry, stated_long}
 use Rattle.table_kernel.proofs.kernel.Kernel.fractions.Goals as goal
 
 pub entry-requires-clause-member : goal.entry-requires-clause-member
 entry-requires-clause-member c =
     let t = c.args.self.now in
-    subst (λ (m : Member). IsFormOf t.table.costs t.table.rows.items m) (sym c.member_at-member.ensures) (place_is t c.requires.kernel.shaped c.args.place c.requires.place)
+    subst (λ (m : Member). IsFormOf t.table.costs t.table.rows.items m) (sym c.member_at-member.ensures)
+    (place_is t c.requires.kernel.shaped c.args.place c.requires.place)
 
 pub entry-requires-clause-column : goal.entry-requires-clause-column
 entry-requires-clause-column c =
@@ -32,7 +33,8 @@ fraction_over-entry-requires-clause-number c =
     let t = c.args.self.now in
     let m = c.requires.kernel in
     let number_is : c.entry.result ≡ number_in (form_in t c.args.place) (column_of t c.loop-column.column) =
-    c.entry.ensures ∙ ap (λ (member : Member). number_in (member_form (width_of t) t.table.rows.items member) (column_of t c.loop-column.column)) c.member_at-member.ensures in
+    c.entry.ensures ∙ ap (λ (member : Member). number_in (member_form (width_of t) t.table.rows.items member)
+    (column_of t c.loop-column.column)) c.member_at-member.ensures in
     let small = place_number_within t m.shaped m.bounded c.args.place c.requires.place c.loop-column.column in
     let read = read_number c.entry.result (omega (arith, ap nat_abs number_is, small)) in
     omega (arith, ap nat_abs read, ap nat_abs number_is, small, m.bounded.top)
@@ -40,7 +42,15 @@ fraction_over-entry-requires-clause-number c =
 pub index-requires : goal.index-requires
 index-requires c =
     let t = c.args.self.now in
-    omega (arith, c.loop-column-test.true, c.len-column-end.ensures, t.lows.ok.0, c.requires.kernel.shaped.lows, c.requires.kernel.whole.unboxed.count, t.table.basis.ok.0)
+    omega (
+      arith,
+      c.loop-column-test.true,
+      c.len-column-end.ensures,
+      t.lows.ok.0,
+      c.requires.kernel.shaped.lows,
+      c.requires.kernel.whole.unboxed.count,
+      t.table.basis.ok.0,
+    )
 
 pub loop-column-preserved : goal.loop-column-preserved
 loop-column-preserved c =
@@ -51,15 +61,19 @@ loop-column-preserved c =
     let moves = kernel_moves t m in
     let common : nat_abs t.common ≤ 2 ^ 22 = size_most t.common (2 ^ 22) m.bounded.positive m.bounded.common in
     let number_is : c.entry.result ≡ number_in (form_in t place) (column_of t column) =
-    c.entry.ensures ∙ ap (λ (member : Member). number_in (member_form (width_of t) t.table.rows.items member) (column_of t column)) c.member_at-member.ensures in
+    c.entry.ensures ∙ ap (λ (member : Member). number_in (member_form (width_of t) t.table.rows.items member)
+    (column_of t column)) c.member_at-member.ensures in
     let small = place_number_within t m.shaped m.bounded place c.requires.place column in
-    fractions_next t.table.basis.items (member_at (stated t) place) (line_at (stated t) place) column (width_of t) c.index.result.now c.fraction_over-entry.result c.loop-column.parts.items c.put_negated.new.parts.items
+    fractions_next t.table.basis.items (member_at (stated t) place) (line_at (stated t) place) column
+    (width_of t) c.index.result.now c.fraction_over-entry.result c.loop-column.parts.items
+    c.put_negated.new.parts.items
     (omega (arith, c.loop-column-test.true, c.len-column-end.ensures, t.lows.ok.0, m.shaped.lows, m.whole.unboxed.count))
     (omega (arith, c.loop-column-test.true, c.len-column-end.ensures, t.lows.ok.0, m.shaped.lows))
     (stated_long t moves place c.requires.place)
     c.loop-column.invariant c.index.ensures
     (c.fraction_over-entry.ensures.value
-    ∙ over_as _ _ _ _ (ap nat_abs (read_number t.common (omega (arith, common)))) (read_number c.entry.result (omega (arith, ap nat_abs number_is, small)) ∙ number_is)
+    ∙ over_as _ _ _ _ (ap nat_abs (read_number t.common (omega (arith, common))))
+    (read_number c.entry.result (omega (arith, ap nat_abs number_is, small)) ∙ number_is)
     ∙ sym (stated_entry t moves place column c.requires.place (omega (arith, c.loop-column-test.true, c.len-column-end.ensures, t.lows.ok.0, m.shaped.lows))))
     c.in_ok-put_negated.ensures
 
@@ -67,5 +81,14 @@ pub returns : goal.returns
 returns c =
     let t = c.args.self.now in
     c.loop-column.invariant
-    ∙ ap (λ (members : List Member). numbered (member_at (stated t) c.args.place) (whole (pos 1) ∷ []) ++ columns_numbered members (drop 1 (line_at (stated t) c.args.place)))
-    (take_all c.loop-column.column t.table.basis.items (omega (arith, c.loop-column-test.false, c.len-column-end.ensures, t.lows.ok.0, c.requires.kernel.shaped.lows, c.requires.kernel.whole.unboxed.count)))
+    ∙ ap (λ (members : List Member). numbered (member_at (stated t) c.args.place) (whole (pos 1) ∷ [])
+    ++ columns_numbered members (drop 1 (line_at (stated t) c.args.place)))
+    (take_all c.loop-column.column t.table.basis.items
+    (omega (
+      arith,
+      c.loop-column-test.false,
+      c.len-column-end.ensures,
+      t.lows.ok.0,
+      c.requires.kernel.shaped.lows,
+      c.requires.kernel.whole.unboxed.count,
+    )))

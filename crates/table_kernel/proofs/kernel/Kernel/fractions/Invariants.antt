@@ -9,4 +9,5 @@ use Rattle.table_kernel.proofs.kernel.Kernel.fractions.Given as goal
 
 abbrev pub invariant-loop-column : goal.invariant-loop-column
 invariant-loop-column l =
-    l.parts.items ≡ numbered (member_at (stated l.self) l.place) (whole (pos 1) ∷ []) ++ columns_numbered (take l.column l.self.table.basis.items) (drop 1 (line_at (stated l.self) l.place))
+    l.parts.items ≡ numbered (member_at (stated l.self) l.place) (whole (pos 1) ∷ [])
+    ++ columns_numbered (take l.column l.self.table.basis.items) (drop 1 (line_at (stated l.self) l.place))

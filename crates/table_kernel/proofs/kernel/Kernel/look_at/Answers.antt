@@ -1,9 +1,9 @@
 -- Those that stay are the least of those that were left.
 use Rattle.std.proofs.Common.{◌^◌, sym, ap, subst, List, length, arith}
 use Rattle.std.specs.Prelude.{ℤ}
-use Rattle.table_kernel.specs.Choices.{AreLeast, IsPositiveAt}
-use Rattle.table_kernel.specs.Numbers.{AllWithin}
-use Rattle.table_kernel.proofs.Lefts.{one_more, row_long, row_read, row_small}
+use Rattle.integer_pivots.specs.Choices.{AreLeast, IsPositiveAt}
+use Rattle.integer_pivots.specs.Numbers.{AllWithin}
+use Rattle.table_kernel.proofs.LeftColumns.{one_more, row_long, row_read, row_small}
 use Rattle.table_kernel.proofs.kernel.Kernel.look_at.Goals as goal
 
 pub keep_least-requires-clause-positive : goal.keep_least-requires-clause-positive

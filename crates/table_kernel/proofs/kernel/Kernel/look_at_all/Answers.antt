@@ -1,14 +1,16 @@
 -- A kernel stays one, and where one column is left it is so for all variables.
 use Rattle.std.proofs.Common.{◌^◌, ◌≡◌, sym, ap, subst, length, arith}
+use Rattle.integer_pivots.specs.Numbers.{AllWithin}
 use Rattle.table_kernel.specs.declared.kernel.Kernel.{Kernel}
-use Rattle.table_kernel.specs.Numbers.{AllWithin}
-use Rattle.table_kernel.proofs.Lefts.{one_left}
-use Rattle.table_kernel.proofs.Rooms.{keeps_kernel, left_keeps}
+use Rattle.table_kernel.proofs.LeftColumns.{one_left}
+use Rattle.table_kernel.proofs.SameButRoom.{keeps_kernel, left_keeps}
 use Rattle.table_kernel.proofs.kernel.Kernel.look_at_all.Goals as goal
 
 pub look_at-requires-clause-kernel : goal.look_at-requires-clause-kernel
 look_at-requires-clause-kernel c =
-    keeps_kernel c.args.self.now c.loop-var.self (left_keeps c.args.self.now c.loop-var.self c.loop-var.invariant.keeps (omega (arith, c.loop-var.invariant.room))) c.requires.kernel
+    keeps_kernel c.args.self.now c.loop-var.self
+    (left_keeps c.args.self.now c.loop-var.self c.loop-var.invariant.keeps
+    (omega (arith, c.loop-var.invariant.room))) c.requires.kernel
 
 pub look_at-requires-clause-line : goal.look_at-requires-clause-line
 look_at-requires-clause-line c =

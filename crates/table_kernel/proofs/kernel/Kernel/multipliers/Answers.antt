@@ -19,17 +19,20 @@ whole_multipliers-requires c =
 pub returns-clause-refutes : goal.returns-clause-refutes
 returns-clause-refutes c =
     let t = c.args.self.now in
-    made_refute (stated t) c.args.place c.as_slice.result.now c.whole_multipliers.result (stated_stuck t c.args.place c.requires.kernel c.requires.place c.requires.stuck)
+    made_refute (stated t) c.args.place c.as_slice.result.now c.whole_multipliers.result
+    (stated_stuck t c.args.place c.requires.kernel c.requires.place c.requires.stuck)
     (c.as_slice.ensures.value ∙ c.in_ok-fractions.ensures) c.whole_multipliers.ensures.made c.whole_multipliers.ensures.small
 
 pub returns-clause-few : goal.returns-clause-few
 returns-clause-few c =
     let t = c.args.self.now in
-    made_few (stated t) c.args.place c.as_slice.result.now c.whole_multipliers.result (stated_stuck t c.args.place c.requires.kernel c.requires.place c.requires.stuck)
+    made_few (stated t) c.args.place c.as_slice.result.now c.whole_multipliers.result
+    (stated_stuck t c.args.place c.requires.kernel c.requires.place c.requires.stuck)
     (c.as_slice.ensures.value ∙ c.in_ok-fractions.ensures) c.whole_multipliers.ensures.made
 
 pub returns-clause-told : goal.returns-clause-told
 returns-clause-told c =
     let t = c.args.self.now in
-    made_told (stated t) c.args.place c.as_slice.result.now c.whole_multipliers.result (stated_stuck t c.args.place c.requires.kernel c.requires.place c.requires.stuck)
+    made_told (stated t) c.args.place c.as_slice.result.now c.whole_multipliers.result
+    (stated_stuck t c.args.place c.requires.kernel c.requires.place c.requires.stuck)
     (c.as_slice.ensures.value ∙ c.in_ok-fractions.ensures) c.whole_multipliers.ensures.wide

@@ -9,5 +9,9 @@ returns-clause-least c =
     let divisor = c.common_divisor-divisor.result in
     let read = common_read k c.requires.kernel c.size_of.result c.size_of.ensures in
     corner_least k c.requires.kernel c.requires.high divisor _
-    record { positive = c.common_divisor-divisor.ensures.positive; whole = c.common_divisor-divisor.ensures.common; parts = c.common_divisor-divisor.ensures.constants }
+    record {
+      positive = c.common_divisor-divisor.ensures.positive;
+      whole = c.common_divisor-divisor.ensures.common;
+      parts = c.common_divisor-divisor.ensures.constants;
+    }
     (ap (λ (n : ℕ). n / divisor) read.0) c.put_values.ensures.places c.put_values.ensures.values

@@ -11,13 +11,22 @@ use Rattle.table_kernel.proofs.kernel.Kernel.put_values.Goals as goal
 pub index-requires : goal.index-requires
 index-requires c =
     let k = c.args.self.now in
-    omega (arith, c.loop-var-test.true, ap length c.as_slice-low.ensures, c.requires.kernel.shaped.constants, members_long k.table.costs (length k.table.rows.items), k.constants.ok.0)
+    omega (
+      arith,
+      c.loop-var-test.true,
+      ap length c.as_slice-low.ensures,
+      c.requires.kernel.shaped.constants,
+      members_long k.table.costs (length k.table.rows.items),
+      k.constants.ok.0,
+    )
 
 pub raised-requires-clause-above : goal.raised-requires-clause-above
 raised-requires-clause-above c =
     let k = c.args.self.now in
     let v_in : c.loop-var.var < width_of k = omega (arith, c.loop-var-test.true, ap length c.as_slice-low.ensures) in
-    le_trans (div-le_self c.size_of.result c.args.divisor) (constant_read k c.requires.kernel c.loop-var.var c.size_of.result c.index.result.now v_in c.index.ensures c.size_of.ensures).1
+    le_trans (div-le_self c.size_of.result c.args.divisor)
+    (constant_read k c.requires.kernel c.loop-var.var c.size_of.result c.index.result.now v_in c.index.ensures
+    c.size_of.ensures).1
 
 pub loop-var-preserved : goal.loop-var-preserved
 loop-var-preserved c =
@@ -27,7 +36,8 @@ loop-var-preserved c =
     let read = constant_read k c.requires.kernel v c.size_of.result c.index.result.now v_in c.index.ensures c.size_of.ensures in
     record {
       places = ap length c.set.ensures ∙ length-set c.loop-var.into v c.raised.result ∙ c.loop-var.invariant.places;
-      values = values_more k c.args.divisor c.args.scale v c.raised.result c.loop-var.into c.set.new.self (omega (arith, v_in, c.loop-var.invariant.places)) c.loop-var.invariant.values
+      values = values_more k c.args.divisor c.args.scale v c.raised.result c.loop-var.into c.set.new.self
+          (omega (arith, v_in, c.loop-var.invariant.places)) c.loop-var.invariant.values
           (c.raised.ensures
           ∙ ap (λ (low : List ℕ). slice_index low v * c.args.scale + c.size_of.result / c.args.divisor) c.as_slice-low.ensures
           ∙ ap (λ (size : ℕ). slice_index k.table.costs.low v * c.args.scale + size / c.args.divisor) read.0) c.set.ensures;

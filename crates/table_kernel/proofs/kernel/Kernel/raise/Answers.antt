@@ -7,7 +7,7 @@ use Rattle.fraction_table.specs.Pivots.{IsAhead}
 use Rattle.table_kernel.specs.Kernels.{stated}
 use Rattle.table_kernel.specs.Turns.{IsBestOf}
 use Rattle.table_kernel.proofs.Refusals.{on_err}
-use Rattle.table_kernel.proofs.Rooms.{keeps_kernel, keeps_twice, same_stated}
+use Rattle.table_kernel.proofs.SameButRoom.{keeps_kernel, keeps_twice, same_stated}
 use Rattle.table_kernel.proofs.Settling.{line_in, line_stuck, none_positive}
 use Rattle.table_kernel.proofs.kernel.Kernel.raise.Goals as goal
 
@@ -16,11 +16,15 @@ choose-requires-clause-kernel c = keeps_kernel c.args.self.now c.put_line.new.se
 
 pub pivot-requires-clause-kernel : goal.pivot-requires-clause-kernel
 pivot-requires-clause-kernel c =
-    keeps_kernel c.args.self.now c.choose.new.self (keeps_twice c.args.self.now c.put_line.new.self c.choose.new.self c.put_line.ensures.keeps c.choose.ensures.keeps) c.requires.kernel
+    keeps_kernel c.args.self.now c.choose.new.self
+    (keeps_twice c.args.self.now c.put_line.new.self c.choose.new.self c.put_line.ensures.keeps
+    c.choose.ensures.keeps) c.requires.kernel
 
 pub returns-in-None-clause-kernel : goal.returns-in-None-clause-kernel
 returns-in-None-clause-kernel c =
-    keeps_kernel c.args.self.now c.choose.new.self (keeps_twice c.args.self.now c.put_line.new.self c.choose.new.self c.put_line.ensures.keeps c.choose.ensures.keeps) c.requires.kernel
+    keeps_kernel c.args.self.now c.choose.new.self
+    (keeps_twice c.args.self.now c.put_line.new.self c.choose.new.self c.put_line.ensures.keeps
+    c.choose.ensures.keeps) c.requires.kernel
 
 pub returns-in-None-clause-ahead : goal.returns-in-None-clause-ahead
 returns-in-None-clause-ahead c =

@@ -4,7 +4,7 @@ use Rattle.std.specs.Prelude.{slice_index}
 use Rattle.fraction_table.specs.Moves.{IsMoved}
 use Rattle.fraction_table.specs.Tableaus.{between}
 use Rattle.fraction_table.proofs.Shifts.{moved_same}
-use Rattle.fraction_table.proofs.Between.{AreAlike, all_moved, high_step, low_step, none_moved}
+use Rattle.fraction_table.proofs.BetweenBoxes.{AreAlike, all_moved, high_step, low_step, none_moved}
 use Rattle.table_kernel.specs.Kernels.{stated}
 use Rattle.table_kernel.specs.Turns.{MayMove}
 use Rattle.table_kernel.proofs.AtBasis.{kernel_moves}
@@ -28,22 +28,39 @@ move_low-requires-clause-room c =
     let old = c.args.self.now in
     let costs = c.args.costs.now in
     let v = c.loop-var.var in
-    let alike : AreAlike old.table.costs costs = record { high = c.requires.kernel.whole.unboxed.high_count; new_low = c.requires.ranges.low_count; new_high = c.requires.ranges.high_count } in
+    let alike : AreAlike old.table.costs costs =
+    record {
+      high = c.requires.kernel.whole.unboxed.high_count;
+      new_low = c.requires.ranges.low_count;
+      new_high = c.requires.ranges.high_count;
+    } in
     let v_in : v < length old.table.costs.low = omega (arith, c.loop-var-test.true, ap length c.as_slice-low.ensures, c.requires.ranges.low_count) in
-    low_may old c.loop-var.self costs v (slice_index c.as_slice-low.result.now v) alike v_in (ap (λ bounds. slice_index bounds v) c.as_slice-low.ensures) c.loop-var.invariant.moved.costs_are c.loop-var.invariant.room
+    low_may old c.loop-var.self costs v (slice_index c.as_slice-low.result.now v) alike v_in
+    (ap (λ bounds. slice_index bounds v) c.as_slice-low.ensures) c.loop-var.invariant.moved.costs_are
+    c.loop-var.invariant.room
 
 pub move_high-requires-clause-room : goal.move_high-requires-clause-room
 move_high-requires-clause-room c =
     let old = c.args.self.now in
     let costs = c.args.costs.now in
     let v = c.loop-var.var in
-    let alike : AreAlike old.table.costs costs = record { high = c.requires.kernel.whole.unboxed.high_count; new_low = c.requires.ranges.low_count; new_high = c.requires.ranges.high_count } in
+    let alike : AreAlike old.table.costs costs =
+    record {
+      high = c.requires.kernel.whole.unboxed.high_count;
+      new_low = c.requires.ranges.low_count;
+      new_high = c.requires.ranges.high_count;
+    } in
     let v_in : v < length old.table.costs.low = omega (arith, c.loop-var-test.true, ap length c.as_slice-low.ensures, c.requires.ranges.low_count) in
     let bound = slice_index c.as_slice-low.result.now v in
     let bound_is = ap (λ bounds. slice_index bounds v) c.as_slice-low.ensures in
-    let middle = low_step (stated old) (stated c.loop-var.self) (stated c.move_low.new.self) costs v bound alike v_in bound_is c.loop-var.invariant.moved c.move_low.ensures.moved in
-    let room = c.move_low.ensures.room (left_of old.table.costs.low costs.low (suc v) + left_of old.table.costs.high costs.high v) (low_room old c.loop-var.self costs v bound alike v_in bound_is c.loop-var.invariant.moved.costs_are c.loop-var.invariant.room) in
-    high_may old c.move_low.new.self costs v (slice_index c.as_slice-high.result.now v) alike v_in (ap (λ bounds. slice_index bounds v) c.as_slice-high.ensures) middle.costs_are room
+    let middle = low_step (stated old) (stated c.loop-var.self) (stated c.move_low.new.self) costs v bound alike v_in
+    bound_is c.loop-var.invariant.moved c.move_low.ensures.moved in
+    let room = c.move_low.ensures.room
+    (left_of old.table.costs.low costs.low (suc v) + left_of old.table.costs.high costs.high v)
+    (low_room old c.loop-var.self costs v bound alike v_in bound_is c.loop-var.invariant.moved.costs_are
+    c.loop-var.invariant.room) in
+    high_may old c.move_low.new.self costs v (slice_index c.as_slice-high.result.now v) alike v_in
+    (ap (λ bounds. slice_index bounds v) c.as_slice-high.ensures) middle.costs_are room
 
 pub loop-var-preserved : goal.loop-var-preserved
 loop-var-preserved c =
@@ -52,7 +69,12 @@ loop-var-preserved c =
     let v = c.loop-var.var in
     let t = c.move_low.new.self in
     let s = c.move_high.new.self in
-    let alike : AreAlike old.table.costs costs = record { high = c.requires.kernel.whole.unboxed.high_count; new_low = c.requires.ranges.low_count; new_high = c.requires.ranges.high_count } in
+    let alike : AreAlike old.table.costs costs =
+    record {
+      high = c.requires.kernel.whole.unboxed.high_count;
+      new_low = c.requires.ranges.low_count;
+      new_high = c.requires.ranges.high_count;
+    } in
     let v_in : v < length old.table.costs.low = omega (arith, c.loop-var-test.true, ap length c.as_slice-low.ensures, c.requires.ranges.low_count) in
     let low = slice_index c.as_slice-low.result.now v in
     let low_is = ap (λ bounds. slice_index bounds v) c.as_slice-low.ensures in
@@ -60,8 +82,13 @@ loop-var-preserved c =
     let high_is = ap (λ bounds. slice_index bounds v) c.as_slice-high.ensures in
     let middle = low_step (stated old) (stated c.loop-var.self) (stated t) costs v low alike v_in low_is c.loop-var.invariant.moved c.move_low.ensures.moved in
     let last = high_step (stated old) (stated t) (stated s) costs v high alike v_in high_is middle c.move_high.ensures.moved in
-    let first_room = c.move_low.ensures.room (left_of old.table.costs.low costs.low (suc v) + left_of old.table.costs.high costs.high v) (low_room old c.loop-var.self costs v low alike v_in low_is c.loop-var.invariant.moved.costs_are c.loop-var.invariant.room) in
-    let room = c.move_high.ensures.room (left_of old.table.costs.low costs.low (suc v) + left_of old.table.costs.high costs.high (suc v)) (high_room old t costs v high alike v_in high_is middle.costs_are first_room) in
+    let first_room = c.move_low.ensures.room
+    (left_of old.table.costs.low costs.low (suc v) + left_of old.table.costs.high costs.high v)
+    (low_room old c.loop-var.self costs v low alike v_in low_is c.loop-var.invariant.moved.costs_are
+    c.loop-var.invariant.room) in
+    let room = c.move_high.ensures.room
+    (left_of old.table.costs.low costs.low (suc v) + left_of old.table.costs.high costs.high (suc v))
+    (high_room old t costs v high alike v_in high_is middle.costs_are first_room) in
     let next : suc v ≡ v + 1 = omega arith in
     record {
       kernel = c.move_high.ensures.kernel;
@@ -74,6 +101,18 @@ pub returns-clause-kernel : goal.returns-clause-kernel
 returns-clause-kernel c =
     let old = c.args.self.now in
     let costs = c.args.costs.now in
-    let alike : AreAlike old.table.costs costs = record { high = c.requires.kernel.whole.unboxed.high_count; new_low = c.requires.ranges.low_count; new_high = c.requires.ranges.high_count } in
-    let all = all_moved (stated old) (stated c.loop-var.self) costs c.loop-var.var alike (omega (arith, c.loop-var-test.false, c.loop-var.auto.var-end, ap length c.as_slice-low.ensures, c.requires.ranges.low_count)) c.loop-var.invariant.moved in
+    let alike : AreAlike old.table.costs costs =
+    record {
+      high = c.requires.kernel.whole.unboxed.high_count;
+      new_low = c.requires.ranges.low_count;
+      new_high = c.requires.ranges.high_count;
+    } in
+    let all = all_moved (stated old) (stated c.loop-var.self) costs c.loop-var.var alike
+    (omega (
+      arith,
+      c.loop-var-test.false,
+      c.loop-var.auto.var-end,
+      ap length c.as_slice-low.ensures,
+      c.requires.ranges.low_count,
+    )) c.loop-var.invariant.moved in
     settled old c.loop-var.self costs c.loop-var.invariant.kernel c.loop-var.invariant.keeps all.costs_are c.requires.ranges c.requires.fits

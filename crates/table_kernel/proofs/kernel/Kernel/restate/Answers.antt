@@ -9,11 +9,18 @@ loop-place-init c = record { lines = refl; keeps = keeps_itself c.args.self.now 
 
 pub restate_line-requires-clause-kernel : goal.restate_line-requires-clause-kernel
 restate_line-requires-clause-kernel c =
-    restating c.args.self.now c.loop-place.self c.loop-place.place (kernel_moves c.args.self.now c.requires.kernel) c.loop-place.invariant.keeps c.loop-place.invariant.lines
+    restating c.args.self.now c.loop-place.self c.loop-place.place (kernel_moves c.args.self.now c.requires.kernel)
+    c.loop-place.invariant.keeps c.loop-place.invariant.lines
 
 pub restate_line-requires-clause-place : goal.restate_line-requires-clause-place
 restate_line-requires-clause-place c =
-    omega (arith, c.loop-place-test.true, c.len-place-end.ensures, c.args.self.now.constants.ok.0, ap (λ v. length v.items) c.loop-place.invariant.keeps.constants)
+    omega (
+      arith,
+      c.loop-place-test.true,
+      c.len-place-end.ensures,
+      c.args.self.now.constants.ok.0,
+      ap (λ v. length v.items) c.loop-place.invariant.keeps.constants,
+    )
 
 pub loop-place-preserved : goal.loop-place-preserved
 loop-place-preserved c =

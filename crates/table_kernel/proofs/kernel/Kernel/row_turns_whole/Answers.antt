@@ -1,11 +1,11 @@
 -- Where the pivot's number is the denominator, what the line shares with it tells of the whole row.
 use Rattle.std.proofs.Common.{◌≡◌, ◌^◌, ◌≤◌, ◌∙◌, ap, sym, subst, ℤ, ◌<ℤ◌, ◌≤ℤ◌, [], length, arith}
 use Rattle.std.specs.Prelude.{pos, nat_abs, slice_index_or}
-use Rattle.fraction_table.specs.Wholes.{number_at}
-use Rattle.table_kernel.specs.Turnings.{AreSmallTurns, AreTouched, AreWholeTurns}
-use Rattle.table_kernel.proofs.Sizes.{read_number}
-use Rattle.table_kernel.proofs.Crossings.{item_is}
-use Rattle.table_kernel.proofs.Shares.{row_told, same_read}
+use Rattle.whole_numbers.specs.Lists.{number_at}
+use Rattle.integer_pivots.specs.Turns.{AreSmallTurns, AreTouched, AreWholeTurns}
+use Rattle.integer_pivots.proofs.Sizes.{read_number}
+use Rattle.integer_pivots.proofs.Crossings.{item_is}
+use Rattle.integer_pivots.proofs.SharedDivisors.{row_told, same_read}
 use Rattle.table_kernel.proofs.TurnArgs.{along_number, row_from_read, row_read, row_small, row_to_read}
 use Rattle.table_kernel.proofs.kernel.Kernel.row_turns_whole.Goals as goal
 
@@ -35,7 +35,9 @@ turns_whole-requires c =
     let across = c.as_slice-2.result.now in
     let row = c.as_slice.result.now in
     let columns = c.as_slice-3.result.now in
-    let given = row_read k v d c.index-along.result.now across row _ columns c.requires.ready c.requires.var c.requires.turn.2 c.index-along.ensures c.as_slice-2.ensures.value (c.as_slice.ensures ∙ c.index.ensures) c.as_slice-3.ensures.value in
+    let given = row_read k v d c.index-along.result.now across row _ columns c.requires.ready c.requires.var
+    c.requires.turn.2 c.index-along.ensures c.as_slice-2.ensures.value (c.as_slice.ensures ∙ c.index.ensures)
+    c.as_slice-3.ensures.value in
     record {
       divisor = c.requires.divisor;
       small = row_to_read (λ e w line numbers _. AreSmallTurns p e w line numbers) k v d _ across row columns given
@@ -52,7 +54,9 @@ returns c =
     let across = c.as_slice-2.result.now in
     let row = c.as_slice.result.now in
     let columns = c.as_slice-3.result.now in
-    let given = row_read k v d c.index-along.result.now across row _ columns c.requires.ready c.requires.var c.requires.turn.2 c.index-along.ensures c.as_slice-2.ensures.value (c.as_slice.ensures ∙ c.index.ensures) c.as_slice-3.ensures.value in (
+    let given = row_read k v d c.index-along.result.now across row _ columns c.requires.ready c.requires.var
+    c.requires.turn.2 c.index-along.ensures c.as_slice-2.ensures.value (c.as_slice.ensures ∙ c.index.ensures)
+    c.as_slice-3.ensures.value in (
       λ holds. row_from_read (λ e w line numbers _. AreWholeTurns p e w line numbers) k v d _ across row columns given (c.turns_whole.ensures.0 holds),
       λ whole. c.turns_whole.ensures.1 (row_to_read (λ e w line numbers _. AreWholeTurns p e w line numbers) k v d _ across row columns given whole),
     )

@@ -20,5 +20,6 @@ pivots-smaller c =
 pub returns-in-Some-clause-shown : goal.returns-in-Some-clause-shown
 returns-in-Some-clause-shown c =
     let new = c.advance.new.self in
-    subst (λ (lines : List (List Fraction)). IsShown new.table.basis.items lines (Ended c.in-Some.solved)) (stated_lines new c.in_ok-solved.ensures.kernel.shaped)
+    subst (λ (lines : List (List Fraction)). IsShown new.table.basis.items lines (Ended c.in-Some.solved))
+    (stated_lines new c.in_ok-solved.ensures.kernel.shaped)
     (subst (IsAhead (stated c.pivots.self) (stated new)) c.in-Some.is c.in_ok-solved.ensures.ahead)

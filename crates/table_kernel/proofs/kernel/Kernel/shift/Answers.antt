@@ -5,13 +5,13 @@ use Rattle.std.proofs.lemmas.Int.{ints}
 use Rattle.std.proofs.lemmas.List.{get_or_default, with_items_is}
 use Rattle.path_rows.specs.declared.tree.Member.{Member}
 use Rattle.fraction_table.specs.Moves.{IsColumnOf}
+use Rattle.integer_pivots.specs.Numbers.{more_sums}
+use Rattle.integer_pivots.proofs.PartSums.{more_long}
+use Rattle.integer_pivots.proofs.Sizes.{read_number}
 use Rattle.table_kernel.specs.declared.kernel.Kernel.{Kernel}
 use Rattle.table_kernel.specs.Kernels.{IsBounded}
-use Rattle.table_kernel.specs.Numbers.{more_sums}
 use Rattle.table_kernel.specs.Turns.{along_numbers}
 use Rattle.table_kernel.proofs.MoveSteps.{fall_fits, lowered_fits, lowered_read}
-use Rattle.table_kernel.proofs.PartSums.{more_long}
-use Rattle.table_kernel.proofs.Sizes.{read_number}
 use Rattle.table_kernel.proofs.kernel.Kernel.shift.Goals as goal
 
 common_small : (k : Kernel) → IsBounded k → nat_abs k.common ≤ 2 ^ 22
@@ -60,7 +60,8 @@ returns-in-Some-clause-shifted c =
     let fall_is : to_z w64 (of_z w64 c.args.fall) ≡ c.args.fall = read_number c.args.fall (omega (arith, c.requires.small)) in
     let sums_are : sums ≡ more_sums k.constants.items c.args.fall (along_numbers k j) =
     c.put_multiple.ensures
-    ∙ ap (λ (zs : List ℤ). more_sums zs (to_z w64 (of_z w64 c.args.fall)) c.as_slice-in-Some.result.now) (c.as_mut_slice.ensures.value ∙ ap (λ v. v.items) keeps.constants)
+    ∙ ap (λ (zs : List ℤ). more_sums zs (to_z w64 (of_z w64 c.args.fall)) c.as_slice-in-Some.result.now)
+    (c.as_mut_slice.ensures.value ∙ ap (λ v. v.items) keeps.constants)
     ∙ ap (λ (z : ℤ). more_sums k.constants.items z c.as_slice-in-Some.result.now) fall_is
     ∙ ap (λ (zs : List ℤ). more_sums k.constants.items c.args.fall zs) (c.as_slice-in-Some.ensures.value ∙ c.put_along.ensures.along) in
     let as_many : length sums ≡ length k.constants.items = ap length sums_are ∙ more_long k.constants.items c.args.fall (along_numbers k j) in

@@ -1,7 +1,7 @@
 -- The numbers of the variables before the index have turned, and the others are as before.
 use Rattle.std.proofs.Common.{◌≡◌, ℕ, ◌*◌, ◌^◌, ◌<◌, ◌≤◌, []}
 use Rattle.std.specs.Prelude.{nat_abs, pos, ◌≤ℤ◌, slice_index_or}
-use Rattle.table_kernel.specs.Numbers.{AllWithin}
+use Rattle.integer_pivots.specs.Numbers.{AllWithin}
 use Rattle.table_kernel.specs.Turnings.{IsReady, IsTurnedAt, KeepsOthers, StaysWithin}
 use Rattle.table_kernel.proofs.kernel.Kernel.turn_lows.Given as goal
 

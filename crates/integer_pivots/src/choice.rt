@@ -1,0 +1,116 @@
+//! The columns of which one is chosen: those that lead latest, and of these those with the least numbers.
+ghost use Rattle.std.specs.Prelude.{◌≡◌, ℕ, ◌+◌, ◌^◌, ◌<◌, ◌≤◌, pos, ◌<ℤ◌, length, take, vec_capacity, vec_len};
+ghost use Rattle.std.specs.Ordering.{int_cmp};
+ghost use Rattle.whole_numbers.specs.Lists.{number_at};
+ghost use Rattle.integer_pivots.specs.Choices.{AreLatest, AreLeast, Has, IsPositiveAt, crosswise};
+ghost use Rattle.integer_pivots.specs.Numbers.{AllWithin};
+
+use std::cmp::Ordering;
+
+/// Looks at one more column: where the line is positive in it, it joins those that lead latest so far, or takes their
+/// place. Gives the variable at which those lead that are left.
+fn put_later(
+    left: &mut Vec<usize>,
+    line: &[i64],
+    leads: &[usize],
+    column: usize,
+    latest: usize,
+) -> usize
+    requires column { column < length line.now }
+    requires leads { length leads.now ≡ length line.now }
+    requires room { vec_len left.old < vec_capacity left.old }
+    requires before { AreLatest line.now leads.now column latest left.old.items }
+    ensures latest { AreLatest line.now leads.now (column + 1) result left.new.items }
+    ensures count { vec_len left.new ≤ vec_len left.old + 1 }
+    ensures room { vec_capacity left.new ≡ vec_capacity left.old }
+{
+    let lead = leads[column];
+    if line[column] <= 0 || lead < latest {
+        return latest;
+    }
+    if latest < lead {
+        left.clear();
+    }
+    left.push_reserved(column);
+    lead
+}
+
+/// Puts those of the columns in which the line is positive into `left` that lead latest, and gives the variable at
+/// which they lead.
+pub fn put_latest(left: &mut Vec<usize>, line: &[i64], leads: &[usize]) -> usize
+    requires leads { length leads.now ≡ length line.now }
+    requires room { length line.now ≤ vec_capacity left.old }
+    ensures latest { AreLatest line.now leads.now (length line.now) result left.new.items }
+    ensures room { vec_capacity left.new ≡ vec_capacity left.old }
+{
+    left.clear();
+    let mut latest = 0;
+    for column in 0..line.len() {
+        latest = put_later(left, line, leads, column, latest);
+    }
+    latest
+}
+
+/// How a variable's numbers in two columns stand to each other, each over the line's there, which is positive.
+fn column_order(numbers: &[i64], line: &[i64], column: usize, other: usize) -> Ordering
+    requires long { length line.now ≤ length numbers.now }
+    requires small { AllWithin (2 ^ 22) numbers.now }
+    requires line { AllWithin (2 ^ 22) line.now }
+    requires column { column < length line.now }
+    requires other { other < length line.now }
+    requires positive { pos 0 <ℤ number_at line.now other }
+    ensures { result ≡ int_cmp (crosswise numbers.now line.now column other) (crosswise numbers.now line.now other column) }
+{
+    let own = numbers[column];
+    let others = numbers[other];
+    if others == 0 {
+        return own.cmp(&0);
+    }
+    let first = own * line[other];
+    let second = others * line[column];
+    first.cmp(&second)
+}
+
+/// Of some columns puts those to the front in which a variable's number, over the line's, is least, and tells how many
+/// they are.
+fn put_least(left: &mut [usize], numbers: &[i64], line: &[i64]) -> usize
+    requires some { 0 < length left.old }
+    requires positive { (c : ℕ) → Has left.old c → IsPositiveAt line.now c }
+    requires long { length line.now ≤ length numbers.now }
+    requires small { AllWithin (2 ^ 22) numbers.now }
+    requires line { AllWithin (2 ^ 22) line.now }
+    ensures some { (0 < result) × (result ≤ length left.old) }
+    ensures least { AreLeast numbers.now line.now left.old (take result left.new) }
+{
+    let mut kept = 1;
+    for index in 1..left.len() {
+        let column = left[index];
+        match column_order(numbers, line, column, left[0]) {
+            Ordering::Less => {
+                left[0] = column;
+                kept = 1;
+            }
+            Ordering::Equal => {
+                left[kept] = column;
+                kept += 1;
+            }
+            Ordering::Greater => {}
+        }
+    }
+    kept
+}
+
+/// Keeps of some columns those in which a variable's number, over the line's, is least.
+pub fn keep_least(left: &mut Vec<usize>, numbers: &[i64], line: &[i64])
+    requires some { 0 < vec_len left.old }
+    requires positive { (c : ℕ) → Has left.old.items c → IsPositiveAt line.now c }
+    requires long { length line.now ≤ length numbers.now }
+    requires small { AllWithin (2 ^ 22) numbers.now }
+    requires line { AllWithin (2 ^ 22) line.now }
+    ensures some { 0 < vec_len left.new }
+    ensures least { AreLeast numbers.now line.now left.old.items left.new.items }
+    ensures room { vec_capacity left.new ≡ vec_capacity left.old }
+{
+    let kept = put_least(left.as_mut_slice(), numbers, line);
+    left.truncate(kept);
+}

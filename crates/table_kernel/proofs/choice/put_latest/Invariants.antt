@@ -1,7 +1,0 @@
--- The columns before the counter in which the line is positive that lead latest.
-use Rattle.std.proofs.Common.{◌≡◌, ◌≤◌, vec_capacity, vec_len}
-use Rattle.table_kernel.specs.Choices.{AreLatest}
-use Rattle.table_kernel.proofs.choice.put_latest.Given as goal
-
-abbrev pub invariant-loop-column : goal.invariant-loop-column
-invariant-loop-column l = record { latest : AreLatest l.line l.leads l.column l.latest l.left.items; count : vec_len l.left ≤ l.column; room : vec_capacity l.left ≡ vec_capacity l.fn.left }

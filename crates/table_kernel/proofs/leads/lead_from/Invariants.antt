@@ -1,6 +1,0 @@
--- The variables before the counter have 0 in the column, where those before the first one have.
-use Rattle.table_kernel.specs.Leads.{AreZeros}
-use Rattle.table_kernel.proofs.leads.lead_from.Given as goal
-
-abbrev pub invariant-loop-var : goal.invariant-loop-var
-invariant-loop-var l = AreZeros l.lows l.column l.fn.first → AreZeros l.lows l.column l.var

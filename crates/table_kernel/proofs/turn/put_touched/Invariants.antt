@@ -1,7 +1,0 @@
--- The columns before the counter in which a turn may change a number.
-use Rattle.std.proofs.Common.{◌≡◌, ◌≤◌, vec_capacity, vec_len}
-use Rattle.table_kernel.specs.Turnings.{AreTouched}
-use Rattle.table_kernel.proofs.turn.put_touched.Given as goal
-
-abbrev pub invariant-loop-column : goal.invariant-loop-column
-invariant-loop-column l = record { touched : AreTouched l.pivot l.common l.line l.column l.touched.items; count : vec_len l.touched ≤ l.column; room : vec_capacity l.touched ≡ vec_capacity l.fn.touched }
