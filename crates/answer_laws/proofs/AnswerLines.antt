@@ -29,7 +29,8 @@ row-lines (row ∷ rows) =
     (row-lines rows)
 
 -- the router's line or none, and what follows
-with-router : (before : Option (List ℕ)) (router : List ℕ) (rest : List (List ℕ)) → IsOneLine router → All IsOneLine rest → All IsOneLine (router_lines before router ++ rest)
+with-router : (before : Option (List ℕ)) (router : List ℕ) (rest : List (List ℕ)) → IsOneLine router →
+    All IsOneLine rest → All IsOneLine (router_lines before router ++ rest)
 with-router before router rest name others = cases before
   where
     line : IsOneLine (router_line router)
@@ -45,7 +46,10 @@ with-router before router rest name others = cases before
 
 cost-whole : (n : ℕ) → IsOneLine (cost_line n)
 cost-whole n =
-    spaced-whole (codes " ip" ∷ codes "ospf" ∷ codes "cost" ∷ decimal n ∷ []) (written (codes " ip") refl, (written (codes "ospf") refl, (written (codes "cost") refl, (number-whole n, tt))))
+    spaced-whole (codes " ip" ∷ codes "ospf" ∷ codes "cost" ∷ decimal n ∷ []) (
+      written (codes " ip") refl,
+      (written (codes "ospf") refl, (written (codes "cost") refl, (number-whole n, tt))),
+    )
 
 section-lines : (before : Option (List ℕ)) (lines : List CostLine) → All FitsCostLine lines → All IsOneLine (cost_lines before lines)
 section-lines before [] fits = All-nil IsOneLine
@@ -56,23 +60,30 @@ section-lines before (line ∷ lines) fits =
     (All-cons IsOneLine (interface_line line.interface) (cost_line line.cost ∷ others)
     (spaced-whole (codes "interface" ∷ line.interface ∷ []) (written (codes "interface") refl, (word-line line.interface first.interface, tt)))
     (All-cons IsOneLine (cost_line line.cost) others (cost-whole line.cost)
-    (All-cons IsOneLine (codes "exit") (cost_lines (Some line.router) lines) (written (codes "exit") refl) (section-lines (Some line.router) lines (All-tail FitsCostLine line lines fits)))))
+    (All-cons IsOneLine (codes "exit") (cost_lines (Some line.router) lines) (written (codes "exit") refl)
+    (section-lines (Some line.router) lines (All-tail FitsCostLine line lines fits)))))
 
 costs-one : (costs : Option Costs) → FitsCosts costs → All IsOneLine (costs_lines costs)
 costs-one None fits = All-cons IsOneLine (codes "costs none") [] (written (codes "costs none") refl) (All-nil IsOneLine)
 costs-one (Some costs) fits =
-    All-cons IsOneLine (costs_line costs.greatest) (cost_lines None costs.lines) (spaced-whole (codes "costs" ∷ decimal costs.greatest ∷ []) (written (codes "costs") refl, (number-whole costs.greatest, tt)))
+    All-cons IsOneLine (costs_line costs.greatest) (cost_lines None costs.lines)
+    (spaced-whole (codes "costs" ∷ decimal costs.greatest ∷ []) (
+      written (codes "costs") refl,
+      (number-whole costs.greatest, tt),
+    ))
     (section-lines None costs.lines fits)
 
 tree-one : (word : List ℕ) (tree : Option CapTree) → IsOneLine word → All IsOneLine (tree_lines word tree)
-tree-one word None whole = All-cons IsOneLine (spaced (word ∷ codes "none" ∷ [])) [] (spaced-whole (word ∷ codes "none" ∷ []) (whole, (written (codes "none") refl, tt))) (All-nil IsOneLine)
+tree-one word None whole = All-cons IsOneLine (spaced (word ∷ codes "none" ∷ [])) []
+    (spaced-whole (word ∷ codes "none" ∷ []) (whole, (written (codes "none") refl, tt))) (All-nil IsOneLine)
 tree-one word (Some t) whole =
     All-cons IsOneLine (spaced (word ∷ decimal t.cap ∷ decimal (length t.tree) ∷ [])) (map entry_line t.tree)
     (spaced-whole (word ∷ decimal t.cap ∷ decimal (length t.tree) ∷ []) (whole, (number-whole t.cap, (number-whole (length t.tree), tt))))
     (entry-lines t.tree)
 
 end-one : All IsOneLine end_lines
-end-one = All-cons IsOneLine (codes "wide none") (codes "end" ∷ []) (written (codes "wide none") refl) (All-cons IsOneLine (codes "end") [] (written (codes "end") refl) (All-nil IsOneLine))
+end-one = All-cons IsOneLine (codes "wide none") (codes "end" ∷ []) (written (codes "wide none") refl)
+    (All-cons IsOneLine (codes "end") [] (written (codes "end") refl) (All-nil IsOneLine))
 
 -- the lines of an answer whose names are words hold no LF
 pub ordered-one : (a : AnswerParts) → FitsCosts a.costs → All IsOneLine (ordered a)
@@ -81,10 +92,22 @@ ordered-one a fits =
     All-append IsOneLine (tree_lines (codes "proof") a.proof) (after_proof a) (tree-one (codes "proof") a.proof (written (codes "proof") refl))
     (All-append IsOneLine (tree_lines (codes "open") a.unfinished) end_lines (tree-one (codes "open") a.unfinished (written (codes "open") refl)) end-one) in
     let rows : All IsOneLine (after_floor a) =
-    All-cons IsOneLine (rows_line (length a.rows)) (map row_line a.rows ++ after_rows a) (spaced-whole (codes "rows" ∷ decimal (length a.rows) ∷ []) (written (codes "rows") refl, (number-whole (length a.rows), tt)))
+    All-cons IsOneLine (rows_line (length a.rows)) (map row_line a.rows ++ after_rows a)
+    (spaced-whole (codes "rows" ∷ decimal (length a.rows) ∷ []) (
+      written (codes "rows") refl,
+      (number-whole (length a.rows), tt),
+    ))
     (All-append IsOneLine (map row_line a.rows) (after_rows a) (row-lines a.rows) trees) in
     let costs : All IsOneLine (after_head a) =
     All-append IsOneLine (costs_lines a.costs) (after_costs a) (costs-one a.costs fits)
-    (All-cons IsOneLine (floor_line a.floor) (after_floor a) (spaced-whole (codes "floor" ∷ floor_word a.floor ∷ []) (written (codes "floor") refl, (floor-whole a.floor, tt))) rows) in
+    (All-cons IsOneLine (floor_line a.floor) (after_floor a)
+    (spaced-whole (codes "floor" ∷ floor_word a.floor ∷ []) (
+      written (codes "floor") refl,
+      (floor-whole a.floor, tt),
+    )) rows) in
     All-cons IsOneLine (codes "ospfcost answer 1") (verdict_line a.verdict ∷ after_head a) (written (codes "ospfcost answer 1") refl)
-    (All-cons IsOneLine (verdict_line a.verdict) (after_head a) (spaced-whole (codes "verdict" ∷ verdict_words a.verdict) (written (codes "verdict") refl, verdict-whole a.verdict)) costs)
+    (All-cons IsOneLine (verdict_line a.verdict) (after_head a)
+    (spaced-whole (codes "verdict" ∷ verdict_words a.verdict) (
+      written (codes "verdict") refl,
+      verdict-whole a.verdict,
+    )) costs)

@@ -45,7 +45,9 @@ costs-one line next (inr a) = one-of line (codes "costs" ∷ decimal a.greatest 
 
 part-line-one : (part : TreePart) (line : List ℕ) (next : Place) → IsPartNext part line next → IsOneLine line
 part-line-one part line next (inl a) = one-of line (part_word part ∷ codes "none" ∷ []) a.0 (part-one part, (written (codes "none") refl, tt))
-part-line-one part line next (inr a) = one-of line (part_word part ∷ decimal a.cap ∷ decimal a.count ∷ []) a.is (part-one part, (number-whole a.cap, (number-whole a.count, tt)))
+part-line-one part line next (inr a) =
+    one-of line (part_word part ∷ decimal a.cap ∷ decimal a.count ∷ []) a.is
+    (part-one part, (number-whole a.cap, (number-whole a.count, tt)))
 
 -- a line that is in the grammar holds no LF
 pub next_is_one_line : (place : Place) (line : List ℕ) (next : Place) → Next place line next → IsOneLine line
@@ -62,7 +64,10 @@ next_is_one_line (AtExit router) line next a = one-along line (codes "exit") a.0
 next_is_one_line AtRows line next a = one-of line (codes "rows" ∷ decimal a.count ∷ []) a.is (written (codes "rows") refl, (number-whole a.count, tt))
 next_is_one_line (AtRow zero) line next a = part-line-one Proof line next a
 next_is_one_line (AtRow (suc left)) line next a =
-    one-of line (codes "row" ∷ map decimal (a.row.request ∷ a.row.rival.edges)) a.is (written (codes "row") refl, numbers-whole (a.row.request ∷ a.row.rival.edges))
+    one-of line (codes "row" ∷ map decimal (a.row.request ∷ a.row.rival.edges)) a.is (
+      written (codes "row") refl,
+      numbers-whole (a.row.request ∷ a.row.rival.edges),
+    )
 next_is_one_line (AtTree part (suc places) (suc left)) line next a =
     one-along line (entry_line a.entry) a.is (one-of (entry_line a.entry) (entry_words a.entry) (entry_line-words a.entry) (entry-whole a.entry))
 next_is_one_line (AtTree part zero (suc left)) line next a = absurd a

@@ -65,7 +65,9 @@ section-on before line rest to other fits behind = (
 
 -- a cost without or with the line of its router, as its router is that of the cost before or another one
 again-on : (before : List ℕ) (line : CostLine) (rest : List (List ℕ)) (to : Place) (same : Bool) → same_bytes before line.router ≡ same → FitsCostLine line →
-    GoOn (AtCost line.router) rest to → GoOn (AtSections (Some before)) (cond same [] (router_line line.router ∷ []) ++ (interface_line line.interface ∷ rest)) to
+    GoOn (AtCost line.router) rest to →
+    GoOn (AtSections (Some before))
+    (cond same [] (router_line line.router ∷ []) ++ (interface_line line.interface ∷ rest)) to
 again-on before line rest to true is fits behind =
     let same : before ≡ line.router = (pointwise_decides Decides-eqb before line.router).0 is in
     (AtCost before, inr (inl (interface-is before line fits)), subst (λ r. GoOn (AtCost r) rest to) (sym same) behind)
@@ -74,7 +76,9 @@ again-on before line rest to false is fits behind = section-on (Some before) lin
     other : same_bytes before line.router ≡ false → Some before ≢ Some line.router
     other isnt e = true≢false (sym ((pointwise_decides Decides-eqb before line.router).1 (cc)) ∙ isnt)
 
-costs-on : (before : Option (List ℕ)) (lines : List CostLine) → All FitsCostLine lines → All (λ line. IsCost line.cost) lines → GoOn (AtSections before) (cost_lines before lines) (AtSections (router_before before lines))
+costs-on : (before : Option (List ℕ)) (lines : List CostLine) → All FitsCostLine lines →
+    All (λ line. IsCost line.cost) lines →
+    GoOn (AtSections before) (cost_lines before lines) (AtSections (router_before before lines))
 costs-on before [] fits bounds = refl
 costs-on before (line ∷ lines) fits bounds =
     let P : CostLine → Type 0 = λ line. IsCost line.cost in
@@ -83,10 +87,16 @@ costs-on before (line ∷ lines) fits bounds =
     let behind = costs-on (Some line.router) lines (All-tail FitsCostLine line lines fits) (All-tail P line lines bounds) in
     cases before first (cost-on line.router line (cost_lines (Some line.router) lines) to first (All-head P line lines bounds) behind)
   where
-    cases : (before : Option (List ℕ)) → FitsCostLine line → GoOn (AtCost line.router) (cost_line line.cost ∷ codes "exit" ∷ cost_lines (Some line.router) lines) (AtSections (router_before (Some line.router) lines)) →
+    cases : (before : Option (List ℕ)) → FitsCostLine line →
+        GoOn (AtCost line.router) (cost_line line.cost ∷ codes "exit" ∷ cost_lines (Some line.router) lines)
+        (AtSections (router_before (Some line.router) lines)) →
         GoOn (AtSections before) (cost_lines before (line ∷ lines)) (AtSections (router_before (Some line.router) lines))
-    cases None first behind = section-on None line (cost_line line.cost ∷ codes "exit" ∷ cost_lines (Some line.router) lines) (AtSections (router_before (Some line.router) lines)) (λ e. cc) first behind
-    cases (Some b) first behind = again-on b line (cost_line line.cost ∷ codes "exit" ∷ cost_lines (Some line.router) lines) (AtSections (router_before (Some line.router) lines)) (same_bytes b line.router) refl first behind
+    cases None first behind = section-on None line
+        (cost_line line.cost ∷ codes "exit" ∷ cost_lines (Some line.router) lines)
+        (AtSections (router_before (Some line.router) lines)) (λ e. cc) first behind
+    cases (Some b) first behind = again-on b line
+        (cost_line line.cost ∷ codes "exit" ∷ cost_lines (Some line.router) lines)
+        (AtSections (router_before (Some line.router) lines)) (same_bytes b line.router) refl first behind
 
 -- the place behind costs
 abbrev behind_costs : Option Costs → Place
@@ -104,8 +114,11 @@ floor-on (Some costs) floor bounds = inr (inr (record { floor = floor; bounds = 
 
 each-row-on : (rows : List Row) → All BoundsRow rows → GoOn (AtRow (length rows)) (map row_line rows) (AtRow 0)
 each-row-on [] bounds = refl
-each-row-on (row ∷ rows) bounds =
-    (AtRow (length rows), record { row = row; bounds = All-head BoundsRow row rows bounds; is = refl; leads = refl }, each-row-on rows (All-tail BoundsRow row rows bounds))
+each-row-on (row ∷ rows) bounds = (
+  AtRow (length rows),
+  record { row = row; bounds = All-head BoundsRow row rows bounds; is = refl; leads = refl },
+  each-row-on rows (All-tail BoundsRow row rows bounds),
+)
 
 rows-on : (rows : List Row) → IsRowNumber (length rows) → All BoundsRow rows → GoOn AtRows (rows_lines rows) (AtRow 0)
 rows-on rows count bounds = (AtRow (length rows), record { count = length rows; bounds = count; is = refl; leads = refl }, each-row-on rows bounds)
@@ -122,7 +135,8 @@ entries-on part (suc places) (entry ∷ entries) whole bounds fits = (
   entries-on part (subtree_count entry + places) entries whole (All-tail BoundsEntry entry entries bounds) (All-tail FitsEntry entry entries fits),
 )
 
-tree-on : (part : TreePart) (tree : Option CapTree) → FitsTree tree → BoundsTree tree → GoOn (before_part part) (tree_lines (part_word part) tree) (AtTree part 0 0)
+tree-on : (part : TreePart) (tree : Option CapTree) → FitsTree tree → BoundsTree tree →
+    GoOn (before_part part) (tree_lines (part_word part) tree) (AtTree part 0 0)
 tree-on part None fits bounds = (AtTree part 0 0, part_says part _ _ (inl (refl, refl)), refl)
 tree-on part (Some t) fits bounds = (
   AtTree part 1 (length t.tree),
@@ -141,11 +155,14 @@ ordered-on a fits bounds count =
       floor-on a.costs a.floor bounds.floor,
       go-then AtRows (AtRow 0) AfterEnd (rows_lines a.rows) _ (rows-on a.rows count bounds.rows)
           (go-then (AtRow 0) (AtTree Proof 0 0) AfterEnd (tree_lines (codes "proof") a.proof) _ (tree-on Proof a.proof fits.proof bounds.proof)
-          (go-then (AtTree Proof 0 0) (AtTree Unfinished 0 0) AfterEnd (tree_lines (codes "open") a.unfinished) end_lines (tree-on Unfinished a.unfinished fits.unfinished bounds.unfinished) end-on)),
+          (go-then (AtTree Proof 0 0) (AtTree Unfinished 0 0) AfterEnd (tree_lines (codes "open") a.unfinished)
+          end_lines (tree-on Unfinished a.unfinished fits.unfinished bounds.unfinished) end-on)),
     ))
 
 -- the lines of an answer whose rows have a number of 64 bits lead from the head behind the end
 pub answer-leads : (a : AnswerParts) → IsAnswer a → HasBounds a → IsRowNumber (length a.rows) → LeadOn AtHead (answer_lines a) AfterEnd
 answer-leads a fits bounds count =
-    let short : All (λ line. length line ≤ 65536) (ordered a) = subst (λ (l : List (List ℕ)). All (λ line. length line ≤ 65536) l) (answer_lines-ordered a) fits.lines in
-    subst (λ (l : List (List ℕ)). LeadOn AtHead l AfterEnd) (sym (answer_lines-ordered a)) (lawful AtHead AfterEnd (ordered a) short (ordered-on a fits bounds count))
+    let short : All (λ line. length line ≤ 65536) (ordered a) =
+    subst (λ (l : List (List ℕ)). All (λ line. length line ≤ 65536) l) (answer_lines-ordered a) fits.lines in
+    subst (λ (l : List (List ℕ)). LeadOn AtHead l AfterEnd) (sym (answer_lines-ordered a))
+    (lawful AtHead AfterEnd (ordered a) short (ordered-on a fits bounds count))

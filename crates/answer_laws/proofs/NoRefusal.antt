@@ -4,9 +4,8 @@ use Rattle.std.proofs.lemmas.Bool.{true≢false}
 use Rattle.std.proofs.lemmas.List.Elements.{All-head, All-tail}
 use Rattle.path_rows.specs.Answers.{AnswerParts}
 use Rattle.path_rows.specs.Text.{answer_lines, text}
-use Rattle.text_lines.specs.Lines.{IsOneLine}
+use Rattle.text_lines.specs.Lines.{IsOneLine, with_ends}
 use Rattle.answer_lines.specs.Grammar.{Place, AtHead, AfterEnd, Next}
-use Rattle.evidence_text.specs.Lines.{text_of}
 use Rattle.answer_lines.specs.Lawful.{Leads, LeadOn}
 use Rattle.evidence_reader.specs.declared.stop.AnswerFault.{AnswerFault}
 use Rattle.evidence_reader.specs.Refusals.{IsBadLine, IsEarlyEnd, IsFault, IsRefused, bad_line, early_end, after_end}
@@ -17,11 +16,11 @@ use Rattle.answer_laws.proofs.Lawful.{answer-leads}
 use Rattle.answer_laws.proofs.OnePlace.{one_place}
 
 -- the text of some lines begins with the first line and its LF
-first-of : (line : List ℕ) (lines : List (List ℕ)) (rest : List ℕ) → text_of (line ∷ lines) ++ rest ≡ line ++ 10 ∷ (text_of lines ++ rest)
-first-of line lines rest = append_assoc (line ++ 10 ∷ []) (text_of lines) rest ∙ append_assoc line (10 ∷ []) (text_of lines ++ rest)
+first-of : (line : List ℕ) (lines : List (List ℕ)) (rest : List ℕ) → with_ends (line ∷ lines) ++ rest ≡ line ++ 10 ∷ (with_ends lines ++ rest)
+first-of line lines rest = append_assoc (line ++ 10 ∷ []) (with_ends lines) rest ∙ append_assoc line (10 ∷ []) (with_ends lines ++ rest)
 
-text-first : (line : List ℕ) (lines : List (List ℕ)) → text_of (line ∷ lines) ≡ line ++ 10 ∷ text_of lines
-text-first line lines = append_assoc line (10 ∷ []) (text_of lines)
+text-first : (line : List ℕ) (lines : List (List ℕ)) → with_ends (line ∷ lines) ≡ line ++ 10 ∷ with_ends lines
+text-first line lines = append_assoc line (10 ∷ []) (with_ends lines)
 
 -- a text with an LF isn't empty
 some-line : (a b : List ℕ) → [] ≡ a ++ 10 ∷ b → ⊥
@@ -34,19 +33,20 @@ not-one (c ∷ cs) b one = not-one cs b (All-tail (λ x. eqb x 10 ≡ false) c (
 
 -- what is left of a lawful text, as lawful lines that lead to its end
 abbrev IsLeft : Place → Place → List ℕ → Type 0
-IsLeft place last rest = (lines : List (List ℕ)) × LeadOn place lines last × (rest ≡ text_of lines)
+IsLeft place last rest = (lines : List (List ℕ)) × LeadOn place lines last × (rest ≡ with_ends lines)
 
 -- a lawful line along an equation
 leads-along : (place : Place) (line other : List ℕ) (next : Place) → line ≡ other → Leads place line next → Leads place other next
 leads-along place line other next same leads = subst (λ l. Leads place l next) same leads
 
 -- lawful lines that begin a lawful text are its first ones
-left-lawful : (from to last : Place) (xs ys : List (List ℕ)) (rest : List ℕ) → LeadOn from xs to → LeadOn from ys last → text_of xs ++ rest ≡ text_of ys → IsLeft to last rest
+left-lawful : (from to last : Place) (xs ys : List (List ℕ)) (rest : List ℕ) → LeadOn from xs to → LeadOn from ys last →
+    with_ends xs ++ rest ≡ with_ends ys → IsLeft to last rest
 left-lawful from to last [] ys rest first second e = (ys, subst (λ p. LeadOn p ys last) first second, e)
-left-lawful from to last (x ∷ xs) [] rest first second e = absurd (some-line x (text_of xs ++ rest) (sym e ∙ first-of x xs rest))
+left-lawful from to last (x ∷ xs) [] rest first second e = absurd (some-line x (with_ends xs ++ rest) (sym e ∙ first-of x xs rest))
 left-lawful from to last (x ∷ xs) (y ∷ ys) rest first second e =
-    let cut : (x ≡ y) × (text_of xs ++ rest ≡ text_of ys) =
-    first_line-one x y (text_of xs ++ rest) (text_of ys) (next_is_one_line from x first.0 first.1.is) (next_is_one_line from y second.0 second.1.is)
+    let cut : (x ≡ y) × (with_ends xs ++ rest ≡ with_ends ys) =
+    first_line-one x y (with_ends xs ++ rest) (with_ends ys) (next_is_one_line from x first.0 first.1.is) (next_is_one_line from y second.0 second.1.is)
     (sym (first-of x xs rest) ∙ e ∙ text-first y ys) in
     let along : Leads from x second.0 = leads-along from y x second.0 (sym cut.0) second.1 in
     let same : second.0 ≡ first.0 = one_place from x second.0 first.0 along.is first.1.is in
@@ -65,12 +65,13 @@ no_early place line left rest is (inl none) = some-line line left (sym none ∙ 
 no_early place line left rest is (inr last) = not-one line left (subst IsOneLine is last.0)
 
 -- a text that goes on lawfully to its end has no fault
-no_fault : (place : Place) (rest : List ℕ) (kind : AnswerFault) (lines : List (List ℕ)) → LeadOn place lines AfterEnd → rest ≡ text_of lines → IsFault place rest kind → ⊥
+no_fault : (place : Place) (rest : List ℕ) (kind : AnswerFault) (lines : List (List ℕ)) → LeadOn place lines AfterEnd →
+    rest ≡ with_ends lines → IsFault place rest kind → ⊥
 no_fault place rest kind [] lead is (bad_line inside bad) = inside lead
 no_fault place rest kind [] lead is (early_end inside early) = inside lead
 no_fault place rest kind [] lead is (after_end at some) = some is
-no_fault place rest kind (line ∷ lines) lead is (bad_line inside bad) = no_bad place lead.0 line (text_of lines) rest lead.1 (is ∙ text-first line lines) bad
-no_fault place rest kind (line ∷ lines) lead is (early_end inside early) = no_early place line (text_of lines) rest (is ∙ text-first line lines) early
+no_fault place rest kind (line ∷ lines) lead is (bad_line inside bad) = no_bad place lead.0 line (with_ends lines) rest lead.1 (is ∙ text-first line lines) bad
+no_fault place rest kind (line ∷ lines) lead is (early_end inside early) = no_early place line (with_ends lines) rest (is ∙ text-first line lines) early
 no_fault place rest kind (line ∷ lines) lead is (after_end at some) = subst (λ p. Next p line lead.0) at lead.1.is
 
 -- where its lines are lawful, an answer's text is not refused

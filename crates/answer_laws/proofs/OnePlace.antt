@@ -14,7 +14,7 @@ use Rattle.answer_lines.specs.Grammar.{Place, AtHead, AtVerdict, AtCosts, AtSect
 use Rattle.evidence_text.specs.Parts.{part_word, no_tree_line, tree_line, interface_line}
 use Rattle.evidence_text.specs.declared.TreePart.{TreePart}
 use Rattle.evidence_text.specs.declared.TreePart.TheVariants.{Proof, Unfinished}
-use Rattle.answer_lines.proofs.Chains.{head-is, tail-is}
+use Rattle.answer_lines.proofs.ListParts.{head-is, tail-is}
 use Rattle.answer_lines.proofs.LineWords.{tree-words}
 
 -- one line doesn't begin with two bytes
@@ -59,7 +59,8 @@ again-line : (before : Option (List ℕ)) (line : List ℕ) (next : Place) → I
 again-line None line next again = absurd again
 again-line (Some router) line next again = (again.name, again.is)
 
-again-once : (before : Option (List ℕ)) (line : List ℕ) (next other : Place) → IsInterfaceAgain before line next → IsInterfaceAgain before line other → next ≡ other
+again-once : (before : Option (List ℕ)) (line : List ℕ) (next other : Place) → IsInterfaceAgain before line next →
+    IsInterfaceAgain before line other → next ≡ other
 again-once None line next other a b = absurd a
 again-once (Some router) line next other a b = a.leads ∙ sym b.leads
 
@@ -72,7 +73,8 @@ router-floor before line next other a b = first-apart line 114 102 _ _ (λ e. om
 again-floor : (before : Option (List ℕ)) (line : List ℕ) (next other : Place) → IsInterfaceAgain before line next → IsFloorNext line other → ⊥
 again-floor before line next other a b = first-apart line 105 102 _ _ (λ e. omega arith) (again-line before line next a).1 b.is
 
-sections-once : (before : Option (List ℕ)) (line : List ℕ) (next other : Place) → Next (AtSections before) line next → Next (AtSections before) line other → next ≡ other
+sections-once : (before : Option (List ℕ)) (line : List ℕ) (next other : Place) → Next (AtSections before) line next →
+    Next (AtSections before) line other → next ≡ other
 sections-once before line next other (inl a) (inl b) = a.leads ∙ ap AtInterface (behind-front line (codes "router ") a.name b.name a.is b.is) ∙ sym b.leads
 sections-once before line next other (inl a) (inr (inl b)) = absurd (router-again before line next other a b)
 sections-once before line next other (inl a) (inr (inr b)) = absurd (router-floor before line next other a b)
@@ -90,11 +92,13 @@ none-words Unfinished = refl
 
 none-tree : (line : List ℕ) (part : TreePart) (cap count : ℕ) → line ≡ no_tree_line part → line ≡ tree_line part cap count → ⊥
 none-tree line part cap count first second =
-    let words : part_word part ∷ codes "none" ∷ [] ≡ part_word part ∷ decimal cap ∷ decimal count ∷ [] = sym (none-words part) ∙ ap (split 32) (sym first) ∙ tree-words line part cap count second in
+    let words : part_word part ∷ codes "none" ∷ [] ≡ part_word part ∷ decimal cap ∷ decimal count ∷ [] =
+    sym (none-words part) ∙ ap (split 32) (sym first) ∙ tree-words line part cap count second in
     omega (arith, ap length words)
 
 -- one number of lines
-count-same : (line : List ℕ) (part : TreePart) (cap count lowest lines : ℕ) → line ≡ tree_line part cap count → line ≡ tree_line part lowest lines → count ≡ lines
+count-same : (line : List ℕ) (part : TreePart) (cap count lowest lines : ℕ) → line ≡ tree_line part cap count →
+    line ≡ tree_line part lowest lines → count ≡ lines
 count-same line part cap count lowest lines first second =
     decimal-same count lines
     (head-is _ _ _ _ (tail-is _ _ _ _ (tail-is _ _ _ _ (sym (tree-words line part cap count first) ∙ tree-words line part lowest lines second))))

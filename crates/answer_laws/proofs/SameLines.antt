@@ -18,7 +18,7 @@ use Rattle.text_lines.proofs.Printed.{decimal-same}
 use Rattle.answer_lines.specs.Grammar.{router_line}
 use Rattle.evidence_text.specs.Parts.{interface_line, cost_line, floor_line, rows_lines}
 use Rattle.answer_lines.specs.Words.{IsSpaceless}
-use Rattle.answer_lines.proofs.Chains.{head-is, tail-is}
+use Rattle.answer_lines.proofs.ListParts.{head-is, tail-is}
 use Rattle.answer_lines.proofs.SpacedWords.{spaceless-from, decimal-spaceless}
 use Rattle.answer_laws.specs.Laws.{without_start}
 use Rattle.answer_laws.proofs.SameWords.{no_digits, second-same, later-same, floor-same, row-same, entry-same}
@@ -44,12 +44,15 @@ split-off before line lines rest = cases before
     either true = refl
     either false = refl
 
-    cases : (before : Option (List ℕ)) → cost_lines before (line ∷ lines) ++ rest ≡ section (is_same before line.router) line (cost_lines (Some line.router) lines ++ rest)
+    cases : (before : Option (List ℕ)) →
+        cost_lines before (line ∷ lines) ++ rest ≡ section (is_same before line.router) line
+        (cost_lines (Some line.router) lines ++ rest)
     cases None = refl
     cases (Some b) = either (same_bytes b line.router)
 
 -- no section begins as a floor does
-no_floor : (same : Bool) (line : CostLine) (rest : List (List ℕ)) (floor : Floor) (others : List (List ℕ)) → section same line rest ≡ floor_line floor ∷ others → ⊥
+no_floor : (same : Bool) (line : CostLine) (rest : List (List ℕ)) (floor : Floor) (others : List (List ℕ)) →
+    section same line rest ≡ floor_line floor ∷ others → ⊥
 no_floor true line rest floor others e = omega (arith, ap first_byte e)
 no_floor false line rest floor others e = omega (arith, ap first_byte e)
 
@@ -70,10 +73,13 @@ behind-router : (l m : CostLine) (r s : List (List ℕ)) → l.router ≡ m.rout
 behind-router l m r s router e =
     let interface : l.interface ≡ m.interface = second-same (codes "interface") l.interface m.interface (head-is _ _ _ _ e) in
     let others = tail-is _ _ _ _ e in
-    let number : l.cost ≡ m.cost = decimal-same l.cost m.cost (append_cancel_left (codes " ip ospf cost ") (decimal l.cost) (decimal m.cost) (head-is _ _ _ _ others)) in
+    let number : l.cost ≡ m.cost =
+    decimal-same l.cost m.cost
+    (append_cancel_left (codes " ip ospf cost ") (decimal l.cost) (decimal m.cost) (head-is _ _ _ _ others)) in
     (cost-same l m router interface number, tail-is _ _ _ _ (tail-is _ _ _ _ others))
 
-section-same : (before : Option (List ℕ)) (l m : CostLine) (r s : List (List ℕ)) (x y : Bool) → is_same before l.router ≡ x → is_same before m.router ≡ y → section x l r ≡ section y m s → (l ≡ m) × (r ≡ s)
+section-same : (before : Option (List ℕ)) (l m : CostLine) (r s : List (List ℕ)) (x y : Bool) →
+    is_same before l.router ≡ x → is_same before m.router ≡ y → section x l r ≡ section y m s → (l ≡ m) × (r ≡ s)
 section-same before l m r s true true first second e = behind-router l m r s (one-router before l.router m.router first second) e
 section-same before l m r s false false first second e =
     behind-router l m r s (second-same (codes "router") l.router m.router (head-is _ _ _ _ e)) (tail-is _ _ _ _ e)
@@ -87,21 +93,32 @@ sections-same before [] [] f g r s e = (refl, e)
 sections-same before [] (m ∷ ms) f g r s e = absurd (no_floor (is_same before m.router) m _ f r (sym (split-off before m ms (floor_line g ∷ s)) ∙ sym e))
 sections-same before (l ∷ ls) [] f g r s e = absurd (no_floor (is_same before l.router) l _ g s (sym (split-off before l ls (floor_line f ∷ r)) ∙ e))
 sections-same before (l ∷ ls) (m ∷ ms) f g r s e =
-    let cut = section-same before l m (cost_lines (Some l.router) ls ++ (floor_line f ∷ r)) (cost_lines (Some m.router) ms ++ (floor_line g ∷ s)) (is_same before l.router) (is_same before m.router) refl refl
+    let cut = section-same before l m (cost_lines (Some l.router) ls ++ (floor_line f ∷ r))
+    (cost_lines (Some m.router) ms ++ (floor_line g ∷ s)) (is_same before l.router)
+    (is_same before m.router) refl refl
     (sym (split-off before l ls (floor_line f ∷ r)) ∙ e ∙ split-off before m ms (floor_line g ∷ s)) in
-    let rest = sections-same (Some l.router) ls ms f g r s (cut.1 ∙ ap (λ (line : CostLine). cost_lines (Some line.router) ms ++ (floor_line g ∷ s)) (sym cut.0)) in
+    let rest = sections-same (Some l.router) ls ms f g r s
+    (cut.1 ∙ ap (λ (line : CostLine). cost_lines (Some line.router) ms ++ (floor_line g ∷ s)) (sym cut.0)) in
     (ap (λ line. line ∷ ls) cut.0 ∙ ap (λ l. m ∷ l) rest.0, rest.1)
 
 abbrev costs : ℕ → List CostLine → Option Costs
 costs greatest lines = Some (record { greatest = greatest; lines = lines })
 
 -- the costs and the floor behind them
-pub costs-same : (c d : Option Costs) (f g : Floor) (r s : List (List ℕ)) → costs_lines c ++ (floor_line f ∷ r) ≡ costs_lines d ++ (floor_line g ∷ s) → (c ≡ d) × (floor_line f ∷ r ≡ floor_line g ∷ s)
+pub costs-same : (c d : Option Costs) (f g : Floor) (r s : List (List ℕ)) →
+    costs_lines c ++ (floor_line f ∷ r) ≡ costs_lines d ++ (floor_line g ∷ s) →
+    (c ≡ d) × (floor_line f ∷ r ≡ floor_line g ∷ s)
 costs-same None None f g r s e = (refl, tail-is _ _ _ _ e)
-costs-same None (Some d) f g r s e = absurd (no_digits (codes "none") d.greatest refl (second-same (codes "costs") (codes "none") (decimal d.greatest) (head-is _ _ _ _ e)))
-costs-same (Some c) None f g r s e = absurd (no_digits (codes "none") c.greatest refl (second-same (codes "costs") (codes "none") (decimal c.greatest) (sym (head-is _ _ _ _ e))))
+costs-same None (Some d) f g r s e =
+    absurd (no_digits (codes "none") d.greatest refl
+    (second-same (codes "costs") (codes "none") (decimal d.greatest) (head-is _ _ _ _ e)))
+costs-same (Some c) None f g r s e =
+    absurd (no_digits (codes "none") c.greatest refl
+    (second-same (codes "costs") (codes "none") (decimal c.greatest) (sym (head-is _ _ _ _ e))))
 costs-same (Some c) (Some d) f g r s e =
-    let greatest : c.greatest ≡ d.greatest = decimal-same c.greatest d.greatest (second-same (codes "costs") (decimal c.greatest) (decimal d.greatest) (head-is _ _ _ _ e)) in
+    let greatest : c.greatest ≡ d.greatest =
+    decimal-same c.greatest d.greatest
+    (second-same (codes "costs") (decimal c.greatest) (decimal d.greatest) (head-is _ _ _ _ e)) in
     let rest = sections-same None c.lines d.lines f g r s (tail-is _ _ _ _ e) in
     (ap (λ n. costs n c.lines) greatest ∙ ap (costs d.greatest) rest.0, rest.1)
 
@@ -109,7 +126,8 @@ pub floor_line-same : (f g : Floor) → floor_line f ≡ floor_line g → f ≡ 
 floor_line-same f g e = floor-same f g (second-same (codes "floor") _ _ e)
 
 -- equally many lines, of which each tells its own
-each-same : {A B : Type 0} (line : A → List ℕ) (key : A → B) → ((x y : A) → line x ≡ line y → key x ≡ key y) → (xs ys : List A) (r s : List (List ℕ)) → length xs ≡ length ys →
+each-same : {A B : Type 0} (line : A → List ℕ) (key : A → B) → ((x y : A) → line x ≡ line y → key x ≡ key y) →
+    (xs ys : List A) (r s : List (List ℕ)) → length xs ≡ length ys →
     map line xs ++ r ≡ map line ys ++ s → (map key xs ≡ map key ys) × (r ≡ s)
 each-same line key tells [] [] r s counted e = (refl, e)
 each-same line key tells [] (y ∷ ys) r s counted e = absurd (omega (arith, counted))
@@ -134,21 +152,29 @@ abbrev tree : ℕ → List Entry → Option CapTree
 tree cap entries = Some (record { cap = cap; tree = entries })
 
 no-tree-spaceless : (word : List ℕ) → IsSpaceless word → All IsSpaceless (word ∷ codes "none" ∷ [])
-no-tree-spaceless word plain = All-cons IsSpaceless word (codes "none" ∷ []) plain (All-cons IsSpaceless (codes "none") [] (spaceless-from (codes "none") refl) (All-nil IsSpaceless))
+no-tree-spaceless word plain =
+    All-cons IsSpaceless word (codes "none" ∷ []) plain
+    (All-cons IsSpaceless (codes "none") [] (spaceless-from (codes "none") refl) (All-nil IsSpaceless))
 
 tree-spaceless : (word : List ℕ) (t : CapTree) → IsSpaceless word → All IsSpaceless (word ∷ decimal t.cap ∷ decimal (length t.tree) ∷ [])
 tree-spaceless word t plain =
     All-cons IsSpaceless word (decimal t.cap ∷ decimal (length t.tree) ∷ []) plain
-    (All-cons IsSpaceless (decimal t.cap) (decimal (length t.tree) ∷ []) (decimal-spaceless t.cap) (All-cons IsSpaceless (decimal (length t.tree)) [] (decimal-spaceless (length t.tree)) (All-nil IsSpaceless)))
+    (All-cons IsSpaceless (decimal t.cap) (decimal (length t.tree) ∷ []) (decimal-spaceless t.cap)
+    (All-cons IsSpaceless (decimal (length t.tree)) [] (decimal-spaceless (length t.tree)) (All-nil IsSpaceless)))
 
-pub tree-same : (word : List ℕ) → IsSpaceless word → (t u : Option CapTree) (r s : List (List ℕ)) → tree_lines word t ++ r ≡ tree_lines word u ++ s → (t ≡ u) × (r ≡ s)
+pub tree-same : (word : List ℕ) → IsSpaceless word → (t u : Option CapTree) (r s : List (List ℕ)) →
+    tree_lines word t ++ r ≡ tree_lines word u ++ s → (t ≡ u) × (r ≡ s)
 tree-same word plain None None r s e = (refl, tail-is _ _ _ _ e)
 tree-same word plain None (Some u) r s e =
-    absurd (cc (later-same word (codes "none" ∷ []) (decimal u.cap ∷ decimal (length u.tree) ∷ []) (no-tree-spaceless word plain) (tree-spaceless word u plain) (head-is _ _ _ _ e)))
+    absurd (cc (later-same word (codes "none" ∷ []) (decimal u.cap ∷ decimal (length u.tree) ∷ [])
+    (no-tree-spaceless word plain) (tree-spaceless word u plain) (head-is _ _ _ _ e)))
 tree-same word plain (Some t) None r s e =
-    absurd (cc (later-same word (decimal t.cap ∷ decimal (length t.tree) ∷ []) (codes "none" ∷ []) (tree-spaceless word t plain) (no-tree-spaceless word plain) (head-is _ _ _ _ e)))
+    absurd (cc (later-same word (decimal t.cap ∷ decimal (length t.tree) ∷ []) (codes "none" ∷ [])
+    (tree-spaceless word t plain) (no-tree-spaceless word plain) (head-is _ _ _ _ e)))
 tree-same word plain (Some t) (Some u) r s e =
-    let words = later-same word (decimal t.cap ∷ decimal (length t.tree) ∷ []) (decimal u.cap ∷ decimal (length u.tree) ∷ []) (tree-spaceless word t plain) (tree-spaceless word u plain) (head-is _ _ _ _ e) in
+    let words = later-same word (decimal t.cap ∷ decimal (length t.tree) ∷ [])
+    (decimal u.cap ∷ decimal (length u.tree) ∷ []) (tree-spaceless word t plain) (tree-spaceless word u plain)
+    (head-is _ _ _ _ e) in
     let cap : t.cap ≡ u.cap = decimal-same t.cap u.cap (head-is _ _ _ _ words) in
     let counted : length t.tree ≡ length u.tree = decimal-same (length t.tree) (length u.tree) (head-is _ _ _ _ (tail-is _ _ _ _ words)) in
     let rest = entries-same t.tree u.tree r s counted (tail-is _ _ _ _ e) in

@@ -26,7 +26,7 @@ use Rattle.text_lines.specs.Lines.{grow}
 use Rattle.text_lines.specs.Numbers.{split}
 use Rattle.text_lines.proofs.Printed.{decimal-digits, decimal_value-decimal}
 use Rattle.answer_lines.specs.Words.{IsSpaceless, entry_words}
-use Rattle.answer_lines.proofs.Chains.{tail-is, not-both}
+use Rattle.answer_lines.proofs.ListParts.{tail-is, not-both}
 use Rattle.answer_lines.proofs.EntryWords.{entry_line-words}
 use Rattle.answer_lines.proofs.LineEntries.{pieces-entry}
 use Rattle.answer_lines.proofs.LineFronts.{split-front}
@@ -72,7 +72,9 @@ verdict-spaceless verdict = All-cons IsSpaceless (codes "verdict") (verdict_word
 
 pub verdict-same : (v w : Verdict) → spaced (codes "verdict" ∷ verdict_words v) ≡ spaced (codes "verdict" ∷ verdict_words w) → v ≡ w
 verdict-same v w e =
-    sym (verdict-back v) ∙ ap verdict_of (later-same (codes "verdict") (verdict_words v) (verdict_words w) (verdict-spaceless v) (verdict-spaceless w) e) ∙ verdict-back w
+    sym (verdict-back v) ∙ ap verdict_of
+    (later-same (codes "verdict") (verdict_words v) (verdict_words w) (verdict-spaceless v) (verdict-spaceless w) e)
+    ∙ verdict-back w
 
 abbrev floor_of : List ℕ → Floor
 floor_of w = cond (list_all is_digit w) (Var (decimal_value w)) (cond (same_bytes w (codes "none")) Absent Empty)
@@ -99,7 +101,8 @@ row_of (request ∷ edges) = record { request = request; rival = record { start 
 -- a row's line tells all but the start of its rival
 pub row-same : (r s : Row) → row_line r ≡ row_line s → without_start r ≡ without_start s
 row-same r s e =
-    let words : map decimal (r.request ∷ r.rival.edges) ≡ map decimal (s.request ∷ s.rival.edges) = tail-is _ _ _ _ (sym (row-words (row_line r) r refl) ∙ row-words (row_line r) s e) in
+    let words : map decimal (r.request ∷ r.rival.edges) ≡ map decimal (s.request ∷ s.rival.edges) =
+    tail-is _ _ _ _ (sym (row-words (row_line r) r refl) ∙ row-words (row_line r) s e) in
     ap row_of (numbers-same (r.request ∷ r.rival.edges) (s.request ∷ s.rival.edges) words)
 
 abbrev side_of : List ℕ → Side
@@ -111,7 +114,10 @@ side-back HighSide = refl
 
 abbrev step_of : List ℕ → StepName
 step_of w =
-    cond (same_bytes w (codes "add")) Add (cond (same_bytes w (codes "sub")) Sub (cond (same_bytes w (codes "mul")) Mul (cond (same_bytes w (codes "div")) Div (cond (same_bytes w (codes "lcm")) Lcm Scale))))
+    cond (same_bytes w (codes "add")) Add
+    (cond (same_bytes w (codes "sub")) Sub
+    (cond (same_bytes w (codes "mul")) Mul
+    (cond (same_bytes w (codes "div")) Div (cond (same_bytes w (codes "lcm")) Lcm Scale))))
 
 step-back : (step : StepName) → step_of (step_word step) ≡ step
 step-back Add = refl
@@ -191,9 +197,15 @@ members-back [] = refl
 members-back (Low v b ∷ ms) = ap (λ m. m ∷ members_of (members_words ms)) (bound-back Low v b) ∙ ap (λ l. Low v b ∷ l) (members-back ms)
 members-back (High v b ∷ ms) = ap (λ m. m ∷ members_of (members_words ms)) (bound-back High v b) ∙ ap (λ l. High v b ∷ l) (members-back ms)
 members-back (ByRow row ∷ []) = ap (λ r. ByRow r ∷ []) (decimal_value-decimal row)
-members-back (ByRow row ∷ Low v b ∷ ms) = ap (λ r. ByRow r ∷ members_of (members_words (Low v b ∷ ms))) (decimal_value-decimal row) ∙ ap (λ l. ByRow row ∷ l) (members-back (Low v b ∷ ms))
-members-back (ByRow row ∷ High v b ∷ ms) = ap (λ r. ByRow r ∷ members_of (members_words (High v b ∷ ms))) (decimal_value-decimal row) ∙ ap (λ l. ByRow row ∷ l) (members-back (High v b ∷ ms))
-members-back (ByRow row ∷ ByRow s ∷ ms) = ap (λ r. ByRow r ∷ members_of (members_words (ByRow s ∷ ms))) (decimal_value-decimal row) ∙ ap (λ l. ByRow row ∷ l) (members-back (ByRow s ∷ ms))
+members-back (ByRow row ∷ Low v b ∷ ms) =
+    ap (λ r. ByRow r ∷ members_of (members_words (Low v b ∷ ms))) (decimal_value-decimal row)
+    ∙ ap (λ l. ByRow row ∷ l) (members-back (Low v b ∷ ms))
+members-back (ByRow row ∷ High v b ∷ ms) =
+    ap (λ r. ByRow r ∷ members_of (members_words (High v b ∷ ms))) (decimal_value-decimal row)
+    ∙ ap (λ l. ByRow row ∷ l) (members-back (High v b ∷ ms))
+members-back (ByRow row ∷ ByRow s ∷ ms) =
+    ap (λ r. ByRow r ∷ members_of (members_words (ByRow s ∷ ms))) (decimal_value-decimal row)
+    ∙ ap (λ l. ByRow row ∷ l) (members-back (ByRow s ∷ ms))
 
 abbrev parts_of : List (List ℕ) → List (ℕ × ℕ)
 parts_of [] = []
@@ -203,7 +215,8 @@ parts_of (a ∷ b ∷ rest) = (decimal_value a, decimal_value b) ∷ parts_of re
 parts-back : (ps : List (ℕ × ℕ)) → parts_of (part_words ps) ≡ ps
 parts-back [] = refl
 parts-back (p ∷ ps) =
-    ap (λ x. (x, decimal_value (decimal p.1)) ∷ parts_of (part_words ps)) (decimal_value-decimal p.0) ∙ ap (λ y. (p.0, y) ∷ parts_of (part_words ps)) (decimal_value-decimal p.1) ∙ ap (λ l. p ∷ l) (parts-back ps)
+    ap (λ x. (x, decimal_value (decimal p.1)) ∷ parts_of (part_words ps)) (decimal_value-decimal p.0)
+    ∙ ap (λ y. (p.0, y) ∷ parts_of (part_words ps)) (decimal_value-decimal p.1) ∙ ap (λ l. p ∷ l) (parts-back ps)
 
 abbrev wide_at : StepName → Ratio → Ratio → List Member → WideAt
 wide_at step left right basis = record { step = step; left = left; right = right; basis = basis }
@@ -217,7 +230,9 @@ split_of (v ∷ b ∷ []) = Split (decimal_value v) (decimal_value b)
 split_of _ = Undone
 
 abbrev halve_of : List (List ℕ) → Entry
-halve_of (v ∷ b ∷ step ∷ left ∷ right ∷ basis) = Halve (decimal_value v) (decimal_value b) (wide_at (step_of step) (ratio_of left) (ratio_of right) (members_of basis))
+halve_of (v ∷ b ∷ step ∷ left ∷ right ∷ basis) =
+    Halve (decimal_value v) (decimal_value b)
+    (wide_at (step_of step) (ratio_of left) (ratio_of right) (members_of basis))
 halve_of _ = Undone
 
 -- the entry that words say
@@ -236,8 +251,11 @@ entry-back (Tighten v side b row) =
 entry-back (Split v b) = ap (λ x. Split x (decimal_value (decimal b))) (decimal_value-decimal v) ∙ ap (Split v) (decimal_value-decimal b)
 entry-back (Halve v b wide) =
     let basis : List Member = members_of (members_words wide.basis) in
-    ap (λ x. Halve x (decimal_value (decimal b)) (wide_at (step_of (step_word wide.step)) (ratio_of (ratio_word wide.left)) (ratio_of (ratio_word wide.right)) basis)) (decimal_value-decimal v)
-    ∙ ap (λ x. Halve v x (wide_at (step_of (step_word wide.step)) (ratio_of (ratio_word wide.left)) (ratio_of (ratio_word wide.right)) basis)) (decimal_value-decimal b)
+    ap (λ x. Halve x (decimal_value (decimal b))
+    (wide_at (step_of (step_word wide.step)) (ratio_of (ratio_word wide.left)) (ratio_of (ratio_word wide.right))
+    basis)) (decimal_value-decimal v)
+    ∙ ap (λ x. Halve v x (wide_at (step_of (step_word wide.step)) (ratio_of (ratio_word wide.left))
+    (ratio_of (ratio_word wide.right)) basis)) (decimal_value-decimal b)
     ∙ ap (λ s. Halve v b (wide_at s (ratio_of (ratio_word wide.left)) (ratio_of (ratio_word wide.right)) basis)) (step-back wide.step)
     ∙ ap (λ q. Halve v b (wide_at wide.step q (ratio_of (ratio_word wide.right)) basis)) (ratio-back wide.left)
     ∙ ap (λ q. Halve v b (wide_at wide.step wide.left q basis)) (ratio-back wide.right)

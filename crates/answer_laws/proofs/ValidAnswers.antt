@@ -28,14 +28,19 @@ forms_without p (row ∷ rows) = ap (λ (forms : List Form). form_of_row p row �
 -- and are rows where those with starts are, and the other way round
 rows_without : (p : DesignProblem) (rows : List Row) → All (IsRow p) rows → All (IsRow p) (map without_start rows)
 rows_without p [] all = All-nil (IsRow p)
-rows_without p (row ∷ rows) all = All-cons (IsRow p) (without_start row) (map without_start rows) (All-head (IsRow p) row rows all) (rows_without p rows (All-tail (IsRow p) row rows all))
+rows_without p (row ∷ rows) all =
+    All-cons (IsRow p) (without_start row) (map without_start rows) (All-head (IsRow p) row rows all)
+    (rows_without p rows (All-tail (IsRow p) row rows all))
 
 rows_with : (p : DesignProblem) (rows : List Row) → All (IsRow p) (map without_start rows) → All (IsRow p) rows
 rows_with p [] all = All-nil (IsRow p)
-rows_with p (row ∷ rows) all = All-cons (IsRow p) row rows (All-head (IsRow p) (without_start row) (map without_start rows) all) (rows_with p rows (All-tail (IsRow p) (without_start row) (map without_start rows) all))
+rows_with p (row ∷ rows) all =
+    All-cons (IsRow p) row rows (All-head (IsRow p) (without_start row) (map without_start rows) all)
+    (rows_with p rows (All-tail (IsRow p) (without_start row) (map without_start rows) all))
 
 -- what a tree proves depends on the forms of the rows alone
-proves_by_forms : (p : DesignProblem) (rows others : List Row) (cap : ℕ) (proof : CapTree) → forms_of_rows p rows ≡ forms_of_rows p others → Proves p rows cap proof → Proves p others cap proof
+proves_by_forms : (p : DesignProblem) (rows others : List Row) (cap : ℕ) (proof : CapTree) →
+    forms_of_rows p rows ≡ forms_of_rows p others → Proves p rows cap proof → Proves p others cap proof
 proves_by_forms p rows others cap proof same proves = record {
   at_cap = proves.at_cap;
   no_higher = proves.no_higher;
@@ -43,7 +48,8 @@ proves_by_forms p rows others cap proof same proves = record {
   closed = proves.closed;
 }
 
-least_by_forms : (p : DesignProblem) (rows others : List Row) (k : ℕ) (floor : Floor) (proof : Option CapTree) → forms_of_rows p rows ≡ forms_of_rows p others → ShowsLeast p rows k floor proof → ShowsLeast p others k floor proof
+least_by_forms : (p : DesignProblem) (rows others : List Row) (k : ℕ) (floor : Floor) (proof : Option CapTree) →
+    forms_of_rows p rows ≡ forms_of_rows p others → ShowsLeast p rows k floor proof → ShowsLeast p others k floor proof
 least_by_forms p rows others k Absent (Some proof) same shows = (shows.0, shows.1, proves_by_forms p rows others shows.0 proof same shows.2)
 least_by_forms p rows others k Absent None same shows = shows
 least_by_forms p rows others k Empty None same shows = shows
@@ -51,7 +57,9 @@ least_by_forms p rows others k (Var v) None same shows = shows
 least_by_forms p rows others k Empty (Some proof) same shows = shows
 least_by_forms p rows others k (Var v) (Some proof) same shows = shows
 
-claim_by_forms : (p : DesignProblem) (rows others : List Row) (verdict : Verdict) (costs : Option Costs) (floor : Floor) (proof : Option CapTree) → forms_of_rows p rows ≡ forms_of_rows p others → ClaimHolds p rows verdict costs floor proof → ClaimHolds p others verdict costs floor proof
+claim_by_forms : (p : DesignProblem) (rows others : List Row) (verdict : Verdict) (costs : Option Costs) (floor : Floor)
+    (proof : Option CapTree) → forms_of_rows p rows ≡ forms_of_rows p others →
+    ClaimHolds p rows verdict costs floor proof → ClaimHolds p others verdict costs floor proof
 claim_by_forms p rows others (Optimal k) (Some costs) floor proof same claim = (claim.0, least_by_forms p rows others k floor proof same claim.1)
 claim_by_forms p rows others Impossible None Absent (Some proof) same claim = proves_by_forms p rows others _ proof same claim
 claim_by_forms p rows others _ _ _ _ same claim = absurd claim
@@ -75,7 +83,8 @@ valid_up_to_starts : (p : DesignProblem) (a b : AnswerParts) → without_starts 
 valid_up_to_starts p a b same valid = valid_with p b (subst (IsValid p) same (valid_without p a valid))
 
 pub refused_invalid : RefusedTextsAreInvalid
-refused_invalid p bytes kind line refused a value same valid = texts_read a kind line value (subst (λ (b : List ℕ). IsRefused AtHead 0 b kind line) same refused)
+refused_invalid p bytes kind line refused a value same valid =
+    texts_read a kind line value (subst (λ (b : List ℕ). IsRefused AtHead 0 b kind line) same refused)
 
 pub invalid_stays : InvalidAnswersStayInvalid
 invalid_stays p a fits invalid b value same valid = invalid (valid_up_to_starts p b a (texts_tell b a value.fits fits (sym same)) valid)

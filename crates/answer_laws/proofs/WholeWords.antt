@@ -84,7 +84,8 @@ integer-whole (negsuc n) = All-cons IsNoLF 45 (decimal (n + 1)) refl (number-who
 
 pub ratio-whole : (q : Ratio) → IsOneLine (ratio_word q)
 ratio-whole q =
-    All-append IsNoLF (integer q.numerator) (47 ∷ integer q.denominator) (integer-whole q.numerator) (All-cons IsNoLF 47 (integer q.denominator) refl (integer-whole q.denominator))
+    All-append IsNoLF (integer q.numerator) (47 ∷ integer q.denominator) (integer-whole q.numerator)
+    (All-cons IsNoLF 47 (integer q.denominator) refl (integer-whole q.denominator))
 
 pub members-whole : (ms : List Member) → AreWhole (members_words ms)
 members-whole [] = tt
@@ -99,8 +100,16 @@ parts-whole (p ∷ ps) = (number-whole p.0, (number-whole p.1, parts-whole ps))
 pub entry-whole : (entry : Entry) → AreWhole (entry_words entry)
 entry-whole (Tighten v side b row) = (written (codes "tighten") refl, (number-whole v, (side-whole side, (number-whole b, (number-whole row, tt)))))
 entry-whole (Split v b) = (written (codes "split") refl, (number-whole v, (number-whole b, tt)))
-entry-whole (Halve v b wide) =
-    (written (codes "halve") refl, (number-whole v, (number-whole b, (step-whole wide.step, (ratio-whole wide.left, (ratio-whole wide.right, members-whole wide.basis))))))
+entry-whole (Halve v b wide) = (
+  written (codes "halve") refl,
+  (
+    number-whole v,
+    (
+      number-whole b,
+      (step-whole wide.step, (ratio-whole wide.left, (ratio-whole wide.right, members-whole wide.basis))),
+    ),
+  ),
+)
 entry-whole (Refute parts) = (written (codes "refute") refl, parts-whole parts)
 entry-whole Undone = (written (codes "open") refl, tt)
 

@@ -2,6 +2,7 @@
 use Rattle.std.proofs.Common.{◌≡◌, ◌≢◌, ℕ, ◌<◌, ◌≤◌, ◌^◌, List, [], ◌∷◌, ◌++◌, All, length, codes, MatchOption, Option, Some, None, arith, refl, sym, ap, subst, ◌∙◌, append_assoc}
 use Rattle.std.proofs.lemmas.List.Elements.{All-head, All-tail}
 use Rattle.cost_base.specs.Decimal.{decimal}
+use Rattle.cost_base.proofs.ListLemmas.{All-right}
 use Rattle.text_lines.proofs.Printed.{decimal-same}
 use Rattle.path_rows.specs.declared.tree.Side.{Side}
 use Rattle.path_rows.specs.declared.tree.Side.TheVariants.{Low as LowSide, High as HighSide}
@@ -18,7 +19,7 @@ use Rattle.std.specs.Prelude.{AllPairs}
 use Rattle.answer_lines.specs.declared.entries.HalveFront.{HalveFront}
 use Rattle.answer_lines.specs.Fronts.{IsHalveFront, front_words}
 use Rattle.answer_lines.proofs.PartOrder.{behind_all}
-use Rattle.answer_lines.proofs.Chains.{head-is, tail-is}
+use Rattle.answer_lines.proofs.ListParts.{head-is, tail-is}
 
 -- a tree line is its words with spaces between
 pub entry_line-words : (entry : Entry) → entry_line entry ≡ spaced (entry_words entry)
@@ -32,7 +33,9 @@ other_kind : (a b : ℕ) (xs ys : List ℕ) (us vs : List (List ℕ)) → (a ≡
 other_kind a b xs ys us vs differ e = differ (head-is a b xs ys (head-is (a ∷ xs) (b ∷ ys) us vs e))
 
 -- words that say no Tighten say nothing behind its name
-pub only_tighten : (ws : List (List ℕ)) → ((v : ℕ) (side : Side) (b row : ℕ) → IsThing v → IsCost b → IsRowNumber row → ws ≢ decimal v ∷ side_word side ∷ decimal b ∷ decimal row ∷ []) → SaysNoEntry (codes "tighten" ∷ ws)
+pub only_tighten : (ws : List (List ℕ)) →
+    ((v : ℕ) (side : Side) (b row : ℕ) → IsThing v → IsCost b → IsRowNumber row →
+    ws ≢ decimal v ∷ side_word side ∷ decimal b ∷ decimal row ∷ []) → SaysNoEntry (codes "tighten" ∷ ws)
 only_tighten ws h (Tighten v side b row) says = h v side b row says.bounds.0 says.bounds.1 says.bounds.2 (tail-is _ _ _ _ says.is)
 only_tighten ws h (Split v b) says = other_kind 116 115 _ _ _ _ (λ e. omega arith) says.is
 only_tighten ws h (Halve v b wide) says = other_kind 116 104 _ _ _ _ (λ e. omega arith) says.is
@@ -40,7 +43,10 @@ only_tighten ws h (Refute parts) says = other_kind 116 114 _ _ _ _ (λ e. omega 
 only_tighten ws h Undone says = other_kind 116 111 _ _ _ _ (λ e. omega arith) says.is
 
 -- words that say no Halve say nothing behind its name
-pub only_halve : (ws : List (List ℕ)) → ((v b : ℕ) (wide : WideAt) → BoundsEntry (Halve v b wide) → FitsEntry (Halve v b wide) → ws ≢ decimal v ∷ decimal b ∷ step_word wide.step ∷ ratio_word wide.left ∷ ratio_word wide.right ∷ members_words wide.basis) → SaysNoEntry (codes "halve" ∷ ws)
+pub only_halve : (ws : List (List ℕ)) →
+    ((v b : ℕ) (wide : WideAt) → BoundsEntry (Halve v b wide) → FitsEntry (Halve v b wide) →
+    ws ≢ decimal v ∷ decimal b ∷ step_word wide.step ∷ ratio_word wide.left ∷ ratio_word wide.right
+    ∷ members_words wide.basis) → SaysNoEntry (codes "halve" ∷ ws)
 only_halve ws h (Tighten v side b row) says = other_kind 104 116 _ _ _ _ (λ e. omega arith) says.is
 only_halve ws h (Split v b) says = other_kind 104 115 _ _ _ _ (λ e. omega arith) says.is
 only_halve ws h (Halve v b wide) says = h v b wide says.bounds says.fits (tail-is _ _ _ _ says.is)
@@ -48,7 +54,9 @@ only_halve ws h (Refute parts) says = other_kind 104 114 _ _ _ _ (λ e. omega ar
 only_halve ws h Undone says = other_kind 104 111 _ _ _ _ (λ e. omega arith) says.is
 
 -- words that say no Refute say nothing behind its name
-pub only_refute : (ws : List (List ℕ)) → ((ps : List (ℕ × ℕ)) → BoundsParts ps → ps ≢ [] → All (λ part. part.1 < 10 ^ 31) ps → ws ≢ part_words ps) → SaysNoEntry (codes "refute" ∷ ws)
+pub only_refute : (ws : List (List ℕ)) →
+    ((ps : List (ℕ × ℕ)) → BoundsParts ps → ps ≢ [] → All (λ part. part.1 < 10 ^ 31) ps → ws ≢ part_words ps) →
+    SaysNoEntry (codes "refute" ∷ ws)
 only_refute ws h (Tighten v side b row) says = other_kind 114 116 _ _ _ _ (λ e. omega arith) says.is
 only_refute ws h (Split v b) says = other_kind 114 115 _ _ _ _ (λ e. omega arith) says.is
 only_refute ws h (Halve v b wide) says = other_kind 114 104 _ _ _ _ (λ e. omega arith) says.is
@@ -56,11 +64,13 @@ only_refute ws h (Refute parts) says = h parts says.bounds says.fits.0 says.fits
 only_refute ws h Undone says = other_kind 114 111 _ _ _ _ (λ e. omega arith) says.is
 
 -- words along an equation
-pub says-along : (ws vs : List (List ℕ)) (o : Option Entry) → ws ≡ vs → MatchOption o (SaysNoEntry vs) (λ e. SaysEntry vs e) → MatchOption o (SaysNoEntry ws) (λ e. SaysEntry ws e)
+pub says-along : (ws vs : List (List ℕ)) (o : Option Entry) → ws ≡ vs →
+    MatchOption o (SaysNoEntry vs) (λ e. SaysEntry vs e) → MatchOption o (SaysNoEntry ws) (λ e. SaysEntry ws e)
 says-along ws vs o is h = subst (λ us. MatchOption o (SaysNoEntry us) (λ e. SaysEntry us e)) (sym is) h
 
 -- words that begin with no name of an entry say none
-pub no_kind : (ws : List (List ℕ)) (o : Option Entry) → ((rest : List (List ℕ)) → ws ≢ codes "tighten" ∷ rest) → ((rest : List (List ℕ)) → ws ≢ codes "split" ∷ rest) →
+pub no_kind : (ws : List (List ℕ)) (o : Option Entry) → ((rest : List (List ℕ)) → ws ≢ codes "tighten" ∷ rest) →
+    ((rest : List (List ℕ)) → ws ≢ codes "split" ∷ rest) →
     ((rest : List (List ℕ)) → ws ≢ codes "halve" ∷ rest) → ((rest : List (List ℕ)) → ws ≢ codes "refute" ∷ rest) →
     MatchOption o (ws ≢ codes "open" ∷ []) (λ e. SaysEntry ws e) → MatchOption o (SaysNoEntry ws) (λ e. SaysEntry ws e)
 no_kind ws (Some e) a b c d h = h
@@ -74,7 +84,8 @@ no_kind ws None a b c d h = none
     none Undone says = h says.is
 
 -- where words are neither a row nor begin with a side, they are no member
-pub no_member : (ws : List (List ℕ)) → ((rest : List (List ℕ)) → ws ≢ codes "row" ∷ rest) → ((side : Side) (rest : List (List ℕ)) → ws ≢ side_word side ∷ rest) →
+pub no_member : (ws : List (List ℕ)) → ((rest : List (List ℕ)) → ws ≢ codes "row" ∷ rest) →
+    ((side : Side) (rest : List (List ℕ)) → ws ≢ side_word side ∷ rest) →
     (m : Member) (rest : List (List ℕ)) → BoundsMember m → ws ≢ member_words m ++ rest
 no_member ws first second (Low v b) rest bounds e = second LowSide (decimal v ∷ decimal b ∷ rest) e
 no_member ws first second (High v b) rest bounds e = second HighSide (decimal v ∷ decimal b ∷ rest) e
@@ -88,7 +99,8 @@ side-row LowSide e = apart 108 114 (λ same. omega arith) (head-is 108 114 (code
 side-row HighSide e = apart 104 114 (λ same. omega arith) (head-is 104 114 (codes "igh") (codes "ow") e)
 
 -- where no two numbers follow a side, they are no member
-pub no_bound : (ws numbers : List (List ℕ)) (side : Side) → ws ≡ side_word side ∷ numbers → ((v b : ℕ) (rest : List (List ℕ)) → IsThing v → IsCost b → numbers ≢ decimal v ∷ decimal b ∷ rest) →
+pub no_bound : (ws numbers : List (List ℕ)) (side : Side) → ws ≡ side_word side ∷ numbers →
+    ((v b : ℕ) (rest : List (List ℕ)) → IsThing v → IsCost b → numbers ≢ decimal v ∷ decimal b ∷ rest) →
     (m : Member) (rest : List (List ℕ)) → BoundsMember m → ws ≢ member_words m ++ rest
 no_bound ws numbers side is none (Low v b) rest bounds e = none v b rest bounds.0 bounds.1 (tail-is _ _ _ _ (sym is ∙ e))
 no_bound ws numbers side is none (High v b) rest bounds e = none v b rest bounds.0 bounds.1 (tail-is _ _ _ _ (sym is ∙ e))
@@ -96,10 +108,12 @@ no_bound ws numbers side is none (Row row) rest bounds e = side-row side (head-i
 
 members_words-append : (xs ys : List Member) → members_words (xs ++ ys) ≡ members_words xs ++ members_words ys
 members_words-append [] ys = refl
-members_words-append (x ∷ xs) ys = ap (λ l. member_words x ++ l) (members_words-append xs ys) ∙ sym (append_assoc (member_words x) (members_words xs) (members_words ys))
+members_words-append (x ∷ xs) ys = ap (λ l. member_words x ++ l) (members_words-append xs ys)
+    ∙ sym (append_assoc (member_words x) (members_words xs) (members_words ys))
 
 -- one more member
-pub member_more : (words left rest : List (List ℕ)) (xs : List Member) (m : Member) → words ≡ members_words xs ++ left → left ≡ member_words m ++ rest → words ≡ members_words (xs ++ m ∷ []) ++ rest
+pub member_more : (words left rest : List (List ℕ)) (xs : List Member) (m : Member) → words ≡ members_words xs ++ left →
+    left ≡ member_words m ++ rest → words ≡ members_words (xs ++ m ∷ []) ++ rest
 member_more words left rest xs m e next =
     e ∙ ap (λ l. members_words xs ++ l) next ∙ sym (append_assoc (members_words xs) (member_words m) rest)
     ∙ ap (λ l. l ++ rest) (ap (λ l. members_words xs ++ l) (sym (alone m)) ∙ sym (members_words-append xs (m ∷ [])))
@@ -146,13 +160,15 @@ part_words-append [] ys = refl
 part_words-append (x ∷ xs) ys = ap (λ l. decimal x.0 ∷ decimal x.1 ∷ l) (part_words-append xs ys)
 
 -- one more row with its multiplier
-pub part_more : (words left rest : List (List ℕ)) (xs : List (ℕ × ℕ)) (p : ℕ × ℕ) → words ≡ part_words xs ++ left → left ≡ decimal p.0 ∷ decimal p.1 ∷ rest → words ≡ part_words (xs ++ p ∷ []) ++ rest
+pub part_more : (words left rest : List (List ℕ)) (xs : List (ℕ × ℕ)) (p : ℕ × ℕ) → words ≡ part_words xs ++ left →
+    left ≡ decimal p.0 ∷ decimal p.1 ∷ rest → words ≡ part_words (xs ++ p ∷ []) ++ rest
 part_more words left rest xs p e next =
     e ∙ ap (λ l. part_words xs ++ l) next ∙ sym (append_assoc (part_words xs) (decimal p.0 ∷ decimal p.1 ∷ []) rest)
     ∙ ap (λ l. l ++ rest) (sym (part_words-append xs (p ∷ [])))
 
 -- parts go on where the words that were read do
-pub parts_go_on : (xs ps : List (ℕ × ℕ)) (left : List (List ℕ)) → part_words ps ≡ part_words xs ++ left → (more : List (ℕ × ℕ)) × (ps ≡ xs ++ more) × (left ≡ part_words more)
+pub parts_go_on : (xs ps : List (ℕ × ℕ)) (left : List (List ℕ)) → part_words ps ≡ part_words xs ++ left →
+    (more : List (ℕ × ℕ)) × (ps ≡ xs ++ more) × (left ≡ part_words more)
 parts_go_on [] ps left e = (ps, refl, sym e)
 parts_go_on (x ∷ xs) [] left e = absurd (cc)
 parts_go_on (x ∷ xs) (p ∷ ps) left e =
@@ -162,26 +178,26 @@ parts_go_on (x ∷ xs) (p ∷ ps) left e =
     let same : p ≡ x = ap (λ a. (a, p.1)) first ∙ ap (λ b. (x.0, b)) second in
     (rest.0, ap (λ l. p ∷ l) rest.1 ∙ ap (λ y. y ∷ (xs ++ rest.0)) same, rest.2)
 
-All-after : {A : Type 0} (P : A → Type 0) (xs ys : List A) → All P (xs ++ ys) → All P ys
-All-after P [] ys all = all
-All-after P (x ∷ xs) ys all = All-after P xs ys (All-tail P x (xs ++ ys) all)
-
 -- rows and multipliers go on where the words that were read do
-pub no_part_more : (xs ps : List (ℕ × ℕ)) (left : List (List ℕ)) → BoundsParts ps → All (λ part. part.1 < 10 ^ 31) ps → part_words ps ≡ part_words xs ++ left → left ≢ [] →
+pub no_part_more : (xs ps : List (ℕ × ℕ)) (left : List (List ℕ)) → BoundsParts ps → All (λ part. part.1 < 10 ^ 31) ps →
+    part_words ps ≡ part_words xs ++ left → left ≢ [] →
     ((row m : ℕ) (rest : List (List ℕ)) → IsRowNumber row → 0 < m → m < 10 ^ 31 → left ≢ decimal row ∷ decimal m ∷ rest) → ⊥
 no_part_more xs ps left bounds small e some none =
     let on = parts_go_on xs ps left e in
-    first on.0 (All-after (λ part. IsRowNumber part.0) xs on.0 (subst (λ l. All (λ part. IsRowNumber part.0) l) on.1 bounds.rows))
-    (All-after (λ part. 0 < part.1) xs on.0 (subst (λ l. All (λ part. 0 < part.1) l) on.1 bounds.positive))
-    (All-after (λ part. part.1 < 10 ^ 31) xs on.0 (subst (λ l. All (λ part. part.1 < 10 ^ 31) l) on.1 small)) on.2
+    first on.0 (All-right (λ part. IsRowNumber part.0) xs on.0 (subst (λ l. All (λ part. IsRowNumber part.0) l) on.1 bounds.rows))
+    (All-right (λ part. 0 < part.1) xs on.0 (subst (λ l. All (λ part. 0 < part.1) l) on.1 bounds.positive))
+    (All-right (λ part. part.1 < 10 ^ 31) xs on.0 (subst (λ l. All (λ part. part.1 < 10 ^ 31) l) on.1 small)) on.2
   where
-    first : (more : List (ℕ × ℕ)) → All (λ part. IsRowNumber part.0) more → All (λ part. 0 < part.1) more → All (λ part. part.1 < 10 ^ 31) more → left ≡ part_words more → ⊥
+    first : (more : List (ℕ × ℕ)) → All (λ part. IsRowNumber part.0) more → All (λ part. 0 < part.1) more →
+        All (λ part. part.1 < 10 ^ 31) more → left ≡ part_words more → ⊥
     first [] rows positive few is = some is
     first (p ∷ more) rows positive few is =
-        none p.0 p.1 (part_words more) (All-head (λ part. IsRowNumber part.0) p more rows) (All-head (λ part. 0 < part.1) p more positive) (All-head (λ part. part.1 < 10 ^ 31) p more few) is
+        none p.0 p.1 (part_words more) (All-head (λ part. IsRowNumber part.0) p more rows)
+        (All-head (λ part. 0 < part.1) p more positive) (All-head (λ part. part.1 < 10 ^ 31) p more few) is
 
 -- where a row doesn't come behind all, the words are no rising rows
-pub not_rising : (xs ps : List (ℕ × ℕ)) (left rest : List (List ℕ)) (p : ℕ × ℕ) (k : ℕ) → BoundsParts ps → part_words ps ≡ part_words xs ++ left → left ≡ decimal p.0 ∷ decimal p.1 ∷ rest →
+pub not_rising : (xs ps : List (ℕ × ℕ)) (left rest : List (List ℕ)) (p : ℕ × ℕ) (k : ℕ) → BoundsParts ps →
+    part_words ps ≡ part_words xs ++ left → left ≡ decimal p.0 ∷ decimal p.1 ∷ rest →
     k < length xs → ((d : ℕ × ℕ) → p.0 ≤ (get_or xs k d).0) → ⊥
 not_rising xs ps left rest p k bounds e next within above =
     let on = parts_go_on xs ps left e in

@@ -17,13 +17,16 @@ lacks-first place bytes line left first off other more parts one lawful =
     off lawful.0 (subst (λ l. Next place l lawful.0) (sym same) lawful.1.is)
 
 -- where one line alone is in the grammar, and isn't the first, no lawful one is
-pub lacks-wanted : (place : Place) (bytes wanted : List ℕ) → ((line : List ℕ) (next : Place) → Next place line next → line ≡ wanted) → ((left : List ℕ) → IsFirst bytes wanted left → ⊥) → LacksLawful place bytes
+pub lacks-wanted : (place : Place) (bytes wanted : List ℕ) →
+    ((line : List ℕ) (next : Place) → Next place line next → line ≡ wanted) →
+    ((left : List ℕ) → IsFirst bytes wanted left → ⊥) → LacksLawful place bytes
 lacks-wanted place bytes wanted only h line left parts one lawful =
     let same : line ≡ wanted = only line lawful.0 lawful.1.is in
     h left (record { parts = parts ∙ ap (λ l. l ++ 10 ∷ left) same; one = subst IsOneLine same one; short = subst (λ l. length l ≤ 65536) same lawful.1.short })
 
 -- one line is read
-pub read-one : (from to : Place) (before after : ℕ) (bytes line left : List ℕ) → IsFirst bytes line left → Next from line to → after ≡ before + 1 → IsRead from before bytes (line ∷ []) to after left
+pub read-one : (from to : Place) (before after : ℕ) (bytes line left : List ℕ) → IsFirst bytes line left →
+    Next from line to → after ≡ before + 1 → IsRead from before bytes (line ∷ []) to after left
 read-one from to before after bytes line left first is count =
     record {
       lead = (to, record { is = is; short = first.short }, refl);

@@ -1,4 +1,4 @@
-pub mod Chains
+pub mod ListParts
 pub mod EntryWords
 pub mod FirstLines
 pub mod LineEntries

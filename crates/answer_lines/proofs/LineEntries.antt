@@ -59,10 +59,24 @@ parts-plain [] = tt
 parts-plain (p ∷ ps) = (decimal-spaceless p.0, (decimal-spaceless p.1, parts-plain ps))
 
 entry-plain : (entry : Entry) → Plain (entry_words entry)
-entry-plain (Tighten v side b row) = (spaceless-from (codes "tighten") refl, (decimal-spaceless v, (side-spaceless side, (decimal-spaceless b, (decimal-spaceless row, tt)))))
+entry-plain (Tighten v side b row) = (
+  spaceless-from (codes "tighten") refl,
+  (decimal-spaceless v, (side-spaceless side, (decimal-spaceless b, (decimal-spaceless row, tt)))),
+)
 entry-plain (Split v b) = (spaceless-from (codes "split") refl, (decimal-spaceless v, (decimal-spaceless b, tt)))
-entry-plain (Halve v b wide) =
-    (spaceless-from (codes "halve") refl, (decimal-spaceless v, (decimal-spaceless b, (step-spaceless wide.step, (ratio-spaceless wide.left, (ratio-spaceless wide.right, members-plain wide.basis))))))
+entry-plain (Halve v b wide) = (
+  spaceless-from (codes "halve") refl,
+  (
+    decimal-spaceless v,
+    (
+      decimal-spaceless b,
+      (
+        step-spaceless wide.step,
+        (ratio-spaceless wide.left, (ratio-spaceless wide.right, members-plain wide.basis)),
+      ),
+    ),
+  ),
+)
 entry-plain (Refute parts) = (spaceless-from (codes "refute") refl, parts-plain parts)
 entry-plain Undone = (spaceless-from (codes "open") refl, tt)
 

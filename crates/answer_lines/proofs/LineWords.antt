@@ -16,7 +16,8 @@ part-spaceless Proof = spaceless-from (codes "proof") refl
 part-spaceless Unfinished = spaceless-from (codes "open") refl
 
 -- the words of the head of a tree
-pub tree-words : (line : List ℕ) (part : TreePart) (cap count : ℕ) → line ≡ tree_line part cap count → split 32 line ≡ part_word part ∷ decimal cap ∷ decimal count ∷ []
+pub tree-words : (line : List ℕ) (part : TreePart) (cap count : ℕ) → line ≡ tree_line part cap count →
+    split 32 line ≡ part_word part ∷ decimal cap ∷ decimal count ∷ []
 tree-words line part cap count e =
     to-words line (part_word part) (decimal cap ∷ decimal count ∷ []) e
     (All-cons IsSpaceless (part_word part) (decimal cap ∷ decimal count ∷ []) (part-spaceless part) (numbers-spaceless (cap ∷ count ∷ [])))
@@ -25,4 +26,5 @@ tree-words line part cap count e =
 pub row-words : (line : List ℕ) (row : Row) → line ≡ row_line row → split 32 line ≡ codes "row" ∷ map decimal (row.request ∷ row.rival.edges)
 row-words line row e =
     to-words line (codes "row") (map decimal (row.request ∷ row.rival.edges)) e
-    (All-cons IsSpaceless (codes "row") (map decimal (row.request ∷ row.rival.edges)) (spaceless-from (codes "row") refl) (numbers-spaceless (row.request ∷ row.rival.edges)))
+    (All-cons IsSpaceless (codes "row") (map decimal (row.request ∷ row.rival.edges))
+    (spaceless-from (codes "row") refl) (numbers-spaceless (row.request ∷ row.rival.edges)))

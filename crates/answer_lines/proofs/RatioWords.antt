@@ -15,9 +15,10 @@ use Rattle.text_lines.specs.Numbers.{split}
 use Rattle.text_lines.proofs.Pieces.{split-some}
 use Rattle.text_lines.proofs.Printed.{decimal-same}
 use Rattle.answer_lines.proofs.LineFronts.{split-front}
-use Rattle.answer_lines.proofs.Chains.{head-is, tail-is, not-both}
+use Rattle.answer_lines.proofs.ListParts.{head-is, tail-is, not-both}
 
-negative_none : (m : ℕ) (word digits : List ℕ) → word ≡ 45 ∷ digits → ((n : ℕ) → n + 1 < m → digits ≢ decimal (n + 1)) → (z : ℤ) → nat_abs z < m → word ≢ integer z
+negative_none : (m : ℕ) (word digits : List ℕ) → word ≡ 45 ∷ digits → ((n : ℕ) → n + 1 < m → digits ≢ decimal (n + 1)) →
+    (z : ℤ) → nat_abs z < m → word ≢ integer z
 negative_none m word digits is h (pos n) small e = not-both (list_all is_digit word) (ap (list_all is_digit) e ∙ decimal-digits n) (ap (list_all is_digit) is)
 negative_none m word digits is h (negsuc n) small e = h n (omega arith) (tail-is 45 45 digits (decimal (n + 1)) (sym is ∙ e))
 
@@ -29,7 +30,8 @@ negative_is m word digits None is h = negative_none m word digits is h
 negative_is m word digits (Some z) is h = rw h.1 (omega (arith, h.2), is ∙ ap (λ ds. 45 ∷ ds) h.3)
 
 -- a number whose word doesn't begin with a minus is its digits
-pub positive_none : (m : ℕ) (word : List ℕ) → ((rest : List ℕ) → word ≢ 45 ∷ rest) → ((n : ℕ) → n < m → word ≢ decimal n) → (z : ℤ) → nat_abs z < m → word ≢ integer z
+pub positive_none : (m : ℕ) (word : List ℕ) → ((rest : List ℕ) → word ≢ 45 ∷ rest) →
+    ((n : ℕ) → n < m → word ≢ decimal n) → (z : ℤ) → nat_abs z < m → word ≢ integer z
 positive_none m word other h (pos n) small e = h n small e
 positive_none m word other h (negsuc n) small e = other (decimal (n + 1)) e
 
@@ -47,13 +49,17 @@ integer-unslashed (negsuc n) = All-cons (λ x. eqb x 47 ≡ false) 45 (decimal (
 -- a word without a slash is no fraction
 pub no_slash : (word : List ℕ) → split 47 word ≡ word ∷ [] → (q : Ratio) → IsPrinted q → word ≢ ratio_word q
 no_slash word one q printed e =
-    let cut : split 47 word ≡ integer q.numerator ∷ split 47 (integer q.denominator) = ap (split 47) e ∙ split-front 47 (integer q.numerator) (integer q.denominator) (integer-unslashed q.numerator) in
+    let cut : split 47 word ≡ integer q.numerator ∷ split 47 (integer q.denominator) = ap (split 47) e
+    ∙ split-front 47 (integer q.numerator) (integer q.denominator) (integer-unslashed q.numerator) in
     split-some 47 (integer q.denominator) (tail-is _ _ _ _ (sym cut ∙ one))
 
 -- a fraction's word around its slash
-pub same_slash : (word above below : List ℕ) (q : Ratio) → word ≡ above ++ 47 ∷ below → split 47 word ≡ above ∷ split 47 below → word ≡ ratio_word q → (above ≡ integer q.numerator) × (below ≡ integer q.denominator)
+pub same_slash : (word above below : List ℕ) (q : Ratio) → word ≡ above ++ 47 ∷ below →
+    split 47 word ≡ above ∷ split 47 below → word ≡ ratio_word q → (above ≡ integer q.numerator)
+    × (below ≡ integer q.denominator)
 same_slash word above below q parts pieces e =
-    let cut : split 47 word ≡ integer q.numerator ∷ split 47 (integer q.denominator) = ap (split 47) e ∙ split-front 47 (integer q.numerator) (integer q.denominator) (integer-unslashed q.numerator) in
+    let cut : split 47 word ≡ integer q.numerator ∷ split 47 (integer q.denominator) = ap (split 47) e
+    ∙ split-front 47 (integer q.numerator) (integer q.denominator) (integer-unslashed q.numerator) in
     let front : above ≡ integer q.numerator = head-is _ _ _ _ (sym pieces ∙ cut) in (
       front,
       tail-is 47 47 below (integer q.denominator)
@@ -77,9 +83,11 @@ pub printed-below : (q : Ratio) (p : IsPrinted q) → q.denominator ≡ pos p.fr
 printed-below q p = ap (λ r. r.denominator) p.same
 
 -- what the numbers around a slash say of the word
-pub ratio_found : (word above below : List ℕ) (numerator : ℤ) (denominator : ℕ) (r : Option Ratio) → word ≡ above ++ 47 ∷ below → split 47 word ≡ above ∷ split 47 below →
+pub ratio_found : (word above below : List ℕ) (numerator : ℤ) (denominator : ℕ) (r : Option Ratio) →
+    word ≡ above ++ 47 ∷ below → split 47 word ≡ above ∷ split 47 below →
     above ≡ integer numerator → below ≡ decimal denominator →
-    MatchOption r ((q : Ratio) → IsPrinted q → q.numerator ≡ numerator → q.denominator ≡ pos denominator → ⊥) (λ q. IsPrinted q × (q.numerator ≡ numerator) × (q.denominator ≡ pos denominator)) →
+    MatchOption r ((q : Ratio) → IsPrinted q → q.numerator ≡ numerator → q.denominator ≡ pos denominator → ⊥)
+    (λ q. IsPrinted q × (q.numerator ≡ numerator) × (q.denominator ≡ pos denominator)) →
     MatchOption r ((q : Ratio) → IsPrinted q → word ≢ ratio_word q) (λ q. IsPrinted q × (word ≡ ratio_word q))
 ratio_found word above below numerator denominator None parts pieces first second h =
     λ q printed e.
@@ -89,7 +97,8 @@ ratio_found word above below numerator denominator (Some q) parts pieces first s
     (h.0, parts ∙ ap (λ l. l ++ 47 ∷ below) (first ∙ ap integer (sym h.1)) ∙ ap (λ l. integer q.numerator ++ 47 ∷ l) (second ∙ ap integer (sym h.2)))
 
 -- two numbers without a common divisor are a printed fraction
-pub lowest_is : (n : ℤ) (d : ℕ) (a b : ℤ) → a ≡ n → b ≡ pos d → 0 < d → gcd (nat_abs n) d ≡ 1 → nat_abs n < 2 ^ 127 → d < 2 ^ 127 → IsPrinted (record { numerator = a; denominator = b }) × (a ≡ n) × (b ≡ pos d)
+pub lowest_is : (n : ℤ) (d : ℕ) (a b : ℤ) → a ≡ n → b ≡ pos d → 0 < d → gcd (nat_abs n) d ≡ 1 → nat_abs n < 2 ^ 127 →
+    d < 2 ^ 127 → IsPrinted (record { numerator = a; denominator = b }) × (a ≡ n) × (b ≡ pos d)
 lowest_is n d a b first second some apart above below = (
   record {
     fraction = record { numerator = n; denominator = d };

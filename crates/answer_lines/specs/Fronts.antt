@@ -1,4 +1,4 @@
--- What a `halve` line says before its basis.
+-- What a `halve` line says before its basis. No public clause cites it.
 use Rattle.std.specs.Prelude.{ℕ, List, ◌∷◌}
 use Rattle.cost_base.specs.Decimal.{decimal}
 use Rattle.path_rows.specs.Bounds.{IsThing, IsCost}

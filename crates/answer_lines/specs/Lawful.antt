@@ -1,6 +1,6 @@
 -- Lines that are lawful at a place, and what they lead to.
 use Rattle.std.specs.Prelude.{◌≡◌, ℕ, ◌+◌, ◌≤◌, List, [], ◌∷◌, ◌++◌, length}
-use Rattle.evidence_text.specs.Lines.{text_of}
+use Rattle.text_lines.specs.Lines.{with_ends}
 use Rattle.answer_lines.specs.Grammar.{Place, Next}
 
 -- a line is lawful at a place, and leads to the next one: it is in the grammar there, and has at most 65,536 bytes
@@ -19,5 +19,5 @@ IsLawful place line = (next : Place) × Leads place line next
 -- from a place, lawful lines lead to another, with what is left behind them
 pub record IsRead (from : Place) (before : ℕ) (bytes : List ℕ) (lines : List (List ℕ)) (to : Place) (after : ℕ) (left : List ℕ) : Type 0 where
   pub lead : LeadOn from lines to
-  pub parts : bytes ≡ text_of lines ++ left
+  pub parts : bytes ≡ with_ends lines ++ left
   pub count : after ≡ before + length lines

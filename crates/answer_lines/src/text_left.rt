@@ -10,7 +10,9 @@ pub const LONGEST: usize = 65_536;
 /// What is left of a text, and how many of its lines were read.
 #[derive(Clone, Copy)]
 pub struct TextLeft<'a> {
+    /// The bytes that weren't read yet.
     pub left: &'a [u8],
+    /// How many lines stand before them.
     pub read: u32,
     pub ghost few: { read + length left.now < 2 ^ 32 - 1 },
 }

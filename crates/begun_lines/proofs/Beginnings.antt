@@ -31,7 +31,8 @@ pub front-whole : (rest line : List ℕ) → rest ≡ line → IsFront rest line
 front-whole rest line e = ([], append-nil rest ∙ e)
 
 -- a line that ends in a number is begun before its number, or with a number that isn't greater
-pub front-number : (rest front : List ℕ) (greatest n : ℕ) → n ≤ greatest → IsFront rest (front ++ decimal n) → IsFront rest front ⊎ ((m : ℕ) × (m ≤ greatest) × (rest ≡ front ++ decimal m))
+pub front-number : (rest front : List ℕ) (greatest n : ℕ) → n ≤ greatest → IsFront rest (front ++ decimal n) →
+    IsFront rest front ⊎ ((m : ℕ) × (m ≤ greatest) × (rest ≡ front ++ decimal m))
 front-number rest front greatest n small begun =
     elim (two_parts rest begun.0 front (decimal n) begun.1) [
       | inl before ↦ inl before
@@ -42,7 +43,8 @@ front-number rest front greatest n small begun =
 
 -- where the front isn't begun, the number behind it tells
 pub number-tested : (rest front : List ℕ) (greatest : ℕ) (found : Option ℕ) → (IsFront rest front → ⊥) →
-    MatchOption found ((n : ℕ) → n ≤ greatest → rest ≢ front ++ decimal n) (λ n. (n ≤ greatest) × (rest ≡ front ++ decimal n)) → IsTrue (is_some found) ↔ BeginsNumber rest front greatest
+    MatchOption found ((n : ℕ) → n ≤ greatest → rest ≢ front ++ decimal n)
+    (λ n. (n ≤ greatest) × (rest ≡ front ++ decimal n)) → IsTrue (is_some found) ↔ BeginsNumber rest front greatest
 number-tested rest front greatest None unbegun h = (
   λ yes. absurd (cc),
   λ begun. absurd (elim (front-number rest front greatest begun.0 begun.1 begun.2) [ inl before ↦ unbegun before | inr found ↦ h found.0 found.1 found.2 ]),

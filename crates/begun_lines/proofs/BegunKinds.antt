@@ -26,22 +26,27 @@ use Rattle.begun_lines.proofs.BegunWords.{alone_is}
 use Rattle.answer_lines.proofs.EntryWords.{entry_line-words}
 use Rattle.answer_lines.proofs.LineEntries.{pieces-entry}
 use Rattle.answer_lines.proofs.SpacedWords.{spaced-split}
-use Rattle.answer_lines.proofs.Chains.{not-both}
+use Rattle.answer_lines.proofs.ListParts.{not-both}
 
 -- a number up to the greatest of a range
 upto : (greatest n : ℕ) → n ≤ greatest → IsAmong (range 0 greatest) n
 upto greatest n le = record { least = omega arith; greatest = le; coprime = one-gcd n }
 
 -- words of one kind where those of another are
-pub goes_as : {first second : List (List ℕ) → Type 0} → ((ws : List (List ℕ)) → first ws → second ws) → (text : List ℕ) (room : ℕ) → GoesOn first text room → GoesOn second text room
+pub goes_as : {first second : List (List ℕ) → Type 0} → ((ws : List (List ℕ)) → first ws → second ws) →
+    (text : List ℕ) (room : ℕ) → GoesOn first text room → GoesOn second text room
 goes_as {first} {second} to text room on = (on.0, to (split 32 (text ++ on.0)) on.1, on.2)
 
 -- where the first of two tests holds
-pub first_holds : {said first : List (List ℕ) → Type 0} → ((ws : List (List ℕ)) → first ws → said ws) → (text : List ℕ) (room : ℕ) (a : Bool) → a ≡ true → IsTrue a ↔ GoesOn first text room → IsTrue a ↔ GoesOn said text room
+pub first_holds : {said first : List (List ℕ) → Type 0} → ((ws : List (List ℕ)) → first ws → said ws) →
+    (text : List ℕ) (room : ℕ) (a : Bool) → a ≡ true → IsTrue a ↔ GoesOn first text room →
+    IsTrue a ↔ GoesOn said text room
 first_holds {said} {first} to text room a is h = (λ _. goes_as to text room (h.0 is), λ _. is)
 
 -- where the first of two tests fails
-pub first_fails : {said first second : List (List ℕ) → Type 0} → ((ws : List (List ℕ)) → said ws → first ws ⊎ second ws) → ((ws : List (List ℕ)) → second ws → said ws) → (text : List ℕ) (room : ℕ) (a b : Bool) →
+pub first_fails : {said first second : List (List ℕ) → Type 0} →
+    ((ws : List (List ℕ)) → said ws → first ws ⊎ second ws) → ((ws : List (List ℕ)) → second ws → said ws) →
+    (text : List ℕ) (room : ℕ) (a b : Bool) →
     a ≡ false → IsTrue a ↔ GoesOn first text room → IsTrue b ↔ GoesOn second text room → IsTrue b ↔ GoesOn said text room
 first_fails {said} {first} {second} from to text room a b isnt h k = (λ is. goes_as to text room (k.0 is), λ on. cases on (from (split 32 (text ++ on.0)) on.1))
   where
@@ -50,11 +55,14 @@ first_fails {said} {first} {second} from to text room a b isnt h k = (λ is. goe
     cases on (inr two) = k.1 (on.0, two, on.2)
 
 -- a word of a kind, with the same words behind it
-pub then_as : {first second : List ℕ → Type 0} (said : List (List ℕ) → Type 0) → ((w : List ℕ) → first w → second w) → (ws : List (List ℕ)) → Then first said ws → Then second said ws
+pub then_as : {first second : List ℕ → Type 0} (said : List (List ℕ) → Type 0) → ((w : List ℕ) → first w → second w) →
+    (ws : List (List ℕ)) → Then first said ws → Then second said ws
 then_as said to [] is = is
 then_as said to (w ∷ ws) is = (to w is.0, is.1)
 
-pub then_either : {word first second : List ℕ → Type 0} (said : List (List ℕ) → Type 0) → ((w : List ℕ) → word w → first w ⊎ second w) → (ws : List (List ℕ)) → Then word said ws → Then first said ws ⊎ Then second said ws
+pub then_either : {word first second : List ℕ → Type 0} (said : List (List ℕ) → Type 0) →
+    ((w : List ℕ) → word w → first w ⊎ second w) → (ws : List (List ℕ)) → Then word said ws →
+    Then first said ws ⊎ Then second said ws
 then_either said from [] is = absurd is
 then_either {word} {first} {second} said from (w ∷ ws) is = cases (from w is.0)
   where
@@ -95,7 +103,11 @@ rising-from : (least : ℕ) (ps : List (ℕ × ℕ)) → All (λ p. least ≤ p.
 rising-from least [] above bounds small = tt
 rising-from least (p ∷ ps) above bounds small = (
   record { least = All-head (λ q. least ≤ q.0) p ps above; greatest = omega (arith, All-head (λ q. IsRowNumber q.0) p ps bounds.rows); coprime = one-gcd p.0 },
-  record { least = omega (arith, All-head (λ q. 0 < q.1) p ps bounds.positive); greatest = omega (arith, All-head (λ q. q.1 < 10 ^ 31) p ps small); coprime = one-gcd p.1 },
+  record {
+    least = omega (arith, All-head (λ q. 0 < q.1) p ps bounds.positive);
+    greatest = omega (arith, All-head (λ q. q.1 < 10 ^ 31) p ps small);
+    coprime = one-gcd p.1;
+  },
   rising-from (p.0 + 1) ps (λ i d within. omega (arith, bounds.rising 0 (suc i) d (omega arith) (omega arith)))
       (record {
         rows = All-tail (λ q. IsRowNumber q.0) p ps bounds.rows;
@@ -123,10 +135,13 @@ rising-to least (p ∷ ps) is =
     let some : 0 < p.1 = omega (arith, is.1.least) in
     let few : p.1 < 10 ^ 31 = omega (arith, is.1.greatest) in
     record {
-      above = All-cons (λ q. least ≤ q.0) p ps is.0.least (All-weaker (λ q. p.0 + 1 ≤ q.0) (λ q. least ≤ q.0) (λ q le. omega (arith, le, is.0.least)) ps rest.above);
+      above = All-cons (λ q. least ≤ q.0) p ps is.0.least
+          (All-weaker (λ q. p.0 + 1 ≤ q.0) (λ q. least ≤ q.0) (λ q le. omega (arith, le, is.0.least)) ps rest.above);
       bounds = record {
         rows = All-cons (λ q. IsRowNumber q.0) p ps one rest.bounds.rows;
-        rising = AllPairs-cons (λ a b. a.0 < b.0) p ps (All-weaker (λ q. p.0 + 1 ≤ q.0) (λ q. p.0 < q.0) (λ q le. omega (arith, le)) ps rest.above) rest.bounds.rising;
+        rising = AllPairs-cons (λ a b. a.0 < b.0) p ps
+            (All-weaker (λ q. p.0 + 1 ≤ q.0) (λ q. p.0 < q.0) (λ q le. omega (arith, le)) ps rest.above)
+            rest.bounds.rising;
         positive = All-cons (λ q. 0 < q.1) p ps some rest.bounds.positive;
       };
       small = All-cons (λ q. q.1 < 10 ^ 31) p ps few rest.small;
@@ -138,9 +153,21 @@ member_kinds ws is = cases is.0 is.1 is.2
   where
     cases : (m : Member) → BoundsMember m → ws ≡ member_words m → RowWords ws ⊎ Then IsSide EndWords ws
     cases (Low v b) bounds e =
-        inr (subst (Then IsSide EndWords) (sym e) ((LowSide, refl), ((v, upto 4294967295 v (omega (arith, bounds.0)), refl), (b, upto 65535 b (omega (arith, bounds.1)), refl))))
+        inr (subst (Then IsSide EndWords) (sym e) (
+          (LowSide, refl),
+          (
+            (v, upto 4294967295 v (omega (arith, bounds.0)), refl),
+            (b, upto 65535 b (omega (arith, bounds.1)), refl),
+          ),
+        ))
     cases (High v b) bounds e =
-        inr (subst (Then IsSide EndWords) (sym e) ((HighSide, refl), ((v, upto 4294967295 v (omega (arith, bounds.0)), refl), (b, upto 65535 b (omega (arith, bounds.1)), refl))))
+        inr (subst (Then IsSide EndWords) (sym e) (
+          (HighSide, refl),
+          (
+            (v, upto 4294967295 v (omega (arith, bounds.0)), refl),
+            (b, upto 65535 b (omega (arith, bounds.1)), refl),
+          ),
+        ))
     cases (Row row) bounds e = inl (subst RowWords (sym e) (refl, (row, upto 18446744073709551615 row (omega (arith, bounds)), refl)))
 
 -- the first word of words, and those behind it
@@ -161,8 +188,12 @@ joined ws rest vs w v is same left = is ∙ ap (λ x. x ∷ rest) same ∙ ap (�
 pub row_member : (ws : List (List ℕ)) → RowWords ws → MemberWords ws
 row_member ws is =
     let name = first_of (λ w. w ≡ codes "row") (Alone (IsNumber (rows_from 0))) ws is in
-    let row = alone_is (IsNumber (rows_from 0)) name.rest name.left in
-    (Row row.1.0, omega (arith, row.1.1.greatest), joined ws name.rest (decimal row.1.0 ∷ []) name.w (codes "row") name.is name.first (row.2 ∙ ap (λ w. w ∷ []) row.1.2))
+    let row = alone_is (IsNumber (rows_from 0)) name.rest name.left in (
+      Row row.1.0,
+      omega (arith, row.1.1.greatest),
+      joined ws name.rest (decimal row.1.0 ∷ []) name.w (codes "row") name.is name.first
+          (row.2 ∙ ap (λ w. w ∷ []) row.1.2),
+    )
 
 pub bound_member : (ws : List (List ℕ)) → Then IsSide EndWords ws → MemberWords ws
 bound_member ws is =
@@ -234,7 +265,8 @@ split_entry ws is =
       record {
         bounds = (omega (arith, var.first.1.greatest), omega (arith, value.1.1.greatest));
         fits = tt;
-        is = joined ws name.rest _ name.w (codes "split") name.is name.first (joined name.rest var.rest _ var.w _ var.is var.first.2 (value.2 ∙ ap (λ w. w ∷ []) value.1.2));
+        is = joined ws name.rest _ name.w (codes "split") name.is name.first
+            (joined name.rest var.rest _ var.w _ var.is var.first.2 (value.2 ∙ ap (λ w. w ∷ []) value.1.2));
       },
     )
 
@@ -266,7 +298,11 @@ refute_entry ws is =
     let parts = name.left in
     let rising = rising-to 0 parts.0 parts.2 in (
       Refute parts.0,
-      record { bounds = rising.bounds; fits = (parts.1, rising.small); is = joined ws name.rest (part_words parts.0) name.w (codes "refute") name.is name.first parts.3 },
+      record {
+        bounds = rising.bounds;
+        fits = (parts.1, rising.small);
+        is = joined ws name.rest (part_words parts.0) name.w (codes "refute") name.is name.first parts.3;
+      },
     )
 
 pub leaf_entry : (ws : List (List ℕ)) → LeafWords ws → EntryWords ws
@@ -281,7 +317,8 @@ parent_entry ws (inr (inl is)) = split_entry ws is
 parent_entry ws (inr (inr is)) = halve_entry ws is
 
 -- a lawful tree line, by its words
-pub begins_by_words : (part : TreePart) (places left : ℕ) (rest : List ℕ) (room : ℕ) → length rest + room ≡ 65536 → (r : Bool) → IsTrue r ↔ GoesOn EntryWords rest room → IsTrue r ↔ Begins (AtTree part (suc places) (suc left)) rest
+pub begins_by_words : (part : TreePart) (places left : ℕ) (rest : List ℕ) (room : ℕ) → length rest + room ≡ 65536 →
+    (r : Bool) → IsTrue r ↔ GoesOn EntryWords rest room → IsTrue r ↔ Begins (AtTree part (suc places) (suc left)) rest
 begins_by_words part places left rest room size r h = (λ is. forth (h.0 is), λ on. h.1 (back on))
   where
     forth : GoesOn EntryWords rest room → Begins (AtTree part (suc places) (suc left)) rest
@@ -292,7 +329,10 @@ begins_by_words part places left rest room size r h = (λ is. forth (h.0 is), λ
           on.0,
           (
             AtTree part (subtree_count entry + places) left,
-            record { is = record { entry = entry; bounds = says.bounds; fits = says.fits; is = line; leads = refl }; short = omega (arith, size, on.2, length-append rest on.0) },
+            record {
+              is = record { entry = entry; bounds = says.bounds; fits = says.fits; is = line; leads = refl };
+              short = omega (arith, size, on.2, length-append rest on.0);
+            },
           ),
         )
 

@@ -8,7 +8,7 @@ use Rattle.cost_base.specs.Words.{IsOneWord, ends_a_word}
 use Rattle.answer_lines.specs.Grammar.{router_line}
 use Rattle.begun_lines.specs.Begun.{IsFront, BeginsName, BeginsRouter, IsRouterOf}
 use Rattle.begun_lines.proofs.Beginnings.{GoesInto, two_parts, front-longer, front-whole}
-use Rattle.answer_lines.proofs.Chains.{not-both, head-is}
+use Rattle.answer_lines.proofs.ListParts.{not-both, head-is}
 
 -- some first bytes of a word are a word
 word-front : (name cut more : List ℕ) → IsOneWord name → cut ++ more ≡ name → cut ≢ [] → IsOneWord cut
@@ -28,7 +28,8 @@ name-started rest front small begun = (97 ∷ [], letter 97 refl, front-longer r
 
 -- where the front isn't begun, the name behind it tells
 pub name-tested : (rest front : List ℕ) (found : Option (Bor (List ℕ))) → length rest ≤ 65536 → (IsFront rest front → ⊥) →
-    MatchOption found ((name : List ℕ) → IsOneWord name → rest ≢ front ++ name) (λ name. IsOneWord name.now × (rest ≡ front ++ name.now)) → IsTrue (is_some found) ↔ BeginsName rest front
+    MatchOption found ((name : List ℕ) → IsOneWord name → rest ≢ front ++ name)
+    (λ name. IsOneWord name.now × (rest ≡ front ++ name.now)) → IsTrue (is_some found) ↔ BeginsName rest front
 name-tested rest front None short unbegun h = (
   λ yes. absurd (cc),
   λ begun. absurd
@@ -37,7 +38,8 @@ name-tested rest front None short unbegun h = (
         | inr into ↦ h into.cut (word-front begun.0 into.cut begun.2.0 begun.1 into.left into.some) into.is
       ]),
 )
-name-tested rest front (Some name) short unbegun h = (λ yes. (name.now, h.0, front-whole rest (front ++ name.now) h.1, omega (arith, ap length h.1)), λ begun. refl)
+name-tested rest front (Some name) short unbegun h =
+    (λ yes. (name.now, h.0, front-whole rest (front ++ name.now) h.1, omega (arith, ap length h.1)), λ begun. refl)
 
 -- of two names one isn't that of the cost line before
 other_name : (before : Option (List ℕ)) (a b : List ℕ) → a ≢ b → (before ≢ Some a) ⊎ (before ≢ Some b)
@@ -68,7 +70,10 @@ router-open rest before begun room = elim (two_parts rest begun.2.0 (codes "rout
           | inl other ↦ (into.cut, word, other, front-whole rest (router_line into.cut) into.is, omega (arith, ap length into.is))
           | inr other ↦ (
             into.cut ++ 97 ∷ [],
-            record { some = λ none. omega (arith, ap length none, length-append into.cut (97 ∷ [])); whole = All-push (λ c. ends_a_word c ≡ false) into.cut 97 word.whole refl },
+            record {
+              some = λ none. omega (arith, ap length none, length-append into.cut (97 ∷ []));
+              whole = All-push (λ c. ends_a_word c ≡ false) into.cut 97 word.whole refl;
+            },
             other,
             (97 ∷ [], ap (λ bytes. bytes ++ 97 ∷ []) into.is),
             omega (arith, ap length into.is, length-append into.cut (97 ∷ [])),
@@ -82,7 +87,8 @@ full rest line much short begun =
     sym (append-nil rest) ∙ ap (λ more. rest ++ more) (sym none) ∙ begun.1
 
 -- where no byte more has room, the router is another one
-pub router-full : (rest : List ℕ) (before : Option (List ℕ)) → BeginsName rest (codes "router ") → 65536 ≤ length rest → (IsRouterOf before rest → ⊥) → BeginsRouter before rest
+pub router-full : (rest : List ℕ) (before : Option (List ℕ)) → BeginsName rest (codes "router ") → 65536 ≤ length rest →
+    (IsRouterOf before rest → ⊥) → BeginsRouter before rest
 router-full rest before begun much other =
     (begun.0, begun.1, λ e. other (begun.0, e, full rest (router_line begun.0) much begun.3 begun.2), begun.2, begun.3)
 

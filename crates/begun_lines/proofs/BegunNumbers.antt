@@ -10,7 +10,7 @@ use Rattle.text_lines.proofs.Printed.{decimal-digits, decimal-begins, decimal_va
 use Rattle.whole_numbers.specs.Fractions.{gcd}
 use Rattle.begun_lines.specs.BegunLines.{Never, IsMissing, IsAmong, IsNumber, Extends}
 use Rattle.begun_lines.specs.declared.numbers.Numbers.{Numbers}
-use Rattle.answer_lines.proofs.Chains.{head-is, tail-is}
+use Rattle.answer_lines.proofs.ListParts.{head-is, tail-is}
 
 -- one digit more
 record OneMore (begun k : ℕ) : Type 0 where
@@ -93,7 +93,9 @@ cut_number (suc k) n front (c ∷ cs) count e some =
     let whole : decimal n ≡ (front ++ last.front) ++ last.last ∷ [] = e ∙ ap (λ l. front ++ l) last.is ∙ sym (append_assoc front last.front (last.last ∷ [])) in
     let shorter : length last.front ≡ k = omega (arith, count, ap length last.is, length-append last.front (last.last ∷ [])) in
     let large : 10 ≤ n = two_digits n (front ++ last.front) last.last whole (omega (arith, length-append front last.front, some-length front some)) in
-    let rest = cut_number k (n / 10) front last.front shorter (same_front (decimal (n / 10)) (front ++ last.front) (n % 10 + 48) last.last (sym (decimal-step n large) ∙ whole)) some in
+    let rest = cut_number k (n / 10) front last.front shorter
+    (same_front (decimal (n / 10)) (front ++ last.front) (n % 10 + 48) last.last (sym (decimal-step n large)
+    ∙ whole)) some in
     record { number = rest.number; is = rest.is; extends = extends-ten rest.number k n rest.extends }
 
 -- a nonempty front of a printed number is a printed number that isn't greater
@@ -135,7 +137,8 @@ digits-le a b le =
 
 -- an empty word becomes the least number of a range
 pub missing_whole : (numbers : Numbers) (found : Option ℕ) → gcd numbers.coprime_to numbers.least ≡ 1 →
-    MatchOption found (numbers.greatest < numbers.least) (λ count. (numbers.least ≤ numbers.greatest) × (count ≡ length (decimal numbers.least))) → IsMissing (IsNumber numbers) [] found
+    MatchOption found (numbers.greatest < numbers.least) (λ count. (numbers.least ≤ numbers.greatest)
+    × (count ≡ length (decimal numbers.least))) → IsMissing (IsNumber numbers) [] found
 missing_whole numbers None coprime empty = λ more number. omega (arith, empty, number.1.least, number.1.greatest)
 missing_whole numbers (Some count) coprime is =
     record {
@@ -146,7 +149,8 @@ missing_whole numbers (Some count) coprime is =
     }
 
 -- a zero is a whole number
-pub missing_zero : (numbers : Numbers) (word : List ℕ) (found : Option ℕ) → word ≡ decimal 0 → MatchOption found (IsAmong numbers 0 → ⊥) (λ count. (count ≡ 0) × IsAmong numbers 0) →
+pub missing_zero : (numbers : Numbers) (word : List ℕ) (found : Option ℕ) → word ≡ decimal 0 →
+    MatchOption found (IsAmong numbers 0 → ⊥) (λ count. (count ≡ 0) × IsAmong numbers 0) →
     IsMissing (IsNumber numbers) word found
 missing_zero numbers word None is none = λ more number.
     let e : decimal number.0 ≡ 48 ∷ more = sym number.2 ∙ ap (λ l. l ++ more) is in
@@ -172,7 +176,8 @@ FoundDigits numbers begun found = MatchOption found ((k n : ℕ) → Extends beg
     (λ count. ((n : ℕ) × Extends begun count n × IsAmong numbers n) × ((k n : ℕ) → Extends begun k n → IsAmong numbers n → count ≤ k))
 
 -- a positive number goes on with digits
-pub missing_more : (numbers : Numbers) (word : List ℕ) (begun : ℕ) (found : Option ℕ) → word ≡ decimal begun → 0 < begun → FoundDigits numbers begun found → IsMissing (IsNumber numbers) word found
+pub missing_more : (numbers : Numbers) (word : List ℕ) (begun : ℕ) (found : Option ℕ) → word ≡ decimal begun →
+    0 < begun → FoundDigits numbers begun found → IsMissing (IsNumber numbers) word found
 missing_more numbers word begun found is some h = subst (λ w. IsMissing (IsNumber numbers) w found) (sym is) (cases found h)
   where
     digit : decimal begun ≢ []

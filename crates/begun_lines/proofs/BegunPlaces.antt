@@ -18,8 +18,12 @@ begins-from place next rest line is short front =
     (front.0, (next, record { is = subst (λ l. Next place l next) (sym front.1) is; short = subst (λ l. length l ≤ 65536) (sym front.1) short }))
 
 -- where one line alone is in the grammar
-pub wanted-begun : (place next : Place) (rest line : List ℕ) → length line ≤ 65536 → Next place line next → ((l : List ℕ) (n : Place) → Next place l n → l ≡ line) → IsFront rest line ↔ Begins place rest
-wanted-begun place next rest line short is only = (λ front. begins-from place next rest line is short front, λ begins. (begins.0, only (rest ++ begins.0) begins.1.0 begins.1.1.is))
+pub wanted-begun : (place next : Place) (rest line : List ℕ) → length line ≤ 65536 → Next place line next →
+    ((l : List ℕ) (n : Place) → Next place l n → l ≡ line) → IsFront rest line ↔ Begins place rest
+wanted-begun place next rest line short is only = (
+  λ front. begins-from place next rest line is short front,
+  λ begins. (begins.0, only (rest ++ begins.0) begins.1.0 begins.1.1.is),
+)
 
 -- a line of a short front with a number behind it is short
 pub short_number : (front : List ℕ) (n : ℕ) → length front ≤ 100 → n ≤ 18446744073709551615 → length (front ++ decimal n) ≤ 130
@@ -29,23 +33,29 @@ short_number front n small bound = omega (arith, length-append front (decimal n)
 numbered : (place : Place) (next : ℕ → Place) (rest front : List ℕ) (greatest : ℕ) → length front ≤ 100 → greatest ≤ 18446744073709551615 →
     ((n : ℕ) → n ≤ greatest → Next place (front ++ decimal n) (next n)) → BeginsNumber rest front greatest → Begins place rest
 numbered place next rest front greatest small bound lawful begun =
-    begins-from place (next begun.0) rest (front ++ decimal begun.0) (lawful begun.0 begun.1) (omega (arith, short_number front begun.0 small (omega (arith, begun.1)))) begun.2
+    begins-from place (next begun.0) rest (front ++ decimal begun.0) (lawful begun.0 begun.1)
+    (omega (arith, short_number front begun.0 small (omega (arith, begun.1)))) begun.2
 
 pub verdict-begun : (rest : List ℕ) →
-    ((IsFront rest (codes "verdict impossible") ⊎ BeginsNumber rest (codes "verdict optimal ") 65535) ⊎ BeginsNumber rest (codes "verdict undecided budget ") 65535) ↔ Begins AtVerdict rest
+    ((IsFront rest (codes "verdict impossible") ⊎ BeginsNumber rest (codes "verdict optimal ") 65535)
+    ⊎ BeginsNumber rest (codes "verdict undecided budget ") 65535) ↔ Begins AtVerdict rest
 verdict-begun rest = (
   λ begun. elim begun [
-    | inl (inl line) ↦ begins-from AtVerdict AtCosts rest (codes "verdict impossible") (record { verdict = Impossible; bounds = tt; is = refl; leads = refl }) (omega arith) line
+    | inl (inl line) ↦ begins-from AtVerdict AtCosts rest (codes "verdict impossible")
+        (record { verdict = Impossible; bounds = tt; is = refl; leads = refl }) (omega arith) line
     | inl (inr number) ↦
-        numbered AtVerdict (λ _. AtCosts) rest (codes "verdict optimal ") 65535 (omega arith) (omega arith) (λ n small. record { verdict = Optimal n; bounds = omega (arith, small); is = refl; leads = refl }) number
+        numbered AtVerdict (λ _. AtCosts) rest (codes "verdict optimal ") 65535 (omega arith) (omega arith)
+        (λ n small. record { verdict = Optimal n; bounds = omega (arith, small); is = refl; leads = refl }) number
     | inr number ↦
-        numbered AtVerdict (λ _. AtCosts) rest (codes "verdict undecided budget ") 65535 (omega arith) (omega arith) (λ n small. record { verdict = Budget n; bounds = omega (arith, small); is = refl; leads = refl }) number
+        numbered AtVerdict (λ _. AtCosts) rest (codes "verdict undecided budget ") 65535 (omega arith) (omega arith)
+        (λ n small. record { verdict = Budget n; bounds = omega (arith, small); is = refl; leads = refl }) number
   ],
   λ begins. parts begins.0 begins.1.1.is.verdict begins.1.1.is.bounds begins.1.1.is.is,
 )
   where
     parts : (more : List ℕ) (verdict : Verdict) → BoundsVerdict verdict → rest ++ more ≡ verdict_line verdict →
-        (IsFront rest (codes "verdict impossible") ⊎ BeginsNumber rest (codes "verdict optimal ") 65535) ⊎ BeginsNumber rest (codes "verdict undecided budget ") 65535
+        (IsFront rest (codes "verdict impossible") ⊎ BeginsNumber rest (codes "verdict optimal ") 65535)
+        ⊎ BeginsNumber rest (codes "verdict undecided budget ") 65535
     parts more Impossible bounds is = inl (inl (more, is))
     parts more (Optimal k) bounds is = inl (inr (k, omega (arith, bounds), (more, is)))
     parts more (Budget k) bounds is = inr (k, omega (arith, bounds), (more, is))
@@ -55,7 +65,8 @@ costs-begun rest = (
   λ begun. elim begun [
     | inl line ↦ begins-from AtCosts AtFloor rest (codes "costs none") (inl (refl, refl)) (omega arith) line
     | inr number ↦
-        numbered AtCosts (λ _. AtSections None) rest (codes "costs ") 65535 (omega arith) (omega arith) (λ n small. inr (record { greatest = n; bounds = omega (arith, small); is = refl; leads = refl })) number
+        numbered AtCosts (λ _. AtSections None) rest (codes "costs ") 65535 (omega arith) (omega arith)
+        (λ n small. inr (record { greatest = n; bounds = omega (arith, small); is = refl; leads = refl })) number
   ],
   λ begins. elim begins.1.1.is [ inl none ↦ inl (begins.0, none.0) | inr some ↦ inr (some.greatest, omega (arith, some.bounds), (begins.0, some.is)) ],
 )
@@ -66,34 +77,42 @@ floor-parts rest more Absent bounds is = inl (inl (more, is))
 floor-parts rest more Empty bounds is = inl (inr (more, is))
 floor-parts rest more (Var v) bounds is = inr (v, omega (arith, bounds), (more, is))
 
-pub floor-begun : (rest : List ℕ) → ((IsFront rest (codes "floor none") ⊎ IsFront rest (codes "floor empty")) ⊎ BeginsNumber rest (codes "floor ") 4294967295) ↔ Begins AtFloor rest
+pub floor-begun : (rest : List ℕ) →
+    ((IsFront rest (codes "floor none") ⊎ IsFront rest (codes "floor empty"))
+    ⊎ BeginsNumber rest (codes "floor ") 4294967295) ↔ Begins AtFloor rest
 floor-begun rest = (
   λ begun. elim begun [
     | inl (inl line) ↦ begins-from AtFloor AtRows rest (codes "floor none") (record { floor = Absent; bounds = tt; is = refl; leads = refl }) (omega arith) line
     | inl (inr line) ↦ begins-from AtFloor AtRows rest (codes "floor empty") (record { floor = Empty; bounds = tt; is = refl; leads = refl }) (omega arith) line
     | inr number ↦
-        numbered AtFloor (λ _. AtRows) rest (codes "floor ") 4294967295 (omega arith) (omega arith) (λ n small. record { floor = Var n; bounds = omega (arith, small); is = refl; leads = refl }) number
+        numbered AtFloor (λ _. AtRows) rest (codes "floor ") 4294967295 (omega arith) (omega arith)
+        (λ n small. record { floor = Var n; bounds = omega (arith, small); is = refl; leads = refl }) number
   ],
   λ begins. floor-parts rest begins.0 begins.1.1.is.floor begins.1.1.is.bounds begins.1.1.is.is,
 )
 
 pub rows-begun : (rest : List ℕ) → BeginsNumber rest (codes "rows ") 18446744073709551615 ↔ Begins AtRows rest
 rows-begun rest = (
-  λ number. numbered AtRows AtRow rest (codes "rows ") 18446744073709551615 (omega arith) (omega arith) (λ n small. record { count = n; bounds = omega (arith, small); is = refl; leads = refl }) number,
+  λ number. numbered AtRows AtRow rest (codes "rows ") 18446744073709551615 (omega arith) (omega arith)
+      (λ n small. record { count = n; bounds = omega (arith, small); is = refl; leads = refl }) number,
   λ begins. (begins.1.1.is.count, omega (arith, begins.1.1.is.bounds), (begins.0, begins.1.1.is.is)),
 )
 
 pub interface-begun : (rest router : List ℕ) → BeginsName rest (codes "interface ") ↔ Begins (AtInterface router) rest
 interface-begun rest router = (
-  λ begun. begins-from (AtInterface router) (AtCost router) rest (codes "interface " ++ begun.0) (record { name = begun.0; word = begun.1; is = refl; leads = refl }) begun.3 begun.2,
+  λ begun. begins-from (AtInterface router) (AtCost router) rest (codes "interface " ++ begun.0)
+      (record { name = begun.0; word = begun.1; is = refl; leads = refl }) begun.3 begun.2,
   λ begins. (begins.1.1.is.name, begins.1.1.is.word, (begins.0, begins.1.1.is.is), omega (arith, ap length begins.1.1.is.is, begins.1.1.short)),
 )
 
-pub section-begun : (rest : List ℕ) (before : Option (List ℕ)) → ((BeginsRouter before rest ⊎ BeginsAgain before rest) ⊎ Begins AtFloor rest) ↔ Begins (AtSections before) rest
+pub section-begun : (rest : List ℕ) (before : Option (List ℕ)) →
+    ((BeginsRouter before rest ⊎ BeginsAgain before rest) ⊎ Begins AtFloor rest) ↔ Begins (AtSections before) rest
 section-begun rest before = (
   λ begun. elim begun [
     | inl (inl router) ↦
-        begins-from (AtSections before) (AtInterface router.0) rest (codes "router " ++ router.0) (inl (record { name = router.0; word = router.1; other = router.2; is = refl; leads = refl })) router.4 router.3
+        begins-from (AtSections before) (AtInterface router.0) rest (codes "router " ++ router.0)
+        (inl (record { name = router.0; word = router.1; other = router.2; is = refl; leads = refl }))
+        router.4 router.3
     | inl (inr again) ↦ further before again
     | inr floor ↦ (floor.0, (floor.1.0, record { is = inr (inr floor.1.1.is); short = floor.1.1.short }))
   ],
@@ -108,6 +127,7 @@ section-begun rest before = (
     further None again = absurd again
     further (Some router) again = (again.0, (again.1.0, record { is = inr (inl again.1.1.is); short = again.1.1.short }))
 
-    back : (before : Option (List ℕ)) (more : List ℕ) (next : Place) → IsInterfaceAgain before (rest ++ more) next → length (rest ++ more) ≤ 65536 → BeginsAgain before rest
+    back : (before : Option (List ℕ)) (more : List ℕ) (next : Place) → IsInterfaceAgain before (rest ++ more) next →
+        length (rest ++ more) ≤ 65536 → BeginsAgain before rest
     back None more next again short = absurd again
     back (Some router) more next again short = (more, (next, record { is = again; short = short }))

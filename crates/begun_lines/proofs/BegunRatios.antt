@@ -12,7 +12,7 @@ use Rattle.whole_numbers.specs.Fractions.{gcd}
 use Rattle.whole_numbers.proofs.Divisors.{gcd-one}
 use Rattle.begun_lines.specs.BegunLines.{Never, IsLeast, IsMissing, IsAmong, IsNumber, IsRatio}
 use Rattle.begun_lines.specs.declared.numbers.Numbers.{Numbers}
-use Rattle.answer_lines.proofs.Chains.{head-is, tail-is, not-both}
+use Rattle.answer_lines.proofs.ListParts.{head-is, tail-is, not-both}
 use Rattle.answer_lines.proofs.LineFronts.{split-front, split-whole}
 use Rattle.answer_lines.proofs.RatioWords.{same_slash, printed-below, lowest_is, integer-same}
 use Rattle.begun_lines.proofs.BegunNumbers.{cut_number, extends-le, zero_alone}
@@ -54,12 +54,22 @@ begun_ratio word other one ratio =
       grown = cut.grown;
       is = cut.is;
       few =
-          omega (arith, ap length cut.parts, length-append cut.grown (47 ∷ integer q.denominator), ap (λ z. length (integer z)) (printed-below q printed), length-decimal-some printed.fraction.denominator);
+          omega (
+            arith,
+            ap length cut.parts,
+            length-append cut.grown (47 ∷ integer q.denominator),
+            ap (λ z. length (integer z)) (printed-below q printed),
+            length-decimal-some printed.fraction.denominator,
+          );
     }
 
 -- a whole number is a fraction
 whole_ratio : (z : ℤ) → nat_abs z < 2 ^ 127 → IsRatio (integer z ++ codes "/1")
-whole_ratio z small = (record { numerator = z; denominator = pos 1 }, (lowest_is z 1 z (pos 1) refl refl (omega arith) (gcd-one (nat_abs z)) small (omega arith)).0, refl)
+whole_ratio z small = (
+  record { numerator = z; denominator = pos 1 },
+  (lowest_is z 1 z (pos 1) refl refl (omega arith) (gcd-one (nat_abs z)) small (omega arith)).0,
+  refl,
+)
 
 integer-some : (z : ℤ) → 1 ≤ length (integer z)
 integer-some (pos n) = length-decimal-some n
@@ -97,7 +107,8 @@ least_whole word z one small is = record {
 }
 
 -- a word that is no number begins none, but for a minus
-no_integer : (word grown : List ℕ) (z : ℤ) → word ≢ [] → word ≢ codes "-" → nat_abs z < 2 ^ 127 → integer z ≡ word ++ grown → (y : ℤ) × (nat_abs y < 2 ^ 127) × (word ≡ integer y)
+no_integer : (word grown : List ℕ) (z : ℤ) → word ≢ [] → word ≢ codes "-" → nat_abs z < 2 ^ 127 →
+    integer z ≡ word ++ grown → (y : ℤ) × (nat_abs y < 2 ^ 127) × (word ≡ integer y)
 no_integer word grown (pos n) some sign small e =
     let cut = cut_number (length grown) n word grown refl e some in
     (pos cut.number, omega (arith, extends-le cut.number (length grown) n cut.extends), cut.is)
@@ -106,7 +117,8 @@ no_integer (c ∷ cs) grown (negsuc n) some sign small e =
     let minus : 45 ≡ c = head-is 45 c (decimal (n + 1)) (cs ++ grown) e in
     let digits : decimal (n + 1) ≡ cs ++ grown = tail-is 45 c (decimal (n + 1)) (cs ++ grown) e in
     let cut = cut_number (length grown) (n + 1) cs grown refl digits (λ none. sign (ap (λ h. h ∷ cs) (sym minus) ∙ ap (λ l. 45 ∷ l) none)) in
-    below_zero cut.number (omega (arith, extends-le cut.number (length grown) (n + 1) cut.extends)) (ap (λ h. h ∷ cs) (sym minus) ∙ ap (λ l. 45 ∷ l) cut.is) (digits ∙ ap (λ l. l ++ grown) cut.is)
+    below_zero cut.number (omega (arith, extends-le cut.number (length grown) (n + 1) cut.extends))
+    (ap (λ h. h ∷ cs) (sym minus) ∙ ap (λ l. 45 ∷ l) cut.is) (digits ∙ ap (λ l. l ++ grown) cut.is)
   where
     below_zero : (m : ℕ) → m < 2 ^ 127 → c ∷ cs ≡ 45 ∷ decimal m → decimal (n + 1) ≡ decimal m ++ grown → (y : ℤ) × (nat_abs y < 2 ^ 127) × (c ∷ cs ≡ integer y)
     below_zero zero few is begun =
@@ -116,7 +128,8 @@ no_integer (c ∷ cs) grown (negsuc n) some sign small e =
         let more : suc m ≡ m + 1 = omega arith in
         (negsuc m, omega arith, is ∙ ap (λ k. 45 ∷ decimal k) more)
 
-pub never_whole : (word : List ℕ) → split 47 word ≡ word ∷ [] → word ≢ [] → word ≢ codes "-" → ((z : ℤ) → nat_abs z < 2 ^ 127 → word ≢ integer z) → Never IsRatio word
+pub never_whole : (word : List ℕ) → split 47 word ≡ word ∷ [] → word ≢ [] → word ≢ codes "-" →
+    ((z : ℤ) → nat_abs z < 2 ^ 127 → word ≢ integer z) → Never IsRatio word
 never_whole word one some sign none = λ other ratio.
     let begun = begun_ratio word other one ratio in
     let number = no_integer word begun.grown begun.numerator some sign begun.small begun.is in
@@ -133,12 +146,14 @@ record AroundSlash (above below more : List ℕ) : Type 0 where
   fits : denominator < 2 ^ 127
   coprime : gcd (nat_abs numerator) denominator ≡ 1
 
-around_slash : (word above below more : List ℕ) → word ≡ above ++ 47 ∷ below → split 47 word ≡ above ∷ split 47 below → IsRatio (word ++ more) → AroundSlash above below more
+around_slash : (word above below more : List ℕ) → word ≡ above ++ 47 ∷ below → split 47 word ≡ above ∷ split 47 below →
+    IsRatio (word ++ more) → AroundSlash above below more
 around_slash word above below more parts pieces ratio =
     let q = ratio.0 in
     let printed = ratio.1 in
     let longer : word ++ more ≡ above ++ 47 ∷ (below ++ more) = ap (λ w. w ++ more) parts ∙ append_assoc above (47 ∷ below) more in
-    let cut : split 47 (word ++ more) ≡ above ∷ split 47 (below ++ more) = ap (split 47) longer ∙ split-front 47 above (below ++ more) (split-whole 47 word above (split 47 below) pieces) in
+    let cut : split 47 (word ++ more) ≡ above ∷ split 47 (below ++ more) = ap (split 47) longer
+    ∙ split-front 47 above (below ++ more) (split-whole 47 word above (split 47 below) pieces) in
     let around = same_slash (word ++ more) above (below ++ more) q longer cut ratio.2 in
     let same : q.numerator ≡ printed.fraction.numerator = ap (λ r. r.numerator) printed.same in
     record {
@@ -153,21 +168,31 @@ around_slash word above below more parts pieces ratio =
     }
 
 -- before the slash stands no number
-pub never_above : (word above below : List ℕ) → word ≡ above ++ 47 ∷ below → split 47 word ≡ above ∷ split 47 below → ((z : ℤ) → nat_abs z < 2 ^ 127 → above ≢ integer z) → Never IsRatio word
+pub never_above : (word above below : List ℕ) → word ≡ above ++ 47 ∷ below → split 47 word ≡ above ∷ split 47 below →
+    ((z : ℤ) → nat_abs z < 2 ^ 127 → above ≢ integer z) → Never IsRatio word
 never_above word above below parts pieces none = λ more ratio.
     let around = around_slash word above below more parts pieces ratio in
     none around.numerator around.small around.above_is
 
 -- what the denominator lacks the fraction lacks
-pub missing_below : (word above below : List ℕ) (z : ℤ) (numbers : Numbers) (found : Option ℕ) → word ≡ above ++ 47 ∷ below → split 47 word ≡ above ∷ split 47 below → nat_abs z < 2 ^ 127 → above ≡ integer z →
-    ((n : ℕ) → (IsAmong numbers n ↔ ((0 < n) × (n < 2 ^ 127) × (gcd (nat_abs z) n ≡ 1)))) → IsMissing (IsNumber numbers) below found → IsMissing IsRatio word found
+pub missing_below : (word above below : List ℕ) (z : ℤ) (numbers : Numbers) (found : Option ℕ) →
+    word ≡ above ++ 47 ∷ below → split 47 word ≡ above ∷ split 47 below → nat_abs z < 2 ^ 127 → above ≡ integer z →
+    ((n : ℕ) → (IsAmong numbers n ↔ ((0 < n) × (n < 2 ^ 127) × (gcd (nat_abs z) n ≡ 1)))) →
+    IsMissing (IsNumber numbers) below found → IsMissing IsRatio word found
 missing_below word above below z numbers found parts pieces small is among missing = cases found missing
   where
     denominator : (more : List ℕ) → IsRatio (word ++ more) → IsNumber numbers (below ++ more)
     denominator more ratio =
         let around = around_slash word above below more parts pieces ratio in
-        let same : around.numerator ≡ z = integer-same around.numerator z (sym around.above_is ∙ is) in
-        (around.denominator, (among around.denominator).1 (around.positive, around.fits, ap (λ y. gcd (nat_abs y) around.denominator) (sym same) ∙ around.coprime), around.below_is)
+        let same : around.numerator ≡ z = integer-same around.numerator z (sym around.above_is ∙ is) in (
+          around.denominator,
+          (among around.denominator).1 (
+            around.positive,
+            around.fits,
+            ap (λ y. gcd (nat_abs y) around.denominator) (sym same) ∙ around.coprime,
+          ),
+          around.below_is,
+        )
 
     cases : (found : Option ℕ) → IsMissing (IsNumber numbers) below found → IsMissing IsRatio word found
     cases None never = λ more ratio. never more (denominator more ratio)
@@ -179,7 +204,8 @@ missing_below word above below z numbers found parts pieces small is among missi
           fits = (
             record { numerator = z; denominator = pos n },
             (lowest_is z n z (pos n) refl refl fits.0 fits.2 small fits.1).0,
-            ap (λ w. w ++ least.more) parts ∙ append_assoc above (47 ∷ below) least.more ∙ ap (λ a. a ++ 47 ∷ (below ++ least.more)) is ∙ ap (λ d. integer z ++ 47 ∷ d) least.fits.2,
+            ap (λ w. w ++ least.more) parts ∙ append_assoc above (47 ∷ below) least.more
+                ∙ ap (λ a. a ++ 47 ∷ (below ++ least.more)) is ∙ ap (λ d. integer z ++ 47 ∷ d) least.fits.2,
           );
           count_is = least.count_is;
           least = λ other ratio. least.least other (denominator other ratio);

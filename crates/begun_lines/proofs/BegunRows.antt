@@ -14,7 +14,7 @@ use Rattle.begun_lines.specs.Begun.{BeginsNumber, IsRowLine, AreNumbers, IsShort
 use Rattle.begun_lines.proofs.Beginnings.{two_parts, front-longer, front-whole, behind-space}
 use Rattle.begun_lines.proofs.BegunPlaces.{begins-from, short_number}
 use Rattle.begun_lines.proofs.BegunNumbers.{cut-decimal}
-use Rattle.answer_lines.proofs.Chains.{tail-is}
+use Rattle.answer_lines.proofs.ListParts.{tail-is}
 use Rattle.answer_lines.proofs.LineWords.{row-words}
 use Rattle.answer_lines.proofs.SpacedWords.{from-words}
 
@@ -57,7 +57,8 @@ spaced-some (c ∷ cs) [] some e = cc
 spaced-some (c ∷ cs) (v ∷ vs) some e = cc
 
 -- what numbers begin with, where it isn't empty, is numbers or awaits one
-numbers-front : (n : ℕ) (ns text more : List ℕ) → All IsThing (n ∷ ns) → text ++ more ≡ spaced (map decimal (n ∷ ns)) → text ≢ [] → IsNumbers text ⊎ AwaitsNumber text more
+numbers-front : (n : ℕ) (ns text more : List ℕ) → All IsThing (n ∷ ns) → text ++ more ≡ spaced (map decimal (n ∷ ns)) →
+    text ≢ [] → IsNumbers text ⊎ AwaitsNumber text more
 numbers-front n [] text more all e some = inl (cut-one n text more (All-head IsThing n [] all) e some)
 numbers-front n (k ∷ ks) text more all e some =
     let small : IsThing n = All-head IsThing n (k ∷ ks) all in
@@ -66,10 +67,12 @@ numbers-front n (k ∷ ks) text more all e some =
       | inl within ↦ inl (cut-one n text within.0 small within.1 some)
       | inr into ↦
           let found : (left : List ℕ) × (into.cut ≡ 32 ∷ left) × (left ++ more ≡ rest) = behind-space into.cut more rest into.some into.left in
-          step small found.0 (into.is ∙ ap (λ bytes. decimal n ++ bytes) found.1) found.2 (numbers-front k ks found.0 more (All-tail IsThing n (k ∷ ks) all) found.2)
+          step small found.0 (into.is ∙ ap (λ bytes. decimal n ++ bytes) found.1) found.2
+          (numbers-front k ks found.0 more (All-tail IsThing n (k ∷ ks) all) found.2)
     ]
   where
-    step : IsThing n → (left : List ℕ) → text ≡ decimal n ++ 32 ∷ left → left ++ more ≡ spaced (map decimal (k ∷ ks)) → (left ≢ [] → IsNumbers left ⊎ AwaitsNumber left more) → IsNumbers text ⊎ AwaitsNumber text more
+    step : IsThing n → (left : List ℕ) → text ≡ decimal n ++ 32 ∷ left → left ++ more ≡ spaced (map decimal (k ∷ ks)) →
+        (left ≢ [] → IsNumbers left ⊎ AwaitsNumber left more) → IsNumbers text ⊎ AwaitsNumber text more
     step small [] is e behind =
         inr (record {
           line = decimal n;
@@ -118,12 +121,14 @@ edge-begins rest left edge = go edge.0 edge.1.0 edge.1.1 edge.1.2 edge.2 edge.3
     go line row bounds is space room =
         let longer : Row = row_of_numbers row.request (row.rival.edges ++ 0 ∷ []) in
         let whole : rest ++ 48 ∷ [] ≡ row_line longer =
-        ap (λ bytes. bytes ++ 48 ∷ []) space ∙ append_assoc line (32 ∷ []) (48 ∷ []) ∙ ap (λ bytes. bytes ++ 32 ∷ 48 ∷ []) is ∙ sym (row-more row.request row.rival.edges) in
+        ap (λ bytes. bytes ++ 48 ∷ []) space ∙ append_assoc line (32 ∷ []) (48 ∷ [])
+        ∙ ap (λ bytes. bytes ++ 32 ∷ 48 ∷ []) is ∙ sym (row-more row.request row.rival.edges) in
         begins-from (AtRow (suc left)) (AtRow left) rest (row_line longer)
         (record { row = longer; bounds = (bounds.0, All-push IsThing row.rival.edges 0 bounds.1 (omega arith)); is = refl; leads = refl })
         (omega (arith, ap length whole, length-append rest (48 ∷ []))) (48 ∷ [], whole)
 
-pub row-begun : (rest : List ℕ) (left : ℕ) → ((BeginsNumber rest (codes "row ") 4294967295 ⊎ IsShortRow rest) ⊎ BeginsEdge rest) ↔ Begins (AtRow (suc left)) rest
+pub row-begun : (rest : List ℕ) (left : ℕ) →
+    ((BeginsNumber rest (codes "row ") 4294967295 ⊎ IsShortRow rest) ⊎ BeginsEdge rest) ↔ Begins (AtRow (suc left)) rest
 row-begun rest left = (
   λ begun. elim begun [
     | inl (inl number) ↦
@@ -131,18 +136,29 @@ row-begun rest left = (
         (record { row = row_of_numbers number.0 []; bounds = (omega (arith, number.1), All-nil IsThing); is = refl; leads = refl })
         (omega (arith, short_number (codes "row ") number.0 (omega arith) (omega (arith, number.1)))) number.2
     | inl (inr row) ↦
-        begins-from (AtRow (suc left)) (AtRow left) rest rest (record { row = row.0.0; bounds = row.0.1; is = row.0.2; leads = refl }) row.1 (front-whole rest rest refl)
+        begins-from (AtRow (suc left)) (AtRow left) rest rest
+        (record { row = row.0.0; bounds = row.0.1; is = row.0.2; leads = refl }) row.1 (front-whole rest rest refl)
     | inr edge ↦ edge-begins rest left edge
   ],
   λ begins. parts begins.0 begins.1.1.is.row begins.1.1.is.bounds begins.1.1.is.is begins.1.1.short,
 )
   where
-    behind : (more text : List ℕ) → rest ≡ codes "row " ++ text → length (rest ++ more) ≤ 65536 → IsNumbers text ⊎ AwaitsNumber text more → (BeginsNumber rest (codes "row ") 4294967295 ⊎ IsShortRow rest) ⊎ BeginsEdge rest
+    behind : (more text : List ℕ) → rest ≡ codes "row " ++ text → length (rest ++ more) ≤ 65536 →
+        IsNumbers text ⊎ AwaitsNumber text more → (BeginsNumber rest (codes "row ") 4294967295 ⊎ IsShortRow rest)
+        ⊎ BeginsEdge rest
     behind more text is short (inl numbers) = inl (inr (row-line rest text is numbers, omega (arith, length-append rest more)))
     behind [] text is short (inr awaits) = absurd (awaits.some refl)
-    behind (c ∷ cs) text is short (inr awaits) = inr (codes "row " ++ awaits.line, row-line (codes "row " ++ awaits.line) awaits.line refl awaits.numbers, is ∙ ap (λ bytes. codes "row " ++ bytes) awaits.is, omega (arith, length-append rest (c ∷ cs)))
+    behind (c ∷ cs) text is short (inr awaits) =
+        inr (
+          codes "row " ++ awaits.line,
+          row-line (codes "row " ++ awaits.line) awaits.line refl awaits.numbers,
+          is
+              ∙ ap (λ bytes. codes "row " ++ bytes) awaits.is,
+          omega (arith, length-append rest (c ∷ cs)),
+        )
 
-    parts : (more : List ℕ) (row : Row) → BoundsRow row → rest ++ more ≡ row_line row → length (rest ++ more) ≤ 65536 → (BeginsNumber rest (codes "row ") 4294967295 ⊎ IsShortRow rest) ⊎ BeginsEdge rest
+    parts : (more : List ℕ) (row : Row) → BoundsRow row → rest ++ more ≡ row_line row → length (rest ++ more) ≤ 65536 →
+        (BeginsNumber rest (codes "row ") 4294967295 ⊎ IsShortRow rest) ⊎ BeginsEdge rest
     parts more row bounds is short =
         elim (two_parts rest more (codes "row ") (spaced (map decimal (row.request ∷ row.rival.edges))) is) [
           | inl started ↦ inl (inl (0, omega arith, front-longer rest (codes "row ") (decimal 0) started))
@@ -163,7 +179,9 @@ row-said line words cut = (λ said. from said.1.0 said.1.1 said.1.2 said.0, λ r
 
     back : (row : Row) → BoundsRow row → line ≡ row_line row → (words ≢ []) × AreNumbers words
     back row bounds is =
-        let same : words ≡ map decimal (row.request ∷ row.rival.edges) = tail-is (codes "row") (codes "row") words (map decimal (row.request ∷ row.rival.edges)) (sym cut ∙ row-words line row is) in
+        let same : words ≡ map decimal (row.request ∷ row.rival.edges) =
+        tail-is (codes "row") (codes "row") words (map decimal (row.request ∷ row.rival.edges))
+        (sym cut ∙ row-words line row is) in
         (λ none. cc, (row.request ∷ row.rival.edges, All-cons IsThing row.request row.rival.edges bounds.0 bounds.1, same))
 
 -- words that begin with no number aren't numbers
@@ -176,7 +194,15 @@ numbers-off words some none numbers = go numbers.0 numbers.1 numbers.2
 
 -- words that begin with a number are numbers where those behind it are
 pub numbers-on : (words rest : List (List ℕ)) (n : ℕ) → n ≤ 4294967295 → words ≡ decimal n ∷ rest → AreNumbers words ↔ AreNumbers rest
-numbers-on words rest n small is = (λ numbers. from numbers.0 numbers.1 numbers.2, λ numbers. (n ∷ numbers.0, All-cons IsThing n numbers.0 (omega (arith, small)) numbers.1, is ∙ ap (λ ws. decimal n ∷ ws) numbers.2))
+numbers-on words rest n small is = (
+  λ numbers. from numbers.0 numbers.1 numbers.2,
+  λ numbers. (
+    n ∷ numbers.0,
+    All-cons IsThing n numbers.0 (omega (arith, small)) numbers.1,
+    is
+        ∙ ap (λ ws. decimal n ∷ ws) numbers.2,
+  ),
+)
   where
     from : (ns : List ℕ) → All IsThing ns → words ≡ map decimal ns → AreNumbers rest
     from [] all same = absurd (cc)

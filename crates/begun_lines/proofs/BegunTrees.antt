@@ -11,7 +11,7 @@ use Rattle.answer_lines.specs.Places.{Begins}
 use Rattle.begun_lines.specs.Begun.{IsFront, IsNumberWord, BeginsNumber, BeginsTree, BeginsCount}
 use Rattle.begun_lines.proofs.Beginnings.{two_parts, front-longer, behind-space}
 use Rattle.begun_lines.proofs.BegunPlaces.{begins-from}
-use Rattle.answer_lines.proofs.Chains.{head-is}
+use Rattle.answer_lines.proofs.ListParts.{head-is}
 use Rattle.answer_lines.proofs.LineFronts.{split-front}
 use Rattle.answer_lines.proofs.SpacedWords.{decimal-spaceless}
 
@@ -41,19 +41,31 @@ tree-begun rest front = (
       ),
     )
 
-    parts : (cap count : ℕ) → cap ≤ 65535 → count ≤ 4294967295 → (more : List ℕ) → rest ++ more ≡ front ++ (decimal cap ++ 32 ∷ decimal count) → BeginsNumber rest front 65535 ⊎ BeginsCount rest front
+    parts : (cap count : ℕ) → cap ≤ 65535 → count ≤ 4294967295 → (more : List ℕ) →
+        rest ++ more ≡ front ++ (decimal cap ++ 32 ∷ decimal count) → BeginsNumber rest front 65535
+        ⊎ BeginsCount rest front
     parts cap count small few more e =
         elim (two_parts rest more (front ++ decimal cap) (32 ∷ decimal count) (e ∙ sym (append_assoc front (decimal cap) (32 ∷ decimal count)))) [
           | inl within ↦ inl (cap, small, within)
           | inr into ↦
-              let found : (left : List ℕ) × (into.cut ≡ 32 ∷ left) × (left ++ more ≡ decimal count) = behind-space into.cut more (decimal count) into.some into.left in
-              inr (cap, found.0, small, into.is ∙ append_assoc front (decimal cap) into.cut ∙ ap (λ bytes. front ++ (decimal cap ++ bytes)) found.1, (count, few, (more, found.2)))
+              let found : (left : List ℕ) × (into.cut ≡ 32 ∷ left) × (left ++ more ≡ decimal count) =
+              behind-space into.cut more (decimal count) into.some into.left in
+              inr (
+                cap,
+                found.0,
+                small,
+                into.is ∙ append_assoc front (decimal cap) into.cut
+                    ∙ ap (λ bytes. front ++ (decimal cap ++ bytes)) found.1,
+                (count, few, (more, found.2)),
+              )
         ]
 
 -- a number's word, before a space, is the first piece
-cut-is : (numbers cap count : List ℕ) (n : ℕ) (left : List ℕ) → numbers ≡ cap ++ 32 ∷ count → split 32 numbers ≡ cap ∷ split 32 count → numbers ≡ decimal n ++ 32 ∷ left → (cap ≡ decimal n) × (count ≡ left)
+cut-is : (numbers cap count : List ℕ) (n : ℕ) (left : List ℕ) → numbers ≡ cap ++ 32 ∷ count →
+    split 32 numbers ≡ cap ∷ split 32 count → numbers ≡ decimal n ++ 32 ∷ left → (cap ≡ decimal n) × (count ≡ left)
 cut-is numbers cap count n left parts pieces is =
-    let first : cap ≡ decimal n = head-is cap (decimal n) (split 32 count) (split 32 left) (sym pieces ∙ ap (split 32) is ∙ split-front 32 (decimal n) left (decimal-spaceless n)) in
+    let first : cap ≡ decimal n = head-is cap (decimal n) (split 32 count) (split 32 left)
+    (sym pieces ∙ ap (split 32) is ∙ split-front 32 (decimal n) left (decimal-spaceless n)) in
     let behind : 32 ∷ count ≡ 32 ∷ left = append_cancel_left cap (32 ∷ count) (32 ∷ left) (sym parts ∙ is ∙ ap (λ bytes. bytes ++ 32 ∷ left) (sym first)) in
     (first, cc)
 
@@ -72,18 +84,28 @@ count-begun rest front numbers cap count is parts pieces = (
 pub count-unbegun : (rest front numbers : List ℕ) → rest ≡ front ++ numbers → split 32 numbers ≡ numbers ∷ [] → BeginsCount rest front → ⊥
 count-unbegun rest front numbers is whole begun =
     let same : numbers ≡ decimal begun.0 ++ 32 ∷ begun.1 = append_cancel_left front numbers (decimal begun.0 ++ 32 ∷ begun.1) (sym is ∙ begun.3) in
-    let pieces : numbers ∷ [] ≡ decimal begun.0 ∷ split 32 begun.1 = sym whole ∙ ap (split 32) same ∙ split-front 32 (decimal begun.0) begun.1 (decimal-spaceless begun.0) in
+    let pieces : numbers ∷ [] ≡ decimal begun.0 ∷ split 32 begun.1 = sym whole ∙ ap (split 32) same
+    ∙ split-front 32 (decimal begun.0) begun.1 (decimal-spaceless begun.0) in
     split-some 32 begun.1 (cc)
 
 -- a number that is read says whether a word is one
-pub word-tested : (word : List ℕ) (greatest : ℕ) (found : Option ℕ) → MatchOption found ((n : ℕ) → n ≤ greatest → word ≢ decimal n) (λ n. (word ≡ decimal n) × (n ≤ greatest)) → IsTrue (is_some found) ↔ IsNumberWord word greatest
+pub word-tested : (word : List ℕ) (greatest : ℕ) (found : Option ℕ) →
+    MatchOption found ((n : ℕ) → n ≤ greatest → word ≢ decimal n) (λ n. (word ≡ decimal n) × (n ≤ greatest)) →
+    IsTrue (is_some found) ↔ IsNumberWord word greatest
 word-tested word greatest None h = (λ yes. absurd (cc), λ number. absurd (h number.0 number.1 number.2))
 word-tested word greatest (Some n) h = (λ yes. (n, h.1, h.0), λ number. refl)
 
 -- the line of a tree's head is short
-short_head : (front : List ℕ) (cap count : ℕ) → length front ≤ 100 → cap ≤ 65535 → count ≤ 4294967295 → length (front ++ (decimal cap ++ 32 ∷ decimal count)) ≤ 65536
+short_head : (front : List ℕ) (cap count : ℕ) → length front ≤ 100 → cap ≤ 65535 → count ≤ 4294967295 →
+    length (front ++ (decimal cap ++ 32 ∷ decimal count)) ≤ 65536
 short_head front cap count small few many =
-    omega (arith, length-append front (decimal cap ++ 32 ∷ decimal count), length-append (decimal cap) (32 ∷ decimal count), length-decimal-le 30 cap (omega arith) (omega arith), length-decimal-le 30 count (omega arith) (omega arith))
+    omega (
+      arith,
+      length-append front (decimal cap ++ 32 ∷ decimal count),
+      length-append (decimal cap) (32 ∷ decimal count),
+      length-decimal-le 30 cap (omega arith) (omega arith),
+      length-decimal-le 30 count (omega arith) (omega arith),
+    )
 
 pub proof-begun : (rest : List ℕ) → (IsFront rest (codes "proof none") ⊎ BeginsTree rest (codes "proof ")) ↔ Begins (AtRow zero) rest
 proof-begun rest = (
@@ -91,9 +113,21 @@ proof-begun rest = (
     | inl line ↦ begins-from (AtRow zero) (AtTree Proof 0 0) rest (codes "proof none") (inl (refl, refl)) (omega arith) line
     | inr head ↦
         begins-from (AtRow zero) (AtTree Proof 1 head.1) rest (codes "proof " ++ (decimal head.0 ++ 32 ∷ decimal head.1))
-        (inr (record { cap = head.0; count = head.1; cap_bounds = omega (arith, head.2); count_bounds = omega (arith, head.3); is = refl; leads = refl })) (short_head (codes "proof ") head.0 head.1 (omega arith) head.2 head.3) head.4
+        (inr (record {
+          cap = head.0;
+          count = head.1;
+          cap_bounds = omega (arith, head.2);
+          count_bounds = omega (arith, head.3);
+          is = refl;
+          leads = refl;
+        }))
+        (short_head (codes "proof ") head.0 head.1 (omega arith) head.2 head.3) head.4
   ],
-  λ begins. elim begins.1.1.is [ inl none ↦ inl (begins.0, none.0) | inr head ↦ inr (head.cap, head.count, omega (arith, head.cap_bounds), omega (arith, head.count_bounds), (begins.0, head.is)) ],
+  λ begins. elim begins.1.1.is [
+    | inl none ↦ inl (begins.0, none.0)
+    | inr head ↦ inr
+        (head.cap, head.count, omega (arith, head.cap_bounds), omega (arith, head.count_bounds), (begins.0, head.is))
+  ],
 )
 
 pub open-begun : (rest : List ℕ) → (IsFront rest (codes "open none") ⊎ BeginsTree rest (codes "open ")) ↔ Begins (AtTree Proof zero zero) rest
@@ -102,7 +136,19 @@ open-begun rest = (
     | inl line ↦ begins-from (AtTree Proof zero zero) (AtTree Unfinished 0 0) rest (codes "open none") (inl (refl, refl)) (omega arith) line
     | inr head ↦
         begins-from (AtTree Proof zero zero) (AtTree Unfinished 1 head.1) rest (codes "open " ++ (decimal head.0 ++ 32 ∷ decimal head.1))
-        (inr (record { cap = head.0; count = head.1; cap_bounds = omega (arith, head.2); count_bounds = omega (arith, head.3); is = refl; leads = refl })) (short_head (codes "open ") head.0 head.1 (omega arith) head.2 head.3) head.4
+        (inr (record {
+          cap = head.0;
+          count = head.1;
+          cap_bounds = omega (arith, head.2);
+          count_bounds = omega (arith, head.3);
+          is = refl;
+          leads = refl;
+        }))
+        (short_head (codes "open ") head.0 head.1 (omega arith) head.2 head.3) head.4
   ],
-  λ begins. elim begins.1.1.is [ inl none ↦ inl (begins.0, none.0) | inr head ↦ inr (head.cap, head.count, omega (arith, head.cap_bounds), omega (arith, head.count_bounds), (begins.0, head.is)) ],
+  λ begins. elim begins.1.1.is [
+    | inl none ↦ inl (begins.0, none.0)
+    | inr head ↦ inr
+        (head.cap, head.count, omega (arith, head.cap_bounds), omega (arith, head.count_bounds), (begins.0, head.is))
+  ],
 )

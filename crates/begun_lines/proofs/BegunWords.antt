@@ -10,7 +10,7 @@ use Rattle.answer_lines.specs.Words.{IsSpaceless}
 use Rattle.begun_lines.specs.BegunLines.{GoesOn, Then, Alone, Never, IsLeast, IsStep, IsNoStep, IsNumber, IsRatio}
 use Rattle.begun_lines.specs.declared.numbers.Numbers.{Numbers}
 use Rattle.begun_lines.specs.declared.begun.Begun.{Begun}
-use Rattle.answer_lines.proofs.Chains.{head-is, tail-is}
+use Rattle.answer_lines.proofs.ListParts.{head-is, tail-is}
 use Rattle.answer_lines.proofs.LineFronts.{split-front, split-whole}
 use Rattle.answer_lines.proofs.SpacedWords.{split-alone, spaced-split, decimal-spaceless}
 use Rattle.answer_lines.proofs.LineEntries.{ratio-spaceless}
@@ -27,7 +27,8 @@ first_word text w ws e = record { spaceless = split-whole 32 text w ws e; parts 
     cases [] e = inl (refl, sym (spaced-split text) ∙ ap spaced e)
     cases (v ∷ vs) e =
         let parts : text ≡ w ++ 32 ∷ spaced (v ∷ vs) = sym (spaced-split text) ∙ ap spaced e in
-        let cut : split 32 text ≡ w ∷ split 32 (spaced (v ∷ vs)) = ap (split 32) parts ∙ split-front 32 w (spaced (v ∷ vs)) (split-whole 32 text w (v ∷ vs) e) in
+        let cut : split 32 text ≡ w ∷ split 32 (spaced (v ∷ vs)) = ap (split 32) parts
+        ∙ split-front 32 w (spaced (v ∷ vs)) (split-whole 32 text w (v ∷ vs) e) in
         inr (spaced (v ∷ vs), parts, tail-is w w (v ∷ vs) (split 32 (spaced (v ∷ vs))) (sym e ∙ cut))
 
 -- more bytes behind a word without spaces
@@ -69,7 +70,9 @@ grown_word t more w ws alone e =
     record {
       grown = cut.w;
       word = head-is w (t ++ cut.w) ws cut.ws (sym e ∙ longer);
-      parts = subst (λ vs. ((vs ≡ []) × (more ≡ cut.w)) ⊎ ((rest : List ℕ) × (more ≡ cut.w ++ 32 ∷ rest) × (vs ≡ split 32 rest))) (sym same) (first_word more cut.w cut.ws cut.is).parts;
+      parts = subst (λ vs. ((vs ≡ []) × (more ≡ cut.w))
+          ⊎ ((rest : List ℕ) × (more ≡ cut.w ++ 32 ∷ rest) × (vs ≡ split 32 rest))) (sym same)
+          (first_word more cut.w cut.ws cut.is).parts;
     }
 
 -- the words of a text that grows begin with its first word, which itself may grow only at the text's end
@@ -101,7 +104,8 @@ NotBehind b missing = ((split 32 b.text.now ≢ b.text.now ∷ []) × (missing �
 
 abbrev pub StandsBehind : Begun → ℕ → Begun → Type 0
 StandsBehind b missing after =
-    ((word : List ℕ) × (b.text.now ≡ word ++ 32 ∷ after.text.now) × (split 32 b.text.now ≡ word ∷ split 32 after.text.now) × (missing ≡ 0) × (after.room ≡ b.room))
+    ((word : List ℕ) × (b.text.now ≡ word ++ 32 ∷ after.text.now)
+    × (split 32 b.text.now ≡ word ∷ split 32 after.text.now) × (missing ≡ 0) × (after.room ≡ b.room))
     ⊎ ((split 32 b.text.now ≡ b.text.now ∷ []) × (after.text.now ≡ []) × (after.room + missing + 1 ≡ b.room))
 
 step_here : (word : List ℕ → Type 0) (b after : Begun) (v : List ℕ) (vs : List (List ℕ)) (n : ℕ) → IsLeast word v n → split 32 b.text.now ≡ v ∷ vs →
@@ -128,7 +132,8 @@ record Onward (word : List ℕ → Type 0) (text more w : List ℕ) (ws : List (
   is : ws ≡ split 32 rest
   few : n + 1 + length rest ≤ length more
 
-onward : (word : List ℕ → Type 0) (text more w : List ℕ) (ws : List (List ℕ)) (n : ℕ) → IsLeast word text n → split 32 text ≡ text ∷ [] → word w → ws ≢ [] → split 32 (text ++ more) ≡ w ∷ ws →
+onward : (word : List ℕ → Type 0) (text more w : List ℕ) (ws : List (List ℕ)) (n : ℕ) → IsLeast word text n →
+    split 32 text ≡ text ∷ [] → word w → ws ≢ [] → split 32 (text ++ more) ≡ w ∷ ws →
     Onward word text more w ws n
 onward word text more w ws n least alone is some e =
     let grown = grown_word text more w ws alone e in
@@ -142,7 +147,8 @@ onward word text more w ws n least alone is some e =
           }
     ]
 
-step_grown : (word : List ℕ → Type 0) → ((w : List ℕ) → word w → IsSpaceless w) → (b after : Begun) (n : ℕ) → IsLeast word b.text.now n → split 32 b.text.now ≡ b.text.now ∷ [] →
+step_grown : (word : List ℕ → Type 0) → ((w : List ℕ) → word w → IsSpaceless w) → (b after : Begun) (n : ℕ) →
+    IsLeast word b.text.now n → split 32 b.text.now ≡ b.text.now ∷ [] →
     after.text.now ≡ [] → after.room + n + 1 ≡ b.room → IsStep word b after
 step_grown word spaceless b after n least alone empty room = record {
   forth =
@@ -163,7 +169,8 @@ step_grown word spaceless b after n least alone empty room = record {
 }
 
 -- what follows a word that lacks some bytes
-pub step_behind : (word : List ℕ → Type 0) → ((w : List ℕ) → word w → IsSpaceless w) → (b : Begun) (v : List ℕ) (vs : List (List ℕ)) (n : ℕ) → IsLeast word v n → split 32 b.text.now ≡ v ∷ vs →
+pub step_behind : (word : List ℕ → Type 0) → ((w : List ℕ) → word w → IsSpaceless w) →
+    (b : Begun) (v : List ℕ) (vs : List (List ℕ)) (n : ℕ) → IsLeast word v n → split 32 b.text.now ≡ v ∷ vs →
     (r : Option Begun) → MatchOption r (NotBehind b n) (λ after. StandsBehind b n after) → MatchOption r (IsNoStep word b) (λ after. IsStep word b after)
 step_behind word spaceless b v vs n least first (Some after) (inl here) = step_here word b after v vs n least first here.0 here.1 here.2 here.3 here.4
 step_behind word spaceless b v vs n least first (Some after) (inr grown) =
@@ -173,7 +180,8 @@ step_behind word spaceless b v vs n least first None (inl not) = λ more w ws is
     elim (first_word b.text.now v vs first).parts [
       | inl one ↦ not.0 (first ∙ ap (λ us. v ∷ us) one.0 ∙ ap (λ u. u ∷ []) (sym one.1))
       | inr behind ↦
-          let same : w ≡ v = head-is w v ws (split 32 (behind.0 ++ more)) (sym e ∙ word_behind b.text.now v behind.0 more behind.1 (first_word b.text.now v vs first).spaceless) in
+          let same : w ≡ v = head-is w v ws (split 32 (behind.0 ++ more))
+          (sym e ∙ word_behind b.text.now v behind.0 more behind.1 (first_word b.text.now v vs first).spaceless) in
           not.1 (omega (arith, least.least [] (subst word (same ∙ sym (append-nil v)) is)))
     ]
 step_behind word spaceless b v vs n least first None (inr tight) = λ more w ws is some e within.
@@ -188,7 +196,8 @@ alone_is word (w ∷ []) is = (w, is, refl)
 alone_is word (w ∷ (v ∷ vs)) is = absurd is
 
 -- a line that may not end with a word
-pub last_never : (word : List ℕ → Type 0) (text v : List ℕ) (vs : List (List ℕ)) (room : ℕ) → split 32 text ≡ v ∷ vs → Never word v → IsTrue false ↔ GoesOn (Alone word) text room
+pub last_never : (word : List ℕ → Type 0) (text v : List ℕ) (vs : List (List ℕ)) (room : ℕ) → split 32 text ≡ v ∷ vs →
+    Never word v → IsTrue false ↔ GoesOn (Alone word) text room
 last_never word text v vs room first never = (
   λ no. absurd (cc),
   λ on.
@@ -198,7 +207,8 @@ last_never word text v vs room first never = (
 )
 
 -- a line that may end with a word
-pub last_word : (word : List ℕ → Type 0) → ((w : List ℕ) → word w → IsSpaceless w) → (text v : List ℕ) (vs : List (List ℕ)) (room n : ℕ) → split 32 text ≡ v ∷ vs → IsLeast word v n → (r : Bool) →
+pub last_word : (word : List ℕ → Type 0) → ((w : List ℕ) → word w → IsSpaceless w) →
+    (text v : List ℕ) (vs : List (List ℕ)) (room n : ℕ) → split 32 text ≡ v ∷ vs → IsLeast word v n → (r : Bool) →
     IsTrue r ↔ ((split 32 text ≡ text ∷ []) × (n ≤ room)) → IsTrue r ↔ GoesOn (Alone word) text room
 last_word word spaceless text v vs room n first least r h = (λ yes_it. forth (h.0 yes_it), λ on. h.1 (back on))
   where
@@ -216,7 +226,15 @@ last_word word spaceless text v vs room n first least r h = (λ yes_it. forth (h
               let alone : split 32 text ≡ text ∷ [] = first ∙ ap (λ us. v ∷ us) one.0 ∙ ap (λ u. u ∷ []) (sym one.1) in
               let grown = grown_word text on.0 is.0 [] alone is.2 in
               elim grown.parts [
-                | inl here ↦ (alone, omega (arith, least.least grown.grown (subst word (grown.word ∙ ap (λ u. u ++ grown.grown) one.1) is.1), ap length here.1, on.2))
+                | inl here ↦ (
+                  alone,
+                  omega (
+                    arith,
+                    least.least grown.grown (subst word (grown.word ∙ ap (λ u. u ++ grown.grown) one.1) is.1),
+                    ap length here.1,
+                    on.2,
+                  ),
+                )
                 | inr behind ↦ absurd (split-some 32 behind.0 (sym behind.2))
               ]
           | inr behind ↦
@@ -225,7 +243,8 @@ last_word word spaceless text v vs room n first least r h = (λ yes_it. forth (h
         ]
 
 -- a line that no word goes on with
-pub stops : (word : List ℕ → Type 0) (said : List (List ℕ) → Type 0) (b : Begun) → IsNoStep word b → (said [] → ⊥) → IsTrue false ↔ GoesOn (Then word said) b.text.now b.room
+pub stops : (word : List ℕ → Type 0) (said : List (List ℕ) → Type 0) (b : Begun) → IsNoStep word b → (said [] → ⊥) →
+    IsTrue false ↔ GoesOn (Then word said) b.text.now b.room
 stops word said b none some = (
   λ no. absurd (cc),
   λ on.
@@ -235,7 +254,8 @@ stops word said b none some = (
 )
 
 -- a line that goes on with a word and what follows it
-pub goes : (word : List ℕ → Type 0) (said : List (List ℕ) → Type 0) (b after : Begun) → IsStep word b after → (said [] → ⊥) → (r : Bool) → IsTrue r ↔ GoesOn said after.text.now after.room →
+pub goes : (word : List ℕ → Type 0) (said : List (List ℕ) → Type 0) (b after : Begun) → IsStep word b after →
+    (said [] → ⊥) → (r : Bool) → IsTrue r ↔ GoesOn said after.text.now after.room →
     IsTrue r ↔ GoesOn (Then word said) b.text.now b.room
 goes word said b after step some r h = (λ yes_it. forth (h.0 yes_it), λ on. h.1 (back on))
   where

@@ -9,4 +9,4 @@ pub mod BegunRatios
 pub mod BegunRows
 pub mod BegunTrees
 pub mod BegunWords
-pub mod Either
+pub mod TruthLaws

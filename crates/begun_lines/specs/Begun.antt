@@ -1,4 +1,4 @@
--- Bytes that lines of one form begin with.
+-- Bytes that lines of one form begin with. No public clause cites it.
 use Rattle.std.specs.Prelude.{◌≡◌, ◌≢◌, ℕ, ◌<◌, ◌≤◌, List, [], ◌∷◌, ◌++◌, All, length, map, Option, Some, None}
 use Rattle.cost_base.specs.Decimal.{decimal}
 use Rattle.cost_base.specs.Words.{IsOneWord}

@@ -1,4 +1,4 @@
--- Lines that are begun, and what may go on with them.
+-- Lines that are begun, and what may go on with them. No public clause cites it.
 use Rattle.std.specs.Prelude.{◌≡◌, ◌≢◌, ℕ, ◌+◌, ◌*◌, ◌^◌, ◌<◌, ◌≤◌, List, [], ◌∷◌, ◌++◌, All, length, ◌⊎◌, Option, MatchOption, codes}
 use Rattle.cost_base.specs.Decimal.{decimal}
 use Rattle.text_lines.specs.Numbers.{split}

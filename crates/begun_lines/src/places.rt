@@ -1,9 +1,9 @@
 //! Whether bytes begin a lawful line at a place.
-ghost use Rattle.std.specs.Prelude.{◌≡◌, ℕ, zero, suc, List, IsTrue, ◌↔◌, Option};
+ghost use Rattle.std.specs.Prelude.{◌≡◌, ◌⊎◌, ℕ, zero, suc, List, IsTrue, ◌↔◌, Option, codes};
 ghost use Rattle.std.specs.Option.{option_copied};
 ghost use Rattle.answer_lines.specs.Grammar.{AtHead, AtVerdict, AtCosts, AtSections, AtInterface, AtCost, AtExit, AtFloor, AtRows, AtRow, AtTree, AtEnd};
 ghost use Rattle.answer_lines.specs.Places.{Begins};
-ghost use Rattle.begun_lines.specs.Begun.{BeginsTree, BeginsCount, BeginsRouter, BeginsAgain, IsRouterOf};
+ghost use Rattle.begun_lines.specs.Begun.{IsFront, BeginsNumber, BeginsTree, BeginsCount, BeginsRouter, BeginsAgain, IsRouterOf};
 
 use crate::fronts::{begins_line, begins_name, begins_number};
 use answer_lines::{LONGEST, after};
@@ -21,9 +21,14 @@ pub fn begins_head(rest: &[u8]) -> bool
 pub fn begins_verdict(rest: &[u8]) -> bool
     ensures { IsTrue result ↔ Begins AtVerdict rest.now }
 {
-    begins_line(rest, b"verdict impossible")
-        || begins_number(rest, b"verdict optimal ", 65_535)
-        || begins_number(rest, b"verdict undecided budget ", 65_535)
+    begins_decided(rest) || begins_number(rest, b"verdict undecided budget ", 65_535)
+}
+
+/// Whether these bytes begin the line of a verdict that decides.
+fn begins_decided(rest: &[u8]) -> bool
+    ensures { IsTrue result ↔ (IsFront rest.now (codes "verdict impossible") ⊎ BeginsNumber rest.now (codes "verdict optimal ") 65535) }
+{
+    begins_line(rest, b"verdict impossible") || begins_number(rest, b"verdict optimal ", 65_535)
 }
 
 /// Whether these bytes begin the line of the greatest cost.
@@ -37,7 +42,14 @@ pub fn begins_costs(rest: &[u8]) -> bool
 pub fn begins_section(rest: &[u8], before: Option<&[u8]>) -> bool
     ensures { IsTrue result ↔ Begins (AtSections (option_copied before.entry)) rest.now }
 {
-    begins_router(rest, before) || begins_interface_again(rest, before) || begins_floor(rest)
+    begins_next_cost(rest, before) || begins_floor(rest)
+}
+
+/// Whether these bytes begin a line of one more cost: that of another router, or of one more interface of the same.
+fn begins_next_cost(rest: &[u8], before: Option<&[u8]>) -> bool
+    ensures { IsTrue result ↔ (BeginsRouter (option_copied before.entry) rest.now ⊎ BeginsAgain (option_copied before.entry) rest.now) }
+{
+    begins_router(rest, before) || begins_interface_again(rest, before)
 }
 
 /// Whether these bytes begin the line of a router that isn't `before`.

@@ -1,9 +1,9 @@
 //! Whether bytes begin the line of a row, which names any number of edges.
-ghost use Rattle.std.specs.Prelude.{◌≡◌, ℕ, suc, List, IsTrue, ◌↔◌};
+ghost use Rattle.std.specs.Prelude.{◌≡◌, ◌⊎◌, ℕ, suc, List, IsTrue, ◌↔◌, codes};
 ghost use Rattle.answer_lines.specs.Words.{words_left};
 ghost use Rattle.answer_lines.specs.Grammar.{AtRow};
 ghost use Rattle.answer_lines.specs.Places.{Begins};
-ghost use Rattle.begun_lines.specs.Begun.{IsRowLine, IsShortRow, BeginsEdge, AreNumbers};
+ghost use Rattle.begun_lines.specs.Begun.{BeginsNumber, IsRowLine, IsShortRow, BeginsEdge, AreNumbers};
 
 use crate::fronts::begins_number;
 use answer_lines::{LONGEST, Pieces};
@@ -12,7 +12,14 @@ use answer_lines::{LONGEST, Pieces};
 pub fn begins_row(rest: &[u8]) -> bool
     ensures { (left : ℕ) → (IsTrue result ↔ Begins (AtRow (suc left)) rest.now) }
 {
-    begins_number(rest, b"row ", 4_294_967_295) || is_short_row(rest) || begins_edge(rest)
+    begins_number_or_row(rest) || begins_edge(rest)
+}
+
+/// Whether these bytes begin the first number of a row, or are the line of a row that has at most 65,536 bytes.
+fn begins_number_or_row(rest: &[u8]) -> bool
+    ensures { IsTrue result ↔ (BeginsNumber rest.now (codes "row ") 4294967295 ⊎ IsShortRow rest.now) }
+{
+    begins_number(rest, b"row ", 4_294_967_295) || is_short_row(rest)
 }
 
 /// Whether this is the line of a row that has at most 65,536 bytes.

@@ -4,9 +4,10 @@ ghost use Rattle.cost_base.specs.Decimal.{decimal};
 ghost use Rattle.case_maker.specs.Cases.{file_name, first_end, second_end, side_config, onward, begins_block, ends_block, joint_config};
 ghost use Rattle.case_maker.specs.Cases as cases;
 
-use crate::pieces::{push_bytes, push_interface, push_router};
+use crate::pieces::{push_interface, push_router};
 use cost_base::{Name, OutOfMemory};
 use std::alloc::Global;
+use text_lines::push_bytes;
 
 /// The name of the file of a router.
 fn file_name_of(alloc: Global, letter: u8, number: u32) -> Result<Name, OutOfMemory>

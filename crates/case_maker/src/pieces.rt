@@ -4,44 +4,27 @@ ghost use Rattle.cost_base.specs.Decimal.{decimal};
 ghost use Rattle.case_maker.specs.Cases.{quad_text, interface_head, interface_text};
 
 use cost_base::OutOfMemory;
-use text_lines::number_bytes;
-
-/// Adds bytes.
-pub(crate) fn push_bytes(text: &mut Vec<u8>, bytes: &[u8]) -> Result<(), OutOfMemory>
-    ensures { OnOk result (text.new.items ≡ text.old.items ++ bytes.now) }
-{
-    text.extend_from_slice(bytes)?;
-    Ok(())
-}
-
-/// Adds the decimal digits of a number.
-pub(crate) fn push_number(text: &mut Vec<u8>, number: u32) -> Result<(), OutOfMemory>
-    ensures { OnOk result (text.new.items ≡ text.old.items ++ decimal number) }
-{
-    let mut room = [0; 40];
-    let length = number_bytes(u128::from(number), &mut room);
-    push_bytes(text, &room[..length])
-}
+use text_lines::{push_bytes, push_number};
 
 /// Adds the name of a router: its letter and its number.
 pub(crate) fn push_router(text: &mut Vec<u8>, letter: u8, number: u32) -> Result<(), OutOfMemory>
     ensures { OnOk result (text.new.items ≡ text.old.items ++ letter ∷ decimal number) }
 {
     push_bytes(text, &[letter])?;
-    push_number(text, number)
+    push_number(text, u128::from(number))
 }
 
 /// Adds an address as a dotted quad.
 pub(crate) fn push_quad(text: &mut Vec<u8>, address: u32) -> Result<(), OutOfMemory>
     ensures { OnOk result (text.new.items ≡ text.old.items ++ quad_text address) }
 {
-    push_number(text, address / 16_777_216)?;
+    push_number(text, u128::from(address / 16_777_216))?;
     push_bytes(text, b".")?;
-    push_number(text, address / 65_536 % 256)?;
+    push_number(text, u128::from(address / 65_536 % 256))?;
     push_bytes(text, b".")?;
-    push_number(text, address / 256 % 256)?;
+    push_number(text, u128::from(address / 256 % 256))?;
     push_bytes(text, b".")?;
-    push_number(text, address % 256)
+    push_number(text, u128::from(address % 256))
 }
 
 /// Adds a number between two texts.
@@ -54,7 +37,7 @@ fn push_between(
     ensures { OnOk result (text.new.items ≡ text.old.items ++ (before.now ++ (decimal number ++ after.now))) }
 {
     push_bytes(text, before)?;
-    push_number(text, number)?;
+    push_number(text, u128::from(number))?;
     push_bytes(text, after)
 }
 

@@ -4,9 +4,10 @@ ghost use Rattle.case_maker.specs.Cases.{is_even_high, hops_over, path_over};
 ghost use Rattle.case_maker.specs.Cases as cases;
 
 use crate::configs::onward_of;
-use crate::pieces::{push_bytes, push_number, push_router};
+use crate::pieces::push_router;
 use cost_base::{Name, OutOfMemory};
 use std::alloc::Global;
+use text_lines::{push_bytes, push_number};
 
 /// The next number of the generator that chooses the sides.
 fn next_number(number: u64) -> u64
@@ -24,7 +25,7 @@ fn push_hops(text: &mut Vec<u8>, is_upper: bool, block: u32) -> Result<(), OutOf
     let upper = onward_of(block);
     push_router(text, b'j', block)?;
     push_bytes(text, b":e")?;
-    push_number(text, if is_upper { upper } else { upper + 1 })?;
+    push_number(text, u128::from(if is_upper { upper } else { upper + 1 }))?;
     push_bytes(text, b" ")?;
     push_router(text, if is_upper { b'u' } else { b'l' }, block)?;
     push_bytes(text, b":e1 ")

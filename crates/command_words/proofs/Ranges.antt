@@ -91,7 +91,9 @@ rows_in = (
                 (
                   (λ found. two_in Lsas (value (codes "request") found) (configs found) (λ x y e f. tt)),
                   (
-                    (λ found. three_in Route (value (codes "lsas") found) (option_and_then quad (value (codes "from") found)) (option_and_then quad (value (codes "to") found)) (λ x y z. tt)),
+                    (λ found. three_in Route (value (codes "lsas") found)
+                        (option_and_then quad (value (codes "from") found))
+                        (option_and_then quad (value (codes "to") found)) (λ x y z. tt)),
                     tt,
                   ),
                 ),

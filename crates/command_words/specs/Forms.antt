@@ -1,4 +1,4 @@
--- Rows of the command table by what names them in the code.
+-- Rows of the command table by what names them in the code. No public clause cites it.
 use Rattle.std.specs.Prelude.{◌≡◌, List, map, Option, Some, None, Result, MatchResult, string_bytes}
 use Rattle.std.specs.Borrow.{Bor}
 use Rattle.clap.specs.Matches.{found_of}

@@ -3,7 +3,9 @@ use std::alloc::AllocError;
 use wide_fraction::Limits;
 
 /// What the words ask for: the values of the options, the CONFIG words in their order, and the stated defaults.
-/// Texts are names of files.
+///
+/// Texts are names of files: `request` is that of `--request`, `answer` that of `--answer`, `sets` that of `--sets`, `lsas`
+/// that of `--lsas`; `config` and `configs` are the CONFIG words. `limits` are `--nodes` and `--bits`.
 #[derive(Debug, Drop)]
 pub enum Job {
     /// Find costs, or evidence that there are none.
@@ -70,6 +72,7 @@ pub enum Job {
 pub enum WordsStop {
     /// The words are off the command table.
     Refused,
+    /// Memory ran out.
     OutOfMemory,
 }
 

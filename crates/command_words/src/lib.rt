@@ -27,6 +27,10 @@ use table::{CommandName, command_named};
 /// `Refused` comes exactly where the first word is missing or names no command, where that `clap` command doesn't
 /// take the other words (as where they ask for help), where a number isn't 1 to 10 decimal digits within its range,
 /// or where a router isn't a dotted quad.
+///
+/// # Errors
+///
+/// Why no job was read: the words are off the command table, or memory ran out.
 pub fn read_words(alloc: Global, words: &[String]) -> Result<Job, WordsStop>
     ensures job { IfOk result (λ job. job_of (texts words.now) ≡ Some (seen job)) }
     ensures ranges { IfOk result (λ job. IsInRange (seen job)) }

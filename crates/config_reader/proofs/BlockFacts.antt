@@ -5,6 +5,8 @@ use Rattle.std.proofs.lemmas.Bool.{false≢true, or_right, or_left, false_from_n
 use Rattle.std.proofs.lemmas.List.Folds.{list_any-append}
 use Rattle.std.proofs.lemmas.List.Elements.{filter-append}
 use Rattle.cost_base.specs.Lists.{last_of, same_bytes}
+use Rattle.cost_base.proofs.ListLemmas.{last_of-push}
+use Rattle.cost_base.proofs.ByteLemmas.{same_bytes-refl, same_bytes-true}
 use Rattle.text_lines.specs.Lines.{words, kind_of, is_head}
 use Rattle.text_lines.specs.declared.LineKind.{LineKind}
 use Rattle.text_lines.specs.declared.LineKind.TheVariants.{Blank, Comment, Head, Indented}
@@ -12,7 +14,6 @@ use Rattle.config_reader.specs.Statements.{Block, OfInterface, OfRouter, OfOther
 use Rattle.config_reader.specs.Settings.{said, said_by, block_by_head, about, is_of}
 use Rattle.config_reader.specs.Configs.{first_heads, firsts, with_line, name_opened}
 use Rattle.config_reader.specs.Reading.{open_block}
-use Rattle.config_reader.proofs.Places.{last_of-push, same_bytes-refl, same_bytes-true}
 use Rattle.config_reader.proofs.SaidSteps.{said_after, said-push, opened_from}
 use Rattle.config_reader.proofs.SettingSteps.{about-push, said_where}
 use Rattle.config_reader.proofs.HeadSteps.{first_heads-push, heads_with, is_headed, unless_known}
@@ -38,7 +39,8 @@ open_block-push file line = ap (λ heads. block_by_head (last_of heads)) (filter
     cases false = ap (λ heads. block_by_head (last_of heads)) (append-nil (filter is_head file))
 
 -- a name that has a head keeps it
-pub is_headed-with : (name : List ℕ) (o : Option (List ℕ × ℕ)) (heads : List (List ℕ × ℕ)) → is_headed name heads ≡ true → is_headed name (heads_with o heads) ≡ true
+pub is_headed-with : (name : List ℕ) (o : Option (List ℕ × ℕ)) (heads : List (List ℕ × ℕ)) →
+    is_headed name heads ≡ true → is_headed name (heads_with o heads) ≡ true
 is_headed-with name None heads known = known
 is_headed-with name (Some head) heads known =
     list_any-append (λ h. same_bytes name h.0) heads (unless_known (is_headed head.0 heads) head)
@@ -62,10 +64,15 @@ open_headed = by_lines (λ file. (name : List ℕ) → open_block file ≡ OfInt
     step file line before name here =
         ap (is_headed name) (first_heads-push file line) ∙ cases (is_head line) (sym (open_block-push file line) ∙ here)
       where
-        opens : block_of (words line) ≡ OfInterface name → is_headed name (heads_with (with_line (length file + 1) (name_opened (block_of (words line)))) (first_heads file)) ≡ true
-        opens e = ap (λ b. is_headed name (heads_with (with_line (length file + 1) (name_opened b)) (first_heads file))) e ∙ is_headed-opened name (length file + 1) (first_heads file)
+        opens : block_of (words line) ≡ OfInterface name →
+            is_headed name (heads_with (with_line (length file + 1) (name_opened (block_of (words line))))
+            (first_heads file)) ≡ true
+        opens e = ap (λ b. is_headed name (heads_with (with_line (length file + 1) (name_opened b)) (first_heads file)))
+            e ∙ is_headed-opened name (length file + 1) (first_heads file)
 
-        cases : (b : Bool) → block_with b line (open_block file) ≡ OfInterface name → is_headed name (heads_with (cond b (with_line (length file + 1) (name_opened (block_of (words line)))) None) (first_heads file)) ≡ true
+        cases : (b : Bool) → block_with b line (open_block file) ≡ OfInterface name →
+            is_headed name (heads_with (cond b (with_line (length file + 1) (name_opened (block_of (words line)))) None)
+            (first_heads file)) ≡ true
         cases true e = opens e
         cases false e = before name e
 
@@ -96,10 +103,15 @@ about-unheaded = by_lines (λ file. (name : List ℕ) → is_headed name (first_
         ∙ cc (before name unheaded, ap (λ b. said_where b (said_after file line).statement) other)
       where
         unheaded : is_headed name (first_heads file) ≡ false
-        unheaded = false_from_ne_true (is_headed name (first_heads file)) (λ known. false≢true (sym none ∙ ap (is_headed name) (first_heads-push file line) ∙ is_headed-with name (opened_from (length file) line) (first_heads file) known))
+        unheaded = false_from_ne_true (is_headed name (first_heads file))
+            (λ known. false≢true (sym none ∙ ap (is_headed name) (first_heads-push file line)
+            ∙ is_headed-with name (opened_from (length file) line) (first_heads file) known))
 
         other : is_of name (said_after file line).block ≡ false
-        other = false_from_ne_true (is_of name (said_after file line).block) (λ here. false≢true (sym unheaded ∙ open_headed file name (said_block file line name (is_of-true name (said_after file line).block here))))
+        other = false_from_ne_true (is_of name (said_after file line).block)
+            (λ here. false≢true (sym unheaded
+            ∙ open_headed file name
+            (said_block file line name (is_of-true name (said_after file line).block here))))
 
 -- no name of some stands behind itself
 abbrev pub NamesApart : List (List ℕ) → Type 0
@@ -114,16 +126,23 @@ is_headed-names name [] = refl
 is_headed-names name (h ∷ hs) = ap (λ b. same_bytes name h.0 || b) (is_headed-names name hs)
 
 -- a name that was there before isn't a first one
-firsts-lack : (before : List (List ℕ)) (heads : List (List ℕ × ℕ)) (name : List ℕ) → list_any (same_bytes name) before ≡ true → is_headed name (firsts before heads) ≡ false
+firsts-lack : (before : List (List ℕ)) (heads : List (List ℕ × ℕ)) (name : List ℕ) →
+    list_any (same_bytes name) before ≡ true → is_headed name (firsts before heads) ≡ false
 firsts-lack before [] name known = refl
 firsts-lack before (head ∷ heads) name known =
-    cases (list_any (same_bytes head.0) before) refl (firsts-lack before heads name known) (firsts-lack (head.0 ∷ before) heads name (or_right (same_bytes name head.0) (list_any (same_bytes name) before) known))
+    cases (list_any (same_bytes head.0) before) refl (firsts-lack before heads name known)
+    (firsts-lack (head.0 ∷ before) heads name
+    (or_right (same_bytes name head.0) (list_any (same_bytes name) before) known))
   where
-    cases : (b : Bool) → list_any (same_bytes head.0) before ≡ b → is_headed name (firsts before heads) ≡ false → is_headed name (firsts (head.0 ∷ before) heads) ≡ false →
+    cases : (b : Bool) → list_any (same_bytes head.0) before ≡ b → is_headed name (firsts before heads) ≡ false →
+        is_headed name (firsts (head.0 ∷ before) heads) ≡ false →
         is_headed name (cond b (firsts before heads) (head ∷ firsts (head.0 ∷ before) heads)) ≡ false
     cases true e old new = old
     cases false e old new =
-        let other : same_bytes name head.0 ≡ false = false_from_ne_true (same_bytes name head.0) (λ same. false≢true (sym e ∙ ap (λ n. list_any (same_bytes n) before) (sym (same_bytes-true name head.0 same)) ∙ known)) in
+        let other : same_bytes name head.0 ≡ false =
+        false_from_ne_true (same_bytes name head.0)
+        (λ same. false≢true (sym e
+        ∙ ap (λ n. list_any (same_bytes n) before) (sym (same_bytes-true name head.0 same)) ∙ known)) in
         rw (other, new)
 
 -- the names of first heads are apart
@@ -131,7 +150,13 @@ pub firsts-apart : (before : List (List ℕ)) (heads : List (List ℕ × ℕ)) �
 firsts-apart before [] = tt
 firsts-apart before (head ∷ heads) = cases (list_any (same_bytes head.0) before) (firsts-apart before heads) (firsts-apart (head.0 ∷ before) heads)
   where
-    cases : (b : Bool) → NamesApart (head_names (firsts before heads)) → NamesApart (head_names (firsts (head.0 ∷ before) heads)) → NamesApart (head_names (cond b (firsts before heads) (head ∷ firsts (head.0 ∷ before) heads)))
+    cases : (b : Bool) → NamesApart (head_names (firsts before heads)) →
+        NamesApart (head_names (firsts (head.0 ∷ before) heads)) →
+        NamesApart (head_names (cond b (firsts before heads) (head ∷ firsts (head.0 ∷ before) heads)))
     cases true old new = old
-    cases false old new =
-        (is_headed-names head.0 (firsts (head.0 ∷ before) heads) ∙ firsts-lack (head.0 ∷ before) heads head.0 (or_left (same_bytes head.0 head.0) (list_any (same_bytes head.0) before) (same_bytes-refl head.0)), new)
+    cases false old new = (
+      is_headed-names head.0 (firsts (head.0 ∷ before) heads)
+          ∙ firsts-lack (head.0 ∷ before) heads head.0
+          (or_left (same_bytes head.0 head.0) (list_any (same_bytes head.0) before) (same_bytes-refl head.0)),
+      new,
+    )

@@ -7,6 +7,7 @@ use Rattle.std.proofs.lemmas.Bool.{false≢true}
 use Rattle.std.proofs.lemmas.List.Folds.{list_any-append}
 use Rattle.std.proofs.lemmas.List.Elements.{filter_map-append}
 use Rattle.cost_base.specs.Lists.{first_of, same_bytes}
+use Rattle.cost_base.proofs.ByteLemmas.{same_bytes-swap}
 use Rattle.text_lines.specs.Numbers.{Prefix}
 use Rattle.interface_model.specs.declared.Interface.{Interface}
 use Rattle.interface_model.specs.declared.Kind.{Kind}
@@ -17,7 +18,6 @@ use Rattle.config_reader.specs.Statements.{Statement, AddressIs, AreaIs, CostIs,
 use Rattle.config_reader.specs.Settings.{Said, about, about_router, is_of, is_of_router, setting, address_said, area_said, cost_said, kind_said, passive_said, down_said, priority_said, network_said, passive_name_said, address_part, length_part}
 use Rattle.config_reader.specs.Hearing.{sets}
 use Rattle.config_reader.specs.Drafting.{new_draft, with_setting, with_address, touch, target, change, is_matched, covers, draft_with, draft_after}
-use Rattle.config_reader.proofs.Places.{same_bytes-swap}
 use Rattle.config_reader.proofs.SettingSteps.{about-push, about_router-push, said_where, setting-push, first_said-push, option_or-none}
 
 -- an interface by its own settings
@@ -42,15 +42,28 @@ plain own name line =
 
 plain-push : (own : List Statement) (name : List ℕ) (line : ℕ) (s : Statement) →
     plain (own ++ s ∷ []) name line
-    ≡ plain_by name line (option_or (first_of (filter_map address_said own)) (address_said s)) (option_or (area_said s) (setting area_said own)) (option_or (cost_said s) (setting cost_said own)) (option_or (kind_said s) (setting kind_said own))
-    (option_or (passive_said s) (setting passive_said own)) (option_or (down_said s) (setting down_said own)) (option_or (priority_said s) (setting priority_said own))
+    ≡ plain_by name line (option_or (first_of (filter_map address_said own)) (address_said s))
+    (option_or (area_said s) (setting area_said own)) (option_or (cost_said s) (setting cost_said own))
+    (option_or (kind_said s) (setting kind_said own))
+    (option_or (passive_said s) (setting passive_said own)) (option_or (down_said s) (setting down_said own))
+    (option_or (priority_said s) (setting priority_said own))
 unfolding plain
 plain-push own name line s =
-    cc (first_said-push address_said own s, setting-push area_said own s, setting-push cost_said own s, setting-push kind_said own s, setting-push passive_said own s, setting-push down_said own s, setting-push priority_said own s)
+    cc (
+      first_said-push address_said own s,
+      setting-push area_said own s,
+      setting-push cost_said own s,
+      setting-push kind_said own s,
+      setting-push passive_said own s,
+      setting-push down_said own s,
+      setting-push priority_said own s,
+    )
 
 -- the first address with one more, by whether there was one
-add_address : (name : List ℕ) (line : ℕ) (p : Prefix) (o : Option Prefix) (area cost : Option ℕ) (kind : Option Kind) (passive down : Option Bool) (priority : Option ℕ) →
-    with_address p (address_part o) (plain_by name line o area cost kind passive down priority) ≡ plain_by name line (option_or o (Some p)) area cost kind passive down priority
+add_address : (name : List ℕ) (line : ℕ) (p : Prefix) (o : Option Prefix) (area cost : Option ℕ) (kind : Option Kind)
+    (passive down : Option Bool) (priority : Option ℕ) →
+    with_address p (address_part o) (plain_by name line o area cost kind passive down priority)
+    ≡ plain_by name line (option_or o (Some p)) area cost kind passive down priority
 unfolding plain_by
 add_address name line p None area cost kind passive down priority = refl
 add_address name line p (Some q) area cost kind passive down priority = refl
@@ -59,19 +72,25 @@ add_address name line p (Some q) area cost kind passive down priority = refl
 module _ (own : List Statement) (name : List ℕ) (line : ℕ) where
   quiet : (s : Statement) → address_said s ≡ None →
       plain (own ++ s ∷ []) name line
-      ≡ plain_by name line (first_of (filter_map address_said own)) (option_or (area_said s) (setting area_said own)) (option_or (cost_said s) (setting cost_said own)) (option_or (kind_said s) (setting kind_said own))
-      (option_or (passive_said s) (setting passive_said own)) (option_or (down_said s) (setting down_said own)) (option_or (priority_said s) (setting priority_said own))
+      ≡ plain_by name line (first_of (filter_map address_said own)) (option_or (area_said s) (setting area_said own))
+      (option_or (cost_said s) (setting cost_said own)) (option_or (kind_said s) (setting kind_said own))
+      (option_or (passive_said s) (setting passive_said own)) (option_or (down_said s) (setting down_said own))
+      (option_or (priority_said s) (setting priority_said own))
   quiet s none =
       plain-push own name line s
-      ∙ ap (λ o. plain_by name line o (option_or (area_said s) (setting area_said own)) (option_or (cost_said s) (setting cost_said own)) (option_or (kind_said s) (setting kind_said own))
-      (option_or (passive_said s) (setting passive_said own)) (option_or (down_said s) (setting down_said own)) (option_or (priority_said s) (setting priority_said own)))
+      ∙ ap (λ o. plain_by name line o (option_or (area_said s) (setting area_said own))
+      (option_or (cost_said s) (setting cost_said own)) (option_or (kind_said s) (setting kind_said own))
+      (option_or (passive_said s) (setting passive_said own)) (option_or (down_said s) (setting down_said own))
+      (option_or (priority_said s) (setting priority_said own)))
       (ap (option_or (first_of (filter_map address_said own))) none ∙ option_or-none (first_of (filter_map address_said own)))
 
   sets_one : (s : Statement) → plain (own ++ s ∷ []) name line ≡ with_setting s (plain own name line)
   unfolding plain plain_by
   sets_one (AddressIs p) =
       plain-push own name line (AddressIs p)
-      ∙ sym (add_address name line p (first_of (filter_map address_said own)) (setting area_said own) (setting cost_said own) (setting kind_said own) (setting passive_said own) (setting down_said own) (setting priority_said own))
+      ∙ sym (add_address name line p (first_of (filter_map address_said own)) (setting area_said own)
+      (setting cost_said own) (setting kind_said own) (setting passive_said own) (setting down_said own)
+      (setting priority_said own))
   sets_one (AreaIs a) = quiet (AreaIs a) refl
   sets_one (CostIs n) = quiet (CostIs n) refl
   sets_one (KindIs k) = quiet (KindIs k) refl
@@ -126,33 +145,52 @@ plain_name own name line = refl
 
 -- one more line, by its block
 by_block : (nets : List NetworkLine) (own router : List Statement) (name : List ℕ) (line : ℕ) (block : Block) (s : Statement) →
-    touch (target block s) (change nets block s) (draft_from nets own router name line) ≡ draft_from nets (own ++ said_where (is_of name block) s) (router ++ said_where (is_of_router block) s) name line
+    touch (target block s) (change nets block s) (draft_from nets own router name line)
+    ≡ draft_from nets (own ++ said_where (is_of name block) s)
+    (router ++ said_where (is_of_router block) s) name line
 by_block nets own router name line OfOther s =
     ap (λ o. draft_from nets o router name line) (sym (append-nil own)) ∙ ap (λ r. draft_from nets (own ++ []) r name line) (sym (append-nil router))
 by_block nets own router name line (OfInterface other) s =
-    ap (λ n. cond (same_bytes other n) (change nets (OfInterface other) s (draft_from nets own router name line)) (draft_from nets own router name line)) (plain_name own name line)
-    ∙ ap (λ b. cond b (change nets (OfInterface other) s (draft_from nets own router name line)) (draft_from nets own router name line)) (same_bytes-swap other name)
+    ap (λ n. cond (same_bytes other n) (change nets (OfInterface other) s (draft_from nets own router name line))
+    (draft_from nets own router name line)) (plain_name own name line)
+    ∙ ap (λ b. cond b (change nets (OfInterface other) s (draft_from nets own router name line))
+    (draft_from nets own router name line)) (same_bytes-swap other name)
     ∙ cases (same_bytes name other)
     ∙ ap (λ r. draft_from nets (own ++ said_where (same_bytes name other) s) r name line) (sym (append-nil router))
   where
-    cases : (b : Bool) → cond b (change nets (OfInterface other) s (draft_from nets own router name line)) (draft_from nets own router name line) ≡ draft_from nets (own ++ said_where b s) router name line
+    cases : (b : Bool) → cond b (change nets (OfInterface other) s (draft_from nets own router name line))
+        (draft_from nets own router name line) ≡ draft_from nets (own ++ said_where b s) router name line
     cases true =
-        ap (λ i. record (draft_from nets own router name line) { interface = i; matched = any_matched nets own || is_matched nets s }) (sym (sets_one own name line s))
+        ap (λ i. record (draft_from nets own router name line) {
+          interface = i;
+          matched = any_matched nets own
+              || is_matched nets s;
+        }) (sym (sets_one own name line s))
         ∙ ap (λ m. record (draft_from nets (own ++ s ∷ []) router name line) { matched = m }) (sym (matched-push nets own s))
     cases false = ap (λ o. draft_from nets o router name line) (sym (append-nil own))
 by_block nets own router name line OfRouter s = by s ∙ ap (λ o. draft_from nets o (router ++ s ∷ []) name line) (sym (append-nil own))
   where
     silent : (t : Statement) → passive_name_said t ≡ None → draft_from nets own router name line ≡ draft_from nets own (router ++ t ∷ []) name line
-    silent t none = ap (λ b. record (draft_from nets own router name line) { listed = b }) (sym (ap (list_any (same_bytes name)) (filter_map-append passive_name_said router (t ∷ []) ∙ ap (λ o. filter_map passive_name_said router ++ cons_option o []) none ∙ append-nil (filter_map passive_name_said router))))
+    silent t none = ap (λ b. record (draft_from nets own router name line) { listed = b })
+        (sym (ap (list_any (same_bytes name)) (filter_map-append passive_name_said router (t ∷ [])
+        ∙ ap (λ o. filter_map passive_name_said router ++ cons_option o []) none
+        ∙ append-nil (filter_map passive_name_said router))))
 
-    by : (t : Statement) → touch (target OfRouter t) (change nets OfRouter t) (draft_from nets own router name line) ≡ draft_from nets own (router ++ t ∷ []) name line
+    by : (t : Statement) → touch (target OfRouter t) (change nets OfRouter t) (draft_from nets own router name line)
+        ≡ draft_from nets own (router ++ t ∷ []) name line
     by (PassiveInterfaceIs other) =
-        ap (λ n. cond (same_bytes other n) (record (draft_from nets own router name line) { listed = true }) (draft_from nets own router name line)) (plain_name own name line)
+        ap (λ n. cond (same_bytes other n) (record (draft_from nets own router name line) { listed = true })
+        (draft_from nets own router name line)) (plain_name own name line)
         ∙ ap (λ b. cond b (record (draft_from nets own router name line) { listed = true }) (draft_from nets own router name line)) (same_bytes-swap other name)
         ∙ cases (same_bytes name other) (any_listed name router)
-        ∙ ap (λ b. record (draft_from nets own router name line) { listed = b }) (sym (ap (list_any (same_bytes name)) (filter_map-append passive_name_said router (PassiveInterfaceIs other ∷ [])) ∙ list_any-append (same_bytes name) (filter_map passive_name_said router) (other ∷ [])))
+        ∙ ap (λ b. record (draft_from nets own router name line) { listed = b })
+        (sym (ap (list_any (same_bytes name))
+        (filter_map-append passive_name_said router (PassiveInterfaceIs other ∷ []))
+        ∙ list_any-append (same_bytes name) (filter_map passive_name_said router) (other ∷ [])))
       where
-        cases : (b l : Bool) → cond b (record (draft_from nets own router name line) { listed = true }) (record (draft_from nets own router name line) { listed = l }) ≡ record (draft_from nets own router name line) { listed = l || (b || false) }
+        cases : (b l : Bool) → cond b (record (draft_from nets own router name line) { listed = true })
+            (record (draft_from nets own router name line) { listed = l })
+            ≡ record (draft_from nets own router name line) { listed = l || (b || false) }
         cases true true = refl
         cases true false = refl
         cases false true = refl
@@ -173,13 +211,15 @@ by_block nets own router name line OfRouter s = by s ∙ ap (λ o. draft_from ne
 abbrev pub draft_of : List NetworkLine → List Said → List ℕ × ℕ → Draft
 draft_of nets all head = draft_from nets (about all head.0) (about_router all) head.0 head.1
 
-draft_step : (nets : List NetworkLine) (all : List Said) (head : List ℕ × ℕ) (s : Said) → draft_with nets s (draft_of nets all head) ≡ draft_of nets (all ++ s ∷ []) head
+draft_step : (nets : List NetworkLine) (all : List Said) (head : List ℕ × ℕ) (s : Said) →
+    draft_with nets s (draft_of nets all head) ≡ draft_of nets (all ++ s ∷ []) head
 draft_step nets all head s =
     by_block nets (about all head.0) (about_router all) head.0 head.1 s.block s.statement
     ∙ ap (λ o. draft_from nets o (about_router all ++ said_where (is_of_router s.block) s.statement) head.0 head.1) (sym (about-push all s head.0))
     ∙ ap (λ r. draft_from nets (about (all ++ s ∷ []) head.0) r head.0 head.1) (sym (about_router-push all s))
 
-drafts_along : (nets : List NetworkLine) (before rest : List Said) (head : List ℕ × ℕ) → draft_after nets rest (draft_of nets before head) ≡ draft_of nets (before ++ rest) head
+drafts_along : (nets : List NetworkLine) (before rest : List Said) (head : List ℕ × ℕ) →
+    draft_after nets rest (draft_of nets before head) ≡ draft_of nets (before ++ rest) head
 drafts_along nets before [] head = ap (λ all. draft_of nets all head) (sym (append-nil before))
 drafts_along nets before (s ∷ rest) head =
     ap (draft_after nets rest) (draft_step nets before head s)
@@ -190,26 +230,23 @@ new_is : (nets : List NetworkLine) (head : List ℕ × ℕ) → new_draft head �
 unfolding plain plain_by
 new_is nets head = refl
 
+-- a mark that isn't set leaves a draft as it is
+unmarked : (d : Draft) (c : Bool) → cond c (record d { matched = d.matched || false }) d ≡ d
+unmarked d true = ap (λ m. record d { matched = m }) (or_none d.matched)
+unmarked d false = refl
+
 -- a line that sets nothing changes no draft
 unset : (nets : List NetworkLine) (block : Block) (s : Statement) (d : Draft) → sets s ≡ false → touch (target block s) (change nets block s) d ≡ d
 unset nets block (Refused fault) d quiet = by block
   where
     by : (b : Block) → touch (target b (Refused fault)) (change nets b (Refused fault)) d ≡ d
-    by (OfInterface name) = cases (same_bytes name d.interface.name)
-      where
-        cases : (c : Bool) → cond c (record d { matched = d.matched || false }) d ≡ d
-        cases true = ap (λ m. record d { matched = m }) (or_none d.matched)
-        cases false = refl
+    by (OfInterface name) = unmarked d (same_bytes name d.interface.name)
     by OfRouter = refl
     by OfOther = refl
 unset nets block Unread d quiet = by block
   where
     by : (b : Block) → touch (target b Unread) (change nets b Unread) d ≡ d
-    by (OfInterface name) = cases (same_bytes name d.interface.name)
-      where
-        cases : (c : Bool) → cond c (record d { matched = d.matched || false }) d ≡ d
-        cases true = ap (λ m. record d { matched = m }) (or_none d.matched)
-        cases false = refl
+    by (OfInterface name) = unmarked d (same_bytes name d.interface.name)
     by OfRouter = refl
     by OfOther = refl
 unset nets block (AddressIs p) d quiet = absurd (false≢true (sym quiet))
@@ -228,10 +265,14 @@ after_settings : (nets : List NetworkLine) (all : List Said) (d : Draft) → dra
 after_settings nets [] d = refl
 after_settings nets (s ∷ all) d = cases (sets s.statement) refl (λ e. after_settings nets all e)
   where
-    cases : (b : Bool) → sets s.statement ≡ b → ((e : Draft) → draft_after nets (filter (λ t. sets t.statement) all) e ≡ draft_after nets all e) → draft_after nets (cond b (s ∷ filter (λ t. sets t.statement) all) (filter (λ t. sets t.statement) all)) d ≡ draft_after nets all (draft_with nets s d)
+    cases : (b : Bool) → sets s.statement ≡ b →
+        ((e : Draft) → draft_after nets (filter (λ t. sets t.statement) all) e ≡ draft_after nets all e) →
+        draft_after nets (cond b (s ∷ filter (λ t. sets t.statement) all) (filter (λ t. sets t.statement) all)) d
+        ≡ draft_after nets all (draft_with nets s d)
     cases true e more = more (draft_with nets s d)
     cases false e more = more d ∙ ap (draft_after nets all) (sym (unset nets s.block s.statement d e))
 
 -- the draft of a head after all lines
-pub drafted : (nets : List NetworkLine) (all : List Said) (head : List ℕ × ℕ) → draft_after nets (filter (λ s. sets s.statement) all) (new_draft head) ≡ draft_of nets all head
+pub drafted : (nets : List NetworkLine) (all : List Said) (head : List ℕ × ℕ) →
+    draft_after nets (filter (λ s. sets s.statement) all) (new_draft head) ≡ draft_of nets all head
 drafted nets all head = after_settings nets all (new_draft head) ∙ ap (draft_after nets all) (new_is nets head) ∙ drafts_along nets [] all head

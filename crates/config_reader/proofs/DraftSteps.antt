@@ -7,6 +7,7 @@ use Rattle.std.proofs.lemmas.List.{map-append, length-map, take_more}
 use Rattle.std.proofs.lemmas.List.Folds.{list_any_at}
 use Rattle.std.proofs.lemmas.List.Quantifiers.{position-Some}
 use Rattle.cost_base.specs.Lists.{same_bytes}
+use Rattle.cost_base.proofs.ByteLemmas.{same_bytes-refl, same_bytes-true}
 use Rattle.config_reader.specs.declared.drafts.Draft.{Draft}
 use Rattle.config_reader.specs.declared.drafts.Drafts.{Drafts}
 use Rattle.config_reader.specs.declared.networks.NetworkLine.{NetworkLine}
@@ -18,7 +19,7 @@ use Rattle.config_reader.specs.Gathered.{NamesApart, IsOpened, IsGathered}
 use Rattle.config_reader.specs.declared.reader.SaidLine.{SaidLine}
 use Rattle.config_reader.specs.Heards.{head_of, said_of}
 use Rattle.config_reader.specs.declared.reader.NamedHead.{NamedHead}
-use Rattle.config_reader.proofs.Places.{same_bytes-refl, same_bytes-true, any-map}
+use Rattle.config_reader.proofs.LongerLists.{any-map}
 use Rattle.config_reader.proofs.BlockFacts.{NamesApart as Apart, head_names, firsts-apart}
 use Rattle.config_reader.proofs.HeadSteps.{firsts-push, unless_known, is_headed}
 
@@ -41,7 +42,8 @@ others name f (d ∷ ds) none =
     cc (ap (λ b. cond b (f d) d) parts.0, others name f ds parts.1)
 
 -- a line about an interface that has no draft
-pub unmatched : (name : List ℕ) (f : Draft → Draft) (ds : List Draft) (names : List (List ℕ)) → names ≡ names_of ds → false ≡ list_any (same_bytes name) names → ds ≡ map (touch (Some name) f) ds
+pub unmatched : (name : List ℕ) (f : Draft → Draft) (ds : List Draft) (names : List (List ℕ)) → names ≡ names_of ds →
+    false ≡ list_any (same_bytes name) names → ds ≡ map (touch (Some name) f) ds
 unmatched name f ds names named none = others name f ds (sym (none ∙ ap (list_any (same_bytes name)) named))
 
 get_name : (ds : List Draft) (i : ℕ) (d : Draft) → get_or (names_of ds) i d.interface.name ≡ (get_or ds i d).interface.name
@@ -49,7 +51,9 @@ get_name [] i d = refl
 get_name (x ∷ ds) zero d = refl
 get_name (x ∷ ds) (suc i) d = get_name ds i d
 
-touched : (name : List ℕ) (f : Draft → Draft) (ds : List Draft) (i : ℕ) (d : Draft) → i < length ds → (get_or ds i d).interface.name ≡ name → NamesApart (names_of ds) → set ds i (f (get_or ds i d)) ≡ map (touch (Some name) f) ds
+touched : (name : List ℕ) (f : Draft → Draft) (ds : List Draft) (i : ℕ) (d : Draft) → i < length ds →
+    (get_or ds i d).interface.name ≡ name → NamesApart (names_of ds) →
+    set ds i (f (get_or ds i d)) ≡ map (touch (Some name) f) ds
 touched name f [] i d within named apart = absurd (omega arith)
 touched name f (x ∷ ds) zero d within named apart =
     let lacks : list_any (same_bytes name) (names_of ds) ≡ false = ap (λ n. list_any (same_bytes n) (names_of ds)) (sym named) ∙ apart.0 in
@@ -57,7 +61,9 @@ touched name f (x ∷ ds) zero d within named apart =
     cc (ap (λ b. cond b (f x) x) here, others name f ds lacks)
 touched name f (x ∷ ds) (suc i) d within named apart =
     let short : i < length ds = omega arith in
-    let other : same_bytes name x.interface.name ≡ false = false_from_ne_true (same_bytes name x.interface.name) (λ same. false≢true (sym apart.0 ∙ there (same_bytes-true name x.interface.name same) short)) in
+    let other : same_bytes name x.interface.name ≡ false =
+    false_from_ne_true (same_bytes name x.interface.name)
+    (λ same. false≢true (sym apart.0 ∙ there (same_bytes-true name x.interface.name same) short)) in
     cc (ap (λ b. cond b (f x) x) other, touched name f ds i d short named apart.1)
   where
     there : name ≡ x.interface.name → i < length ds → list_any (same_bytes x.interface.name) (names_of ds) ≡ true
@@ -66,11 +72,16 @@ touched name f (x ∷ ds) (suc i) d within named apart =
         (ap (same_bytes x.interface.name) (get_name ds i d ∙ named ∙ same) ∙ same_bytes-refl x.interface.name)
 
 -- a line about an interface changes its draft
-pub touched_at : (name : List ℕ) (f : Draft → Draft) (ds : List Draft) (names : List (List ℕ)) (i : ℕ) (d : Draft) → names ≡ names_of ds → NamesApart names → position (same_bytes name) names ≡ Some i → set ds i (f (get_or ds i d)) ≡ map (touch (Some name) f) ds
+pub touched_at : (name : List ℕ) (f : Draft → Draft) (ds : List Draft) (names : List (List ℕ)) (i : ℕ) (d : Draft) →
+    names ≡ names_of ds → NamesApart names → position (same_bytes name) names ≡ Some i →
+    set ds i (f (get_or ds i d)) ≡ map (touch (Some name) f) ds
 touched_at name f ds names i d named apart at =
     let found = position-Some (same_bytes name) names i d.interface.name at in
     let within : i < length ds = omega (arith, found.0, ap length named, length-map ds (λ (y : Draft). y.interface.name)) in
-    touched name f ds i d within (sym (same_bytes-true name (get_or ds i d).interface.name (ap (same_bytes name) (sym (get_name ds i d) ∙ ap (λ ns. get_or ns i d.interface.name) (sym named)) ∙ found.1))) (subst_apart named apart)
+    touched name f ds i d within (sym
+    (same_bytes-true name (get_or ds i d).interface.name
+    (ap (same_bytes name) (sym (get_name ds i d) ∙ ap (λ ns. get_or ns i d.interface.name) (sym named))
+    ∙ found.1))) (subst_apart named apart)
   where
     subst_apart : names ≡ names_of ds → NamesApart names → NamesApart (names_of ds)
     subst_apart e h = subst NamesApart e h
@@ -112,7 +123,8 @@ names_kept nets s [] = refl
 names_kept nets s (d ∷ ds) = cc (with_named nets s d, names_kept nets s ds)
 
 -- a line and then the rest
-pub after_more : (nets : List NetworkLine) (s : Said) (rest : List Said) (ds : List Draft) → map (draft_after nets rest) (map (draft_with nets s) ds) ≡ map (draft_after nets (s ∷ rest)) ds
+pub after_more : (nets : List NetworkLine) (s : Said) (rest : List Said) (ds : List Draft) →
+    map (draft_after nets rest) (map (draft_with nets s) ds) ≡ map (draft_after nets (s ∷ rest)) ds
 after_more nets s rest [] = refl
 after_more nets s rest (d ∷ ds) = ap (λ more. draft_after nets (s ∷ rest) d ∷ more) (after_more nets s rest ds)
 
@@ -122,7 +134,8 @@ after_none nets (d ∷ ds) = ap (λ more. d ∷ more) (after_none nets ds)
 
 -- one more head
 pub opened_more : (heads : List NamedHead) (i : ℕ) (old new : Drafts) (d : NamedHead) → i < length heads → IsOpened (map head_of (take i heads)) old →
-    new.drafts.items ≡ cond (list_any (same_bytes (get_or heads i d).name.now) old.names) old.drafts.items (old.drafts.items ++ new_draft (head_of (get_or heads i d)) ∷ []) →
+    new.drafts.items ≡ cond (list_any (same_bytes (get_or heads i d).name.now) old.names) old.drafts.items
+    (old.drafts.items ++ new_draft (head_of (get_or heads i d)) ∷ []) →
     new.names ≡ cond (list_any (same_bytes (get_or heads i d).name.now) old.names) old.names (old.names ++ (get_or heads i d).name.now ∷ []) →
     IsOpened (map head_of (take (i + 1) heads)) new
 opened_more heads i old new d within so_far drafts names = record {
@@ -147,7 +160,9 @@ opened_more heads i old new d within so_far drafts names = record {
     firsts_now : firsts [] (map head_of (take (i + 1) heads)) ≡ firsts [] hs ++ unless_known (list_any (same_bytes head.name.now) old.names) (head_of head)
     firsts_now = ap (firsts []) grown ∙ firsts-push [] hs (head_of head) ∙ ap (λ b. firsts [] hs ++ unless_known b (head_of head)) (sym known)
 
-    drafts_by : (b : Bool) → list_any (same_bytes head.name.now) old.names ≡ b → cond b old.drafts.items (old.drafts.items ++ new_draft (head_of head) ∷ []) ≡ map new_draft (firsts [] (map head_of (take (i + 1) heads)))
+    drafts_by : (b : Bool) → list_any (same_bytes head.name.now) old.names ≡ b →
+        cond b old.drafts.items (old.drafts.items ++ new_draft (head_of head) ∷ [])
+        ≡ map new_draft (firsts [] (map head_of (take (i + 1) heads)))
     drafts_by true e =
         so_far.drafts
         ∙ ap (map new_draft) (sym (append-nil (firsts [] hs)) ∙ ap (λ b. firsts [] hs ++ unless_known b (head_of head)) (sym e) ∙ sym firsts_now)
@@ -156,10 +171,13 @@ opened_more heads i old new d within so_far drafts names = record {
         ∙ sym (map-append new_draft (firsts [] hs) (head_of head ∷ []))
         ∙ ap (map new_draft) (ap (λ b. firsts [] hs ++ unless_known b (head_of head)) (sym e) ∙ sym firsts_now)
 
-    names_by : (b : Bool) → list_any (same_bytes head.name.now) old.names ≡ b → cond b old.names (old.names ++ head.name.now ∷ []) ≡ map (λ h. h.0) (firsts [] (map head_of (take (i + 1) heads)))
+    names_by : (b : Bool) → list_any (same_bytes head.name.now) old.names ≡ b →
+        cond b old.names (old.names ++ head.name.now ∷ [])
+        ≡ map (λ h. h.0) (firsts [] (map head_of (take (i + 1) heads)))
     names_by true e =
         so_far.names
-        ∙ ap (map (λ (h : List ℕ × ℕ). h.0)) (sym (append-nil (firsts [] hs)) ∙ ap (λ b. firsts [] hs ++ unless_known b (head_of head)) (sym e) ∙ sym firsts_now)
+        ∙ ap (map (λ (h : List ℕ × ℕ). h.0)) (sym (append-nil (firsts [] hs))
+        ∙ ap (λ b. firsts [] hs ++ unless_known b (head_of head)) (sym e) ∙ sym firsts_now)
     names_by false e =
         ap (λ ns. ns ++ head.name.now ∷ []) so_far.names
         ∙ sym (map-append (λ (h : List ℕ × ℕ). h.0) (firsts [] hs) (head_of head ∷ []))
@@ -167,7 +185,10 @@ opened_more heads i old new d within so_far drafts names = record {
 
 -- the names of drafts that were opened stand apart
 pub opened_names : (heads : List (List ℕ × ℕ)) (d : Drafts) → IsOpened heads d → (d.names ≡ names_of d.drafts.items) × NamesApart d.names
-opened_names heads d opened = (opened.names ∙ sym (ap names_of opened.drafts ∙ same (firsts [] heads)), subst NamesApart (sym opened.names) (apart_here (firsts [] heads) (firsts-apart [] heads)))
+opened_names heads d opened = (
+  opened.names ∙ sym (ap names_of opened.drafts ∙ same (firsts [] heads)),
+  subst NamesApart (sym opened.names) (apart_here (firsts [] heads) (firsts-apart [] heads)),
+)
   where
     same : (hs : List (List ℕ × ℕ)) → names_of (map new_draft hs) ≡ map (λ h. h.0) hs
     same [] = refl
@@ -178,7 +199,9 @@ opened_names heads d opened = (opened.names ∙ sym (ap names_of opened.drafts �
     apart_here (x ∷ hs) h = (h.0, apart_here hs h.1)
 
 -- the drafts of opened ones after what is said
-pub gathered : (nets : List NetworkLine) (heads : List (List ℕ × ℕ)) (all : List Said) (opened d : Drafts) → IsOpened heads opened → map (draft_after nets []) d.drafts.items ≡ map (draft_after nets all) opened.drafts.items → d.names ≡ names_of d.drafts.items → IsGathered nets heads all d
+pub gathered : (nets : List NetworkLine) (heads : List (List ℕ × ℕ)) (all : List Said) (opened d : Drafts) →
+    IsOpened heads opened → map (draft_after nets []) d.drafts.items ≡ map (draft_after nets all) opened.drafts.items →
+    d.names ≡ names_of d.drafts.items → IsGathered nets heads all d
 gathered nets heads all opened d open_is made named = record {
   drafts = sym (after_none nets d.drafts.items) ∙ made ∙ ap (map (draft_after nets all)) open_is.drafts ∙ both (firsts [] heads);
   names = named;
@@ -195,7 +218,8 @@ drop_past (x ∷ xs) zero past = absurd (omega arith)
 drop_past (x ∷ xs) (suc i) past = drop_past xs i (omega arith)
 
 -- one more line of those that are gone over
-pub gathered_more : (said : List SaidLine) (i : ℕ) (d : SaidLine) (nets : List NetworkLine) (old new : List Draft) → i < length said → new ≡ map (draft_with nets (said_of (get_or said i d))) old →
+pub gathered_more : (said : List SaidLine) (i : ℕ) (d : SaidLine) (nets : List NetworkLine) (old new : List Draft) →
+    i < length said → new ≡ map (draft_with nets (said_of (get_or said i d))) old →
     map (draft_after nets (map said_of (drop (i + 1) said))) new ≡ map (draft_after nets (map said_of (drop i said))) old
 gathered_more said i d nets old new within made =
     let next : i + 1 ≡ suc i = omega arith in
@@ -204,11 +228,17 @@ gathered_more said i d nets old new within made =
     ∙ after_more nets (said_of (get_or said i d)) (map said_of (drop (suc i) said)) old
     ∙ ap (λ ls. map (draft_after nets (map said_of ls)) old) (sym (drop-cons said i d within))
 
-pub gathered_names : (said : List SaidLine) (i : ℕ) (d : SaidLine) (nets : List NetworkLine) (names : List (List ℕ)) (old new : List Draft) → names ≡ names_of old → new ≡ map (draft_with nets (said_of (get_or said i d))) old → names ≡ names_of new
+pub gathered_names : (said : List SaidLine) (i : ℕ) (d : SaidLine) (nets : List NetworkLine) (names : List (List ℕ))
+    (old new : List Draft) → names ≡ names_of old → new ≡ map (draft_with nets (said_of (get_or said i d))) old →
+    names ≡ names_of new
 gathered_names said i d nets names old new named made = named ∙ sym (ap names_of made ∙ names_kept nets (said_of (get_or said i d)) old)
 
 -- all lines are gone over
-pub gathered_all : (said : List SaidLine) (i : ℕ) (nets : List NetworkLine) (heads : List (List ℕ × ℕ)) (opened d : Drafts) → length said ≤ i → IsOpened heads opened →
-    map (draft_after nets (map said_of (drop i said))) d.drafts.items ≡ map (draft_after nets (map said_of said)) opened.drafts.items → d.names ≡ names_of d.drafts.items → IsGathered nets heads (map said_of said) d
+pub gathered_all : (said : List SaidLine) (i : ℕ) (nets : List NetworkLine) (heads : List (List ℕ × ℕ))
+    (opened d : Drafts) → length said ≤ i → IsOpened heads opened →
+    map (draft_after nets (map said_of (drop i said))) d.drafts.items
+    ≡ map (draft_after nets (map said_of said)) opened.drafts.items → d.names ≡ names_of d.drafts.items →
+    IsGathered nets heads (map said_of said) d
 gathered_all said i nets heads opened d past open_is made named =
-    gathered nets heads (map said_of said) opened d open_is (ap (λ ls. map (draft_after nets (map said_of ls)) d.drafts.items) (sym (drop_past said i past)) ∙ made) named
+    gathered nets heads (map said_of said) opened d open_is
+    (ap (λ ls. map (draft_after nets (map said_of ls)) d.drafts.items) (sym (drop_past said i past)) ∙ made) named

@@ -53,4 +53,8 @@ module _ (second : Block → Statement → Option ConfigFault) (twice : List Net
   -- one more line without faults
   pub all_push : (front rest : List (List ℕ)) (line : List ℕ) → AllFine front rest → LineFine (front ++ rest) line → AllFine front (rest ++ line ∷ [])
   all_push front [] line all fine = (subst (λ file. LineFine file line) (append-nil front) fine, tt)
-  all_push front (x ∷ rest) line all fine = (all.0, all_push (front ++ x ∷ []) rest line all.1 (subst (λ file. LineFine file line) (sym (append_assoc front (x ∷ []) rest)) fine))
+  all_push front (x ∷ rest) line all fine = (
+    all.0,
+    all_push (front ++ x ∷ []) rest line all.1
+        (subst (λ file. LineFine file line) (sym (append_assoc front (x ∷ []) rest)) fine),
+  )

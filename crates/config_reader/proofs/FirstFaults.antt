@@ -56,11 +56,16 @@ merge f g a (suc n) =
     ∙ ap (λ o. earliest o (firsts_at g a (suc n))) (sym (firsts_suc f a n))
   where
     cases : (o p : Option ConfigFault) → firsts_at (λ i. option_or (f i) (g i)) (a + 1) n ≡ earliest (firsts_at f (a + 1) n) (firsts_at g (a + 1) n) →
-        option_or (at_line (a + 1) (option_or o p)) (firsts_at (λ i. option_or (f i) (g i)) (a + 1) n) ≡ earliest (option_or (at_line (a + 1) o) (firsts_at f (a + 1) n)) (option_or (at_line (a + 1) p) (firsts_at g (a + 1) n))
+        option_or (at_line (a + 1) (option_or o p)) (firsts_at (λ i. option_or (f i) (g i)) (a + 1) n)
+        ≡ earliest (option_or (at_line (a + 1) o) (firsts_at f (a + 1) n))
+        (option_or (at_line (a + 1) p) (firsts_at g (a + 1) n))
     cases None None more = more
     cases None (Some c) more = sym (past_all (firsts_at f (a + 1) n) (record { line = a + 1; fault = c }) (λ x h. bound f (a + 1) n x h))
-    cases (Some c) None more = sym (before_all (record { line = a + 1; fault = c }) (firsts_at g (a + 1) n) (λ y h. let k = bound g (a + 1) n y h in omega arith))
-    cases (Some c) (Some d) more = sym (before_all (record { line = a + 1; fault = c }) (Some (record { line = a + 1; fault = d })) (λ y h. let k : a + 1 ≡ y.line = ap line_or h in omega (arith, k)))
+    cases (Some c) None more = sym (before_all (record { line = a + 1; fault = c }) (firsts_at g (a + 1) n)
+        (λ y h. let k = bound g (a + 1) n y h in omega arith))
+    cases (Some c) (Some d) more =
+        sym (before_all (record { line = a + 1; fault = c }) (Some (record { line = a + 1; fault = d }))
+        (λ y h. let k : a + 1 ≡ y.line = ap line_or h in omega (arith, k)))
       where
         line_or : Option Fault → ℕ
         line_or None = 0
@@ -81,11 +86,14 @@ never f a zero none = refl
 never f a (suc n) none = firsts_suc f a n ∙ ap (λ o. option_or (at_line (a + 1) o) (firsts_at f (a + 1) n)) (none a) ∙ never f (a + 1) n none
 
 -- a rule that is met first at a place
-pub met_at : (f : ℕ → Option ConfigFault) (a n j : ℕ) (c : ConfigFault) → f j ≡ Some c → ((i : ℕ) → i < j → f i ≡ None) → a ≤ j → j < a + n → firsts_at f a n ≡ Some (record { line = j + 1; fault = c })
+pub met_at : (f : ℕ → Option ConfigFault) (a n j : ℕ) (c : ConfigFault) → f j ≡ Some c →
+    ((i : ℕ) → i < j → f i ≡ None) → a ≤ j → j < a + n → firsts_at f a n ≡ Some (record { line = j + 1; fault = c })
 met_at f a zero j c here earlier above below = absurd (omega arith)
-met_at f a (suc n) j c here earlier above below = firsts_suc f a n ∙ cases (ltb a j) refl (λ less. met_at f (a + 1) n j c here earlier (omega arith) (omega arith))
+met_at f a (suc n) j c here earlier above below = firsts_suc f a n
+    ∙ cases (ltb a j) refl (λ less. met_at f (a + 1) n j c here earlier (omega arith) (omega arith))
   where
-    cases : (b : Bool) → ltb a j ≡ b → (a < j → firsts_at f (a + 1) n ≡ Some (record { line = j + 1; fault = c })) → option_or (at_line (a + 1) (f a)) (firsts_at f (a + 1) n) ≡ Some (record { line = j + 1; fault = c })
+    cases : (b : Bool) → ltb a j ≡ b → (a < j → firsts_at f (a + 1) n ≡ Some (record { line = j + 1; fault = c })) →
+        option_or (at_line (a + 1) (f a)) (firsts_at f (a + 1) n) ≡ Some (record { line = j + 1; fault = c })
     cases true e later = let less : a < j = ltb-true a j e in ap (λ o. option_or (at_line (a + 1) o) (firsts_at f (a + 1) n)) (earlier a less) ∙ later less
     cases false e later =
         let same : a ≡ j = omega (arith, ltb-false a j e) in
@@ -102,8 +110,11 @@ earliest_assoc (Some a) (Some b) None = cases (ltb b.line a.line)
     cases false = refl
 earliest_assoc (Some a) (Some b) (Some c) = cases (ltb b.line a.line) (ltb c.line b.line) refl refl
   where
-    cases : (p q : Bool) → ltb b.line a.line ≡ p → ltb c.line b.line ≡ q → earliest (cond p (Some b) (Some a)) (Some c) ≡ earliest (Some a) (cond q (Some c) (Some b))
-    cases true true e f = let pa = ltb-true b.line a.line e in let pb = ltb-true c.line b.line f in ap (λ r. cond r (Some c) (Some b)) f ∙ sym (ap (λ r. cond r (Some c) (Some a)) (lt-ltb c.line a.line (omega arith)))
+    cases : (p q : Bool) → ltb b.line a.line ≡ p → ltb c.line b.line ≡ q →
+        earliest (cond p (Some b) (Some a)) (Some c) ≡ earliest (Some a) (cond q (Some c) (Some b))
+    cases true true e f = let pa = ltb-true b.line a.line e in let pb = ltb-true c.line b.line f in
+        ap (λ r. cond r (Some c) (Some b)) f
+        ∙ sym (ap (λ r. cond r (Some c) (Some a)) (lt-ltb c.line a.line (omega arith)))
     cases true false e f = ap (λ r. cond r (Some c) (Some b)) f ∙ sym (ap (λ r. cond r (Some b) (Some a)) e)
     cases false true e f = refl
     cases false false e f =
@@ -116,7 +127,8 @@ first_append : {X : Type 0} (xs ys : List X) → first_of (xs ++ ys) ≡ option_
 first_append [] ys = refl
 first_append (x ∷ xs) ys = refl
 
-pub first_flat : (F : ℕ → List Fault) (f : ℕ → Option ConfigFault) (a n : ℕ) → ((i : ℕ) → first_of (F i) ≡ at_line (i + 1) (f i)) → first_of (flat_map F (numbers_from a n)) ≡ firsts_at f a n
+pub first_flat : (F : ℕ → List Fault) (f : ℕ → Option ConfigFault) (a n : ℕ) →
+    ((i : ℕ) → first_of (F i) ≡ at_line (i + 1) (f i)) → first_of (flat_map F (numbers_from a n)) ≡ firsts_at f a n
 first_flat F f a zero same = refl
 first_flat F f a (suc n) same =
     first_append (F a) (flat_map F (numbers_from (a + 1) n))
@@ -125,7 +137,8 @@ first_flat F f a (suc n) same =
     ∙ sym (firsts_suc f a n)
 
 -- the first of five on one line
-pub first_five : (n : ℕ) (o p q r s : Option ConfigFault) → first_of (filter_map (at_line n) (o ∷ p ∷ q ∷ r ∷ s ∷ [])) ≡ at_line n (option_or (option_or (option_or (option_or o p) q) r) s)
+pub first_five : (n : ℕ) (o p q r s : Option ConfigFault) → first_of (filter_map (at_line n) (o ∷ p ∷ q ∷ r ∷ s ∷ []))
+    ≡ at_line n (option_or (option_or (option_or (option_or o p) q) r) s)
 first_five n (Some x) p q r s = refl
 first_five n None (Some x) q r s = refl
 first_five n None None (Some x) r s = refl
@@ -138,11 +151,13 @@ first_front None rest = refl
 first_front (Some x) rest = refl
 
 -- a filter before a filter_map that passes over what it drops
-pub first_filtered : {X Y : Type 0} (p : X → Bool) (h : X → Option Y) (xs : List X) → ((x : X) → p x ≡ false → h x ≡ None) → filter_map h (filter p xs) ≡ filter_map h xs
+pub first_filtered : {X Y : Type 0} (p : X → Bool) (h : X → Option Y) (xs : List X) →
+    ((x : X) → p x ≡ false → h x ≡ None) → filter_map h (filter p xs) ≡ filter_map h xs
 first_filtered p h [] drops = refl
 first_filtered {X} {Y} p h (x ∷ xs) drops = cases (p x) refl (first_filtered p h xs drops)
   where
-    cases : (b : Bool) → p x ≡ b → filter_map h (filter p xs) ≡ filter_map h xs → filter_map h (cond b (x ∷ filter p xs) (filter p xs)) ≡ cons_option (h x) (filter_map h xs)
+    cases : (b : Bool) → p x ≡ b → filter_map h (filter p xs) ≡ filter_map h xs →
+        filter_map h (cond b (x ∷ filter p xs) (filter p xs)) ≡ cons_option (h x) (filter_map h xs)
     cases true e more = ap (cons_option (h x)) more
     cases false e more = more ∙ ap (λ o. cons_option o (filter_map h xs)) (sym (drops x e))
 

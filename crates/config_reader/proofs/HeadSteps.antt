@@ -3,8 +3,8 @@ use Rattle.std.proofs.Common.{◌≡◌, ℕ, List, [], ◌∷◌, ◌++◌, len
 use Rattle.std.specs.List.{filter_map, cons_option, list_any}
 use Rattle.std.proofs.lemmas.List.Folds.{list_any_at}
 use Rattle.cost_base.specs.Lists.{numbers_from, same_bytes}
+use Rattle.cost_base.proofs.ByteLemmas.{same_bytes-refl}
 use Rattle.config_reader.specs.Configs.{first_heads, firsts, opened_at}
-use Rattle.config_reader.proofs.Places.{same_bytes-refl}
 use Rattle.config_reader.proofs.SaidSteps.{opened-push, opened_from}
 
 -- whether a head of this name is among some
@@ -28,17 +28,23 @@ or_none false = refl
 
 -- the firsts of heads with one more
 pub firsts-push : (before : List (List ℕ)) (heads : List (List ℕ × ℕ)) (head : List ℕ × ℕ) →
-    firsts before (heads ++ head ∷ []) ≡ firsts before heads ++ unless_known (list_any (same_bytes head.0) before || is_headed head.0 (firsts before heads)) head
+    firsts before (heads ++ head ∷ []) ≡ firsts before heads
+    ++ unless_known (list_any (same_bytes head.0) before || is_headed head.0 (firsts before heads)) head
 firsts-push before [] head = cases (list_any (same_bytes head.0) before)
   where
     cases : (b : Bool) → cond b [] (head ∷ []) ≡ unless_known (b || false) head
     cases true = refl
     cases false = refl
-firsts-push before (first ∷ heads) head = cases (list_any (same_bytes first.0) before) (firsts-push before heads head) (firsts-push (first.0 ∷ before) heads head)
+firsts-push before (first ∷ heads) head =
+    cases (list_any (same_bytes first.0) before) (firsts-push before heads head)
+    (firsts-push (first.0 ∷ before) heads head)
   where
     cases : (b : Bool) →
-        firsts before (heads ++ head ∷ []) ≡ firsts before heads ++ unless_known (list_any (same_bytes head.0) before || is_headed head.0 (firsts before heads)) head →
-        firsts (first.0 ∷ before) (heads ++ head ∷ []) ≡ firsts (first.0 ∷ before) heads ++ unless_known (list_any (same_bytes head.0) (first.0 ∷ before) || is_headed head.0 (firsts (first.0 ∷ before) heads)) head →
+        firsts before (heads ++ head ∷ []) ≡ firsts before heads
+        ++ unless_known (list_any (same_bytes head.0) before || is_headed head.0 (firsts before heads)) head →
+        firsts (first.0 ∷ before) (heads ++ head ∷ []) ≡ firsts (first.0 ∷ before) heads
+        ++ unless_known (list_any (same_bytes head.0) (first.0 ∷ before)
+        || is_headed head.0 (firsts (first.0 ∷ before) heads)) head →
         cond b (firsts before (heads ++ head ∷ [])) (first ∷ firsts (first.0 ∷ before) (heads ++ head ∷ []))
         ≡ cond b (firsts before heads) (first ∷ firsts (first.0 ∷ before) heads)
         ++ unless_known (list_any (same_bytes head.0) before || is_headed head.0 (cond b (firsts before heads) (first ∷ firsts (first.0 ∷ before) heads))) head
@@ -55,7 +61,8 @@ heads_with None heads = heads
 heads_with (Some head) heads = heads ++ unless_known (is_headed head.0 heads) head
 
 pub first_heads-push : (file : List (List ℕ)) (line : List ℕ) → first_heads (file ++ line ∷ []) ≡ heads_with (opened_from (length file) line) (first_heads file)
-first_heads-push file line = ap (firsts []) (opened-push file line) ∙ cases (opened_from (length file) line) (filter_map (opened_at file) (numbers_from 0 (length file)))
+first_heads-push file line = ap (firsts []) (opened-push file line)
+    ∙ cases (opened_from (length file) line) (filter_map (opened_at file) (numbers_from 0 (length file)))
   where
     cases : (o : Option (List ℕ × ℕ)) (heads : List (List ℕ × ℕ)) → firsts [] (heads ++ cons_option o []) ≡ heads_with o (firsts [] heads)
     cases None heads = ap (firsts []) (append-nil heads)

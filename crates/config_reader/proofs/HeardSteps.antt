@@ -6,6 +6,7 @@ use Rattle.std.specs.Option.{option_or}
 use Rattle.std.proofs.lemmas.List.{get_or_append_left, get_or_at, length-map, map-append}
 use Rattle.std.proofs.lemmas.List.Elements.{filter-append}
 use Rattle.cost_base.specs.Lists.{numbers_from, first_of, last_of}
+use Rattle.cost_base.proofs.ListLemmas.{last_of-push, first_of-push}
 use Rattle.std.proofs.lemmas.Bool.{le-leb, lt-leb}
 use Rattle.text_lines.specs.TextLeft.{TextLeft}
 use Rattle.text_lines.specs.Reading.{GoesOver, IsLineRead, IsLongLine}
@@ -23,7 +24,7 @@ use Rattle.config_reader.specs.Faults.{is_hostname_head, last_hostname}
 use Rattle.config_reader.specs.FaultList.{Fault, at_line, long_line, refused, read_line, read_lines, is_short}
 use Rattle.config_reader.specs.Hearing.{Heard, sets, hear, hear_kind, hear_statement, with_fault, heard, named_by, own_fault}
 use Rattle.config_reader.specs.Reading.{open_block}
-use Rattle.config_reader.proofs.Places.{filter_map-numbers_more, filter-numbers_more, last_of-push, first_of-push, last_passing-lt}
+use Rattle.config_reader.proofs.LongerLists.{filter_map-numbers_more, filter-numbers_more, last_passing-lt}
 use Rattle.config_reader.proofs.SaidSteps.{said_after, said-push, said_at-append, opened-push, opened_from, names_router, last_said}
 use Rattle.config_reader.proofs.SettingSteps.{option_or-none}
 use Rattle.config_reader.proofs.BlockFacts.{open_block-push, block_with}
@@ -65,20 +66,26 @@ added kind long h n ws =
     }
 
 -- the last `hostname` head with one more line
-named-push : (file : List (List ℕ)) (line : List ℕ) → named_by (file ++ line ∷ []) (last_hostname (file ++ line ∷ [])) ≡ cond (names_router line) (Some (word_at (words line) 1, length file + 1)) (named_by file (last_hostname file))
+named-push : (file : List (List ℕ)) (line : List ℕ) → named_by (file ++ line ∷ []) (last_hostname (file ++ line ∷ []))
+    ≡ cond (names_router line) (Some (word_at (words line) 1, length file + 1)) (named_by file (last_hostname file))
 named-push file line = ap (named_by (file ++ line ∷ [])) last ∙ cases (names_router line)
   where
     here : get_or (file ++ line ∷ []) (length file) [] ≡ line
     here = get_or_at file line [] [] (length file) refl
 
-    last : last_hostname (file ++ line ∷ []) ≡ last_of (filter (is_hostname_head file) (numbers_from 0 (length file)) ++ only_if (names_router line) (length file))
+    last : last_hostname (file ++ line ∷ [])
+        ≡ last_of (filter (is_hostname_head file) (numbers_from 0 (length file)) ++ only_if (names_router line)
+        (length file))
     last =
         ap (λ n. last_of (filter (is_hostname_head (file ++ line ∷ [])) (numbers_from 0 n))) (length_more file line)
-        ∙ ap last_of (filter-numbers_more (is_hostname_head (file ++ line ∷ [])) (is_hostname_head file) (length file) (λ i within. ap names_router (get_or_append_left file (line ∷ []) [] i within)))
+        ∙ ap last_of (filter-numbers_more (is_hostname_head (file ++ line ∷ [])) (is_hostname_head file) (length file)
+        (λ i within. ap names_router (get_or_append_left file (line ∷ []) [] i within)))
         ∙ ap (λ b. last_of (filter (is_hostname_head file) (numbers_from 0 (length file)) ++ cond b (length file ∷ []) [])) (ap names_router here)
         ∙ same (names_router line)
       where
-        same : (b : Bool) → last_of (filter (is_hostname_head file) (numbers_from 0 (length file)) ++ cond b (length file ∷ []) []) ≡ last_of (filter (is_hostname_head file) (numbers_from 0 (length file)) ++ only_if b (length file))
+        same : (b : Bool) → last_of (filter (is_hostname_head file) (numbers_from 0 (length file))
+            ++ cond b (length file ∷ []) [])
+            ≡ last_of (filter (is_hostname_head file) (numbers_from 0 (length file)) ++ only_if b (length file))
         same true = refl
         same false = refl
 
@@ -88,7 +95,9 @@ named-push file line = ap (named_by (file ++ line ∷ [])) last ∙ cases (names
         let known : i < length file = omega (arith, within i refl) in
         ap (λ (l : List ℕ). Some (word_at (words l) 1, i + 1)) (get_or_append_left file (line ∷ []) [] i known)
 
-    cases : (b : Bool) → named_by (file ++ line ∷ []) (last_of (filter (is_hostname_head file) (numbers_from 0 (length file)) ++ only_if b (length file))) ≡ cond b (Some (word_at (words line) 1, length file + 1)) (named_by file (last_hostname file))
+    cases : (b : Bool) → named_by (file ++ line ∷ [])
+        (last_of (filter (is_hostname_head file) (numbers_from 0 (length file)) ++ only_if b (length file)))
+        ≡ cond b (Some (word_at (words line) 1, length file + 1)) (named_by file (last_hostname file))
     cases true =
         ap (named_by (file ++ line ∷ [])) (last_of-push (filter (is_hostname_head file) (numbers_from 0 (length file))) (length file))
         ∙ ap (λ (l : List ℕ). Some (word_at (words l) 1, length file + 1)) here
@@ -98,7 +107,10 @@ named-push file line = ap (named_by (file ++ line ∷ [])) last ∙ cases (names
 
 -- the first faulty line with one more
 pub fault-push : (file : List (List ℕ)) (line : List ℕ) →
-    (heard (file ++ line ∷ [])).fault ≡ option_or (heard file).fault (at_line (length file + 1) (option_or (long_line line) (refused (said_after (read_lines file) (read_line line)).statement)))
+    (heard (file ++ line ∷ [])).fault
+    ≡ option_or (heard file).fault
+    (at_line (length file + 1)
+    (option_or (long_line line) (refused (said_after (read_lines file) (read_line line)).statement)))
 fault-push file line =
     ap (λ n. first_of (filter_map (own_fault (file ++ line ∷ [])) (numbers_from 0 n))) (length_more file line)
     ∙ ap first_of (filter_map-numbers_more (own_fault (file ++ line ∷ [])) (own_fault file) (length file) before)
@@ -113,20 +125,34 @@ fault-push file line =
     before : (i : ℕ) → i < length file → own_fault (file ++ line ∷ []) i ≡ own_fault file i
     before i within =
         let known : i < length (read_lines file) = omega (arith, within, length-read_lines file) in
-        ap (λ (l : List ℕ). at_line (i + 1) (option_or (long_line l) (refused (said_at (read_lines (file ++ line ∷ [])) i).statement))) (get_or_append_left file (line ∷ []) [] i within)
+        ap (λ (l : List ℕ). at_line (i + 1)
+        (option_or (long_line l) (refused (said_at (read_lines (file ++ line ∷ [])) i).statement)))
+        (get_or_append_left file (line ∷ []) [] i within)
         ∙ ap (λ (ls : List (List ℕ)). at_line (i + 1) (option_or (long_line (get_or file i [])) (refused (said_at ls i).statement))) (read_lines-push file line)
-        ∙ ap (λ (s : Said). at_line (i + 1) (option_or (long_line (get_or file i [])) (refused s.statement))) (said_at-append (read_lines file) (read_line line ∷ []) i known)
+        ∙ ap (λ (s : Said). at_line (i + 1) (option_or (long_line (get_or file i [])) (refused s.statement)))
+        (said_at-append (read_lines file) (read_line line ∷ []) i known)
 
-    here : own_fault (file ++ line ∷ []) (length file) ≡ at_line (length file + 1) (option_or (long_line line) (refused (said_after (read_lines file) (read_line line)).statement))
+    here : own_fault (file ++ line ∷ []) (length file)
+        ≡ at_line (length file + 1)
+        (option_or (long_line line) (refused (said_after (read_lines file) (read_line line)).statement))
     here =
-        ap (λ (l : List ℕ). at_line (length file + 1) (option_or (long_line l) (refused (said_at (read_lines (file ++ line ∷ [])) (length file)).statement))) (get_or_at file line [] [] (length file) refl)
-        ∙ ap (λ (ls : List (List ℕ)). at_line (length file + 1) (option_or (long_line line) (refused (said_at ls (length file)).statement))) (read_lines-push file line)
-        ∙ ap (λ (n : ℕ). at_line (length file + 1) (option_or (long_line line) (refused (said_at (read_lines file ++ read_line line ∷ []) n).statement))) (sym (length-read_lines file))
+        ap (λ (l : List ℕ). at_line (length file + 1)
+        (option_or (long_line l) (refused (said_at (read_lines (file ++ line ∷ [])) (length file)).statement)))
+        (get_or_at file line [] [] (length file) refl)
+        ∙ ap (λ (ls : List (List ℕ)). at_line (length file + 1)
+        (option_or (long_line line) (refused (said_at ls (length file)).statement))) (read_lines-push file line)
+        ∙ ap (λ (n : ℕ). at_line (length file + 1)
+        (option_or (long_line line) (refused (said_at (read_lines file ++ read_line line ∷ []) n).statement)))
+        (sym (length-read_lines file))
         ∙ ap (λ (s : Said). at_line (length file + 1) (option_or (long_line line) (refused s.statement))) (last_said (read_lines file) (read_line line))
 
 -- what is kept of a file with one more line
-heard-push : (file : List (List ℕ)) (line : List ℕ) → heard (file ++ line ∷ []) ≡ added (kind_of (read_line line)) (long_line line) (heard file) (length file + 1) (words (read_line line))
-heard-push file line = heard_same (heard (file ++ line ∷ [])) (added (kind_of (read_line line)) (long_line line) (heard file) (length file + 1) (words (read_line line))) told opened named (fault-push file line ∙ counted_fault) block
+heard-push : (file : List (List ℕ)) (line : List ℕ) →
+    heard (file ++ line ∷ []) ≡ added (kind_of (read_line line)) (long_line line) (heard file) (length file + 1)
+    (words (read_line line))
+heard-push file line = heard_same (heard (file ++ line ∷ []))
+    (added (kind_of (read_line line)) (long_line line) (heard file) (length file + 1) (words (read_line line))) told
+    opened named (fault-push file line ∙ counted_fault) block
   where
     r : List (List ℕ)
     r = read_lines file
@@ -134,33 +160,48 @@ heard-push file line = heard_same (heard (file ++ line ∷ [])) (added (kind_of 
     l : List ℕ
     l = read_line line
 
-    told : (heard (file ++ line ∷ [])).said ≡ (heard file).said ++ only_if (sets (said_by (kind_of l) (length file + 1) (heard file).block (words l)).statement) (said_by (kind_of l) (length file + 1) (heard file).block (words l))
+    told : (heard (file ++ line ∷ [])).said ≡ (heard file).said
+        ++ only_if (sets (said_by (kind_of l) (length file + 1) (heard file).block (words l)).statement)
+        (said_by (kind_of l) (length file + 1) (heard file).block (words l))
     told =
         ap (λ ls. filter (λ (s : Said). sets s.statement) (said ls)) (read_lines-push file line)
         ∙ ap (filter (λ (s : Said). sets s.statement)) (said-push r l)
         ∙ filter-append (λ (s : Said). sets s.statement) (said r) (said_after r l ∷ [])
-        ∙ ap (λ n. (heard file).said ++ filter (λ (s : Said). sets s.statement) (said_by (kind_of l) (n + 1) (heard file).block (words l) ∷ [])) (length-read_lines file)
-        ∙ ap (λ ss. (heard file).said ++ ss) (one (said_by (kind_of l) (length file + 1) (heard file).block (words l)) (sets (said_by (kind_of l) (length file + 1) (heard file).block (words l)).statement))
+        ∙ ap (λ n. (heard file).said ++ filter (λ (s : Said). sets s.statement)
+        (said_by (kind_of l) (n + 1) (heard file).block (words l) ∷ [])) (length-read_lines file)
+        ∙ ap (λ ss. (heard file).said ++ ss)
+        (one (said_by (kind_of l) (length file + 1) (heard file).block (words l))
+        (sets (said_by (kind_of l) (length file + 1) (heard file).block (words l)).statement))
       where
         one : (s : Said) (b : Bool) → cond b (s ∷ []) [] ≡ only_if b s
         one s true = refl
         one s false = refl
 
-    opened : (heard (file ++ line ∷ [])).heads ≡ (heard file).heads ++ cons_option (cond (is_head_kind (kind_of l)) (with_line (length file + 1) (name_opened (block_of (words l)))) None) []
+    opened : (heard (file ++ line ∷ [])).heads ≡ (heard file).heads
+        ++ cons_option (cond (is_head_kind (kind_of l))
+        (with_line (length file + 1) (name_opened (block_of (words l)))) None) []
     opened =
         ap (λ ls. filter_map (opened_at ls) (numbers_from 0 (length ls))) (read_lines-push file line)
         ∙ opened-push r l
         ∙ ap (λ n. (heard file).heads ++ cons_option (opened_from n l) []) (length-read_lines file)
 
-    named : (heard (file ++ line ∷ [])).hostname ≡ cond (is_head_kind (kind_of l) && begin_with (codes "hostname" ∷ []) (words l)) (Some (word_at (words l) 1, length file + 1)) (heard file).hostname
+    named : (heard (file ++ line ∷ [])).hostname
+        ≡ cond (is_head_kind (kind_of l) && begin_with (codes "hostname" ∷ []) (words l))
+        (Some (word_at (words l) 1, length file + 1)) (heard file).hostname
     named =
         ap (λ ls. named_by ls (last_hostname ls)) (read_lines-push file line)
         ∙ named-push r l
         ∙ ap (λ n. cond (names_router l) (Some (word_at (words l) 1, n + 1)) (heard file).hostname) (length-read_lines file)
 
     counted_fault : option_or (heard file).fault (at_line (length file + 1) (option_or (long_line line) (refused (said_after r l).statement)))
-        ≡ option_or (heard file).fault (at_line (length file + 1) (option_or (long_line line) (refused (said_by (kind_of l) (length file + 1) (heard file).block (words l)).statement)))
-    counted_fault = ap (λ n. option_or (heard file).fault (at_line (length file + 1) (option_or (long_line line) (refused (said_by (kind_of l) (n + 1) (heard file).block (words l)).statement)))) (length-read_lines file)
+        ≡ option_or (heard file).fault
+        (at_line (length file + 1)
+        (option_or (long_line line)
+        (refused (said_by (kind_of l) (length file + 1) (heard file).block (words l)).statement)))
+    counted_fault = ap (λ n. option_or (heard file).fault
+        (at_line (length file + 1)
+        (option_or (long_line line)
+        (refused (said_by (kind_of l) (n + 1) (heard file).block (words l)).statement)))) (length-read_lines file)
 
     block : (heard (file ++ line ∷ [])).block ≡ cond (is_head_kind (kind_of l)) (block_of (words l)) (heard file).block
     block = ap open_block (read_lines-push file line) ∙ open_block-push r l ∙ same (is_head l)
@@ -171,29 +212,82 @@ heard-push file line = heard_same (heard (file ++ line ∷ [])) (added (kind_of 
 
 -- a statement, kept by its cases
 keeps : (h : Heard) (n : ℕ) (block : Block) (s : Statement) →
-    hear_statement h n block s ≡ record h { said = h.said ++ only_if (sets s) (record { number = n; block = block; statement = s }); fault = option_or h.fault (at_line n (refused s)) }
-keeps h n block (Refused fault) = ap (λ ss. record h { said = ss; fault = option_or h.fault (Some (record { line = n; fault = fault })) }) (sym (append-nil h.said))
-keeps h n block Unread = heard_same h (record h { said = h.said ++ []; fault = option_or h.fault None }) (sym (append-nil h.said)) refl refl (sym (option_or-none h.fault)) refl
-keeps h n block (AddressIs p) = ap (λ f. record h { said = h.said ++ record { number = n; block = block; statement = AddressIs p } ∷ []; fault = f }) (sym (option_or-none h.fault))
-keeps h n block (AreaIs a) = ap (λ f. record h { said = h.said ++ record { number = n; block = block; statement = AreaIs a } ∷ []; fault = f }) (sym (option_or-none h.fault))
-keeps h n block (CostIs c) = ap (λ f. record h { said = h.said ++ record { number = n; block = block; statement = CostIs c } ∷ []; fault = f }) (sym (option_or-none h.fault))
-keeps h n block (KindIs k) = ap (λ f. record h { said = h.said ++ record { number = n; block = block; statement = KindIs k } ∷ []; fault = f }) (sym (option_or-none h.fault))
-keeps h n block (PriorityIs c) = ap (λ f. record h { said = h.said ++ record { number = n; block = block; statement = PriorityIs c } ∷ []; fault = f }) (sym (option_or-none h.fault))
-keeps h n block (PassiveIs b) = ap (λ f. record h { said = h.said ++ record { number = n; block = block; statement = PassiveIs b } ∷ []; fault = f }) (sym (option_or-none h.fault))
-keeps h n block (DownIs b) = ap (λ f. record h { said = h.said ++ record { number = n; block = block; statement = DownIs b } ∷ []; fault = f }) (sym (option_or-none h.fault))
-keeps h n block (RouterIdIs id) = ap (λ f. record h { said = h.said ++ record { number = n; block = block; statement = RouterIdIs id } ∷ []; fault = f }) (sym (option_or-none h.fault))
-keeps h n block (NetworkIs w) = ap (λ f. record h { said = h.said ++ record { number = n; block = block; statement = NetworkIs w } ∷ []; fault = f }) (sym (option_or-none h.fault))
-keeps h n block (PassiveInterfaceIs name) = ap (λ f. record h { said = h.said ++ record { number = n; block = block; statement = PassiveInterfaceIs name } ∷ []; fault = f }) (sym (option_or-none h.fault))
+    hear_statement h n block s ≡ record h {
+      said = h.said
+          ++ only_if (sets s) (record { number = n; block = block; statement = s });
+      fault =
+          option_or h.fault (at_line n (refused s));
+    }
+keeps h n block (Refused fault) =
+    ap (λ ss. record h { said = ss; fault = option_or h.fault (Some (record { line = n; fault = fault })) })
+    (sym (append-nil h.said))
+keeps h n block Unread = heard_same h (record h { said = h.said ++ []; fault = option_or h.fault None })
+    (sym (append-nil h.said)) refl refl (sym (option_or-none h.fault)) refl
+keeps h n block (AddressIs p) =
+    ap (λ f. record h {
+      said = h.said ++ record { number = n; block = block; statement = AddressIs p } ∷ [];
+      fault = f;
+    }) (sym (option_or-none h.fault))
+keeps h n block (AreaIs a) = ap (λ f.
+    record h { said = h.said ++ record { number = n; block = block; statement = AreaIs a } ∷ []; fault = f })
+    (sym (option_or-none h.fault))
+keeps h n block (CostIs c) = ap (λ f.
+    record h { said = h.said ++ record { number = n; block = block; statement = CostIs c } ∷ []; fault = f })
+    (sym (option_or-none h.fault))
+keeps h n block (KindIs k) = ap (λ f.
+    record h { said = h.said ++ record { number = n; block = block; statement = KindIs k } ∷ []; fault = f })
+    (sym (option_or-none h.fault))
+keeps h n block (PriorityIs c) =
+    ap (λ f. record h {
+      said = h.said ++ record { number = n; block = block; statement = PriorityIs c } ∷ [];
+      fault = f;
+    }) (sym (option_or-none h.fault))
+keeps h n block (PassiveIs b) =
+    ap (λ f. record h {
+      said = h.said ++ record { number = n; block = block; statement = PassiveIs b } ∷ [];
+      fault = f;
+    }) (sym (option_or-none h.fault))
+keeps h n block (DownIs b) = ap (λ f.
+    record h { said = h.said ++ record { number = n; block = block; statement = DownIs b } ∷ []; fault = f })
+    (sym (option_or-none h.fault))
+keeps h n block (RouterIdIs id) =
+    ap (λ f. record h {
+      said = h.said ++ record { number = n; block = block; statement = RouterIdIs id } ∷ [];
+      fault = f;
+    }) (sym (option_or-none h.fault))
+keeps h n block (NetworkIs w) =
+    ap (λ f. record h {
+      said = h.said ++ record { number = n; block = block; statement = NetworkIs w } ∷ [];
+      fault = f;
+    }) (sym (option_or-none h.fault))
+keeps h n block (PassiveInterfaceIs name) =
+    ap (λ f. record h {
+      said = h.said ++ record { number = n; block = block; statement = PassiveInterfaceIs name } ∷ [];
+      fault = f;
+    }) (sym (option_or-none h.fault))
 
 -- nothing more is kept
 nothing_added : (h : Heard) → h ≡ record h { said = h.said ++ []; heads = h.heads ++ []; fault = option_or h.fault None }
-nothing_added h = heard_same h (record h { said = h.said ++ []; heads = h.heads ++ []; fault = option_or h.fault None }) (sym (append-nil h.said)) (sym (append-nil h.heads)) refl (sym (option_or-none h.fault)) refl
+nothing_added h = heard_same h (record h { said = h.said ++ []; heads = h.heads ++ []; fault = option_or h.fault None })
+    (sym (append-nil h.said)) (sym (append-nil h.heads)) refl (sym (option_or-none h.fault)) refl
 
 hears : (kind : LineKind) (h : Heard) (n : ℕ) (ws : List (List ℕ)) → hear_kind kind h n ws ≡ added kind None h n ws
 hears Blank h n ws = nothing_added h
 hears Comment h n ws = nothing_added h
-hears Head h n ws = keeps (record h { heads = h.heads ++ cons_option (with_line n (name_opened (block_of ws))) []; hostname = cond (begin_with (codes "hostname" ∷ []) ws) (Some (word_at ws 1, n)) h.hostname; block = block_of ws }) n OfOther (head_statement ws)
-hears Indented h n ws = keeps h n h.block (statement_in h.block ws) ∙ ap (λ hs. record h { said = h.said ++ only_if (sets (statement_in h.block ws)) (record { number = n; block = h.block; statement = statement_in h.block ws }); heads = hs; fault = option_or h.fault (at_line n (refused (statement_in h.block ws))) }) (sym (append-nil h.heads))
+hears Head h n ws = keeps (record h {
+  heads = h.heads ++ cons_option (with_line n (name_opened (block_of ws))) [];
+  hostname = cond (begin_with (codes "hostname" ∷ []) ws) (Some (word_at ws 1, n)) h.hostname;
+  block =
+      block_of ws;
+}) n OfOther (head_statement ws)
+hears Indented h n ws = keeps h n h.block (statement_in h.block ws)
+    ∙ ap (λ hs. record h {
+      said = h.said ++ only_if (sets (statement_in h.block ws))
+          (record { number = n; block = h.block; statement = statement_in h.block ws });
+      heads = hs;
+      fault =
+          option_or h.fault (at_line n (refused (statement_in h.block ws)));
+    }) (sym (append-nil h.heads))
 
 -- a line that isn't too long
 pub hears_line : (file : List (List ℕ)) (line : List ℕ) → is_short line ≡ true → hear (heard file) (length file + 1) line ≡ heard (file ++ line ∷ [])
@@ -201,7 +295,9 @@ hears_line file line short =
     hears (kind_of line) (heard file) (length file + 1) (words line)
     ∙ sym (heard-push file line ∙ cases (is_short line) short)
   where
-    cases : (b : Bool) → b ≡ true → added (kind_of (cond b line [])) (cond b None (Some LongLine)) (heard file) (length file + 1) (words (cond b line [])) ≡ added (kind_of line) None (heard file) (length file + 1) (words line)
+    cases : (b : Bool) → b ≡ true →
+        added (kind_of (cond b line [])) (cond b None (Some LongLine)) (heard file) (length file + 1)
+        (words (cond b line [])) ≡ added (kind_of line) None (heard file) (length file + 1) (words line)
     cases true e = refl
     cases false e = absurd (cc)
 
@@ -209,9 +305,13 @@ hears_line file line short =
 pub hears_long : (file : List (List ℕ)) (line : List ℕ) → is_short line ≡ false → with_fault (heard file) (length file + 1) LongLine ≡ heard (file ++ line ∷ [])
 hears_long file line long = sym (heard-push file line ∙ cases (is_short line) long)
   where
-    cases : (b : Bool) → b ≡ false → added (kind_of (cond b line [])) (cond b None (Some LongLine)) (heard file) (length file + 1) (words (cond b line [])) ≡ with_fault (heard file) (length file + 1) LongLine
+    cases : (b : Bool) → b ≡ false →
+        added (kind_of (cond b line [])) (cond b None (Some LongLine)) (heard file) (length file + 1)
+        (words (cond b line [])) ≡ with_fault (heard file) (length file + 1) LongLine
     cases true e = absurd (cc)
-    cases false e = heard_same (added Blank (Some LongLine) (heard file) (length file + 1) []) (with_fault (heard file) (length file + 1) LongLine) (append-nil (heard file).said) (append-nil (heard file).heads) refl refl refl
+    cases false e = heard_same (added Blank (Some LongLine) (heard file) (length file + 1) [])
+        (with_fault (heard file) (length file + 1) LongLine) (append-nil (heard file).said)
+        (append-nil (heard file).heads) refl refl refl
 
 -- a reader that went over the lines of a text up to some bytes
 pub record HeardTo (bytes : List ℕ) (left : TextLeft) (reader : Heard) : Type 0 where
@@ -221,7 +321,10 @@ pub record HeardTo (bytes : List ℕ) (left : TextLeft) (reader : Heard) : Type 
   pub longest : left.longest ≡ 4096
   pub kept : reader ≡ heard file
 
-pub heard_none : (bytes : List ℕ) (left : TextLeft) (reader : Heard) → left ≡ record { bytes = bytes; read = 0; ended = true; longest = 4096 } → reader ≡ record { said = []; heads = []; hostname = None; fault = None; block = OfOther } → HeardTo bytes left reader
+pub heard_none : (bytes : List ℕ) (left : TextLeft) (reader : Heard) →
+    left ≡ record { bytes = bytes; read = 0; ended = true; longest = 4096 } →
+    reader ≡ record { said = []; heads = []; hostname = None; fault = None; block = OfOther } →
+    HeardTo bytes left reader
 heard_none bytes left reader start kept = record {
   file = [];
   split = ap (λ (t : TextLeft). lines t.bytes) (sym start);
@@ -230,7 +333,9 @@ heard_none bytes left reader start kept = record {
   kept = kept;
 }
 
-more_of : (bytes : List ℕ) (old new : TextLeft) (reader next : Heard) (text : List ℕ) (so_far : HeardTo bytes old reader) → GoesOver old new text → next ≡ heard (so_far.file ++ text ∷ []) → HeardTo bytes new next
+more_of : (bytes : List ℕ) (old new : TextLeft) (reader next : Heard) (text : List ℕ)
+    (so_far : HeardTo bytes old reader) → GoesOver old new text → next ≡ heard (so_far.file ++ text ∷ []) →
+    HeardTo bytes new next
 more_of bytes old new reader next text so_far over kept = record {
   file = so_far.file ++ text ∷ [];
   split = so_far.split ∙ ap (λ ls. so_far.file ++ ls) over.first.first ∙ sym (append_assoc so_far.file (text ∷ []) (lines new.bytes));
@@ -239,7 +344,8 @@ more_of bytes old new reader next text so_far over kept = record {
   kept = kept;
 }
 
-pub heard_more : (bytes : List ℕ) (old new : TextLeft) (reader next : Heard) (line : Line) → HeardTo bytes old reader → IsLineRead old new line → next ≡ hear reader line.number line.text.now → HeardTo bytes new next
+pub heard_more : (bytes : List ℕ) (old new : TextLeft) (reader next : Heard) (line : Line) → HeardTo bytes old reader →
+    IsLineRead old new line → next ≡ hear reader line.number line.text.now → HeardTo bytes new next
 heard_more bytes old new reader next line so_far is_line step =
     more_of bytes old new reader next line.text.now so_far is_line.0
     (step
@@ -247,7 +353,9 @@ heard_more bytes old new reader next line so_far is_line step =
     ∙ ap (λ n. hear (heard so_far.file) n line.text.now) (is_line.1.counted ∙ ap (λ n. n + 1) so_far.counted)
     ∙ hears_line so_far.file line.text.now (le-leb (length line.text.now) 4096 (omega (arith, is_line.1.within, so_far.longest))))
 
-pub heard_long : (bytes : List ℕ) (old new : TextLeft) (reader next : Heard) (long : LongLineRead) → HeardTo bytes old reader → IsLongLine old new long → next ≡ with_fault reader long.number LongLine → HeardTo bytes new next
+pub heard_long : (bytes : List ℕ) (old new : TextLeft) (reader next : Heard) (long : LongLineRead) →
+    HeardTo bytes old reader → IsLongLine old new long → next ≡ with_fault reader long.number LongLine →
+    HeardTo bytes new next
 heard_long bytes old new reader next long so_far is_long step =
     more_of bytes old new reader next is_long.0 so_far is_long.1
     (step

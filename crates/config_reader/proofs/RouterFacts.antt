@@ -7,6 +7,7 @@ use Rattle.std.proofs.lemmas.List.Folds.{list_all-append}
 use Rattle.std.proofs.lemmas.List.Elements.{All-nil, All-cons}
 use Rattle.cost_base.specs.Lists.{numbers_from, first_of, last_of, same_bytes}
 use Rattle.cost_base.specs.Words.{is_blank, ends_a_word, IsOneWord, IsWord}
+use Rattle.cost_base.proofs.ByteLemmas.{same_bytes-refl}
 use Rattle.text_lines.specs.Lines.{lines, words, ends_word, grow, kind_of, is_head}
 use Rattle.text_lines.specs.Numbers.{Prefix, prefix, prefix_of_pieces, joined_prefix, quad, number_within, split}
 use Rattle.text_lines.proofs.NumberLaws.{number_within-le}
@@ -19,7 +20,6 @@ use Rattle.config_reader.specs.Settings.{Said, said, said_by, about, is_of, inte
 use Rattle.config_reader.specs.Configs.{config_of, first_heads, opened_at, with_line, name_opened}
 use Rattle.config_reader.specs.Faults.{is_name_byte, is_router_name, router_name}
 use Rattle.config_reader.specs.Reading.{open_block}
-use Rattle.config_reader.proofs.Places.{same_bytes-refl}
 use Rattle.config_reader.proofs.SaidSteps.{said_after, said-push, opened_from}
 use Rattle.config_reader.proofs.SettingSteps.{about-push, said_where}
 use Rattle.config_reader.specs.declared.stop.ConfigFault.{ConfigFault}
@@ -103,7 +103,19 @@ unread_fits : Fits Unread
 unread_fits = record { fact = tt }
 
 interface_fits : (ws : List (List ℕ)) → Fits (interface_statement ws)
-interface_fits ws = search (fits_cond, address_fits, area_fits, cost_fits, priority_fits, alone_fits, kind_fits, passive_fits, down_fits, refused_fits, unread_fits) depth 40
+interface_fits ws = search (
+  fits_cond,
+  address_fits,
+  area_fits,
+  cost_fits,
+  priority_fits,
+  alone_fits,
+  kind_fits,
+  passive_fits,
+  down_fits,
+  refused_fits,
+  unread_fits,
+) depth 40
 
 network_fits : (p : Option Prefix) (b : Bool) (a : Option ℕ) → Fits (network_statement p b a)
 network_fits None b a = record { fact = tt }
@@ -147,7 +159,8 @@ pub about_fits : (file : List (List ℕ)) (name : List ℕ) → EachFits (about 
 about_fits = by_lines (λ file. (name : List ℕ) → EachFits (about (said file) name)) (λ name. tt)
     (λ file line before name. subst EachFits (sym (ap (λ all. about all name) (said-push file line) ∙ about-push (said file) (said_after file line) name))
     (each_append (about (said file) name) (said_where (is_of name (said_after file line).block) (said_after file line).statement) (before name)
-    (each_where (is_of name (said_after file line).block) (said_after file line).statement (said_fits (kind_of line) (length file + 1) (open_block file) (words line)))))
+    (each_where (is_of name (said_after file line).block) (said_after file line).statement
+    (said_fits (kind_of line) (length file + 1) (open_block file) (words line)))))
 
 -- the first address of statements that fit
 first_length : (own : List Statement) → EachFits own → length_part (first_of (filter_map address_said own)) ≤ 32
@@ -195,7 +208,15 @@ more_room n m [] le h = tt
 more_room n m (w ∷ ws) le h = (h.0, omega (arith, h.1), more_room n m ws le h.2)
 
 grown : (c : ℕ) (n : ℕ) (ws : List (List ℕ)) → ends_a_word c ≡ false → EachWord n ws → EachWord (suc n) (grow c ws)
-grown c n [] solid h = (record { some = λ e. cc; whole = All-cons (λ x. ends_a_word x ≡ false) c [] solid (All-nil (λ x. ends_a_word x ≡ false)) }, omega arith, tt)
+grown c n [] solid h = (
+  record {
+    some = λ e. cc;
+    whole = All-cons (λ x. ends_a_word x ≡ false) c [] solid
+        (All-nil (λ x. ends_a_word x ≡ false));
+  },
+  omega arith,
+  tt,
+)
 grown c n (w ∷ ws) solid h =
     (record { some = λ e. cc; whole = All-cons (λ x. ends_a_word x ≡ false) c w solid h.0.whole }, omega (arith, h.1), more_room n (suc n) ws (omega arith) h.2)
 
@@ -206,11 +227,19 @@ words-words (c ∷ cs) lacks = cases (is_blank c) (ends_word cs) refl (words-wor
     parts : (not (c == 10) ≡ true) × (lacks_end cs ≡ true)
     parts = and_parts (not (c == 10)) (lacks_end cs) lacks
 
-    cases : (b e : Bool) → is_blank c ≡ b → EachWord (length cs) (words cs) → EachWord (suc (length cs)) (cond b (words cs) (cond e ((c ∷ []) ∷ words cs) (grow c (words cs))))
+    cases : (b e : Bool) → is_blank c ≡ b → EachWord (length cs) (words cs) →
+        EachWord (suc (length cs)) (cond b (words cs) (cond e ((c ∷ []) ∷ words cs) (grow c (words cs))))
     cases true e blank h = more_room (length cs) (suc (length cs)) (words cs) (omega arith) h
     cases false true blank h =
-        let solid : ends_a_word c ≡ false = or_from (is_blank c) (c == 10) blank (not-true (c == 10) parts.0) in
-        (record { some = λ e. cc; whole = All-cons (λ x. ends_a_word x ≡ false) c [] solid (All-nil (λ x. ends_a_word x ≡ false)) }, omega arith, more_room (length cs) (suc (length cs)) (words cs) (omega arith) h)
+        let solid : ends_a_word c ≡ false = or_from (is_blank c) (c == 10) blank (not-true (c == 10) parts.0) in (
+          record {
+            some = λ e. cc;
+            whole = All-cons (λ x. ends_a_word x ≡ false) c [] solid
+                (All-nil (λ x. ends_a_word x ≡ false));
+          },
+          omega arith,
+          more_room (length cs) (suc (length cs)) (words cs) (omega arith) h,
+        )
     cases false false blank h = grown c (length cs) (words cs) (or_from (is_blank c) (c == 10) blank (not-true (c == 10) parts.0)) h
 
 -- no line of a text has an LF
@@ -228,10 +257,13 @@ abbrev pub is_good_line : List ℕ → Bool
 is_good_line line = lacks_end line && nat_le (length line) 4096
 
 -- the name of an interface that a line opens is a word
-block_word : (line : List ℕ) → is_good_line line ≡ true → (ws : List (List ℕ)) → EachWord (length line) ws → (name : List ℕ) → block_of ws ≡ OfInterface name → IsWord name
+block_word : (line : List ℕ) → is_good_line line ≡ true → (ws : List (List ℕ)) → EachWord (length line) ws →
+    (name : List ℕ) → block_of ws ≡ OfInterface name → IsWord name
 block_word line good [] each name e = absurd (cc)
 block_word line good (w ∷ []) each name e = absurd (cc)
-block_word line good (w ∷ v ∷ ws) each name e = cases (length (w ∷ v ∷ ws) == 2 && begin_with (codes "interface" ∷ []) (w ∷ v ∷ ws)) (length (w ∷ v ∷ ws) == 2 && begin_with (codes "router" ∷ codes "ospf" ∷ []) (w ∷ v ∷ ws)) e
+block_word line good (w ∷ v ∷ ws) each name e =
+    cases (length (w ∷ v ∷ ws) == 2 && begin_with (codes "interface" ∷ []) (w ∷ v ∷ ws))
+    (length (w ∷ v ∷ ws) == 2 && begin_with (codes "router" ∷ codes "ospf" ∷ []) (w ∷ v ∷ ws)) e
   where
     short : length line ≤ 4096
     short = leb-true (length line) 4096 (and_parts (lacks_end line) (nat_le (length line) 4096) good).1
@@ -281,7 +313,8 @@ heads_append (h ∷ hs) gs f g = (f.0, heads_append hs gs f.1 g)
 heads_words : (file : List (List ℕ)) → list_all is_good_line file ≡ true → EachHead (first_heads file)
 heads_words = by_lines (λ file. list_all is_good_line file ≡ true → EachHead (first_heads file)) (λ good. tt) step
   where
-    step : (file : List (List ℕ)) (line : List ℕ) → (list_all is_good_line file ≡ true → EachHead (first_heads file)) → list_all is_good_line (file ++ line ∷ []) ≡ true → EachHead (first_heads (file ++ line ∷ []))
+    step : (file : List (List ℕ)) (line : List ℕ) → (list_all is_good_line file ≡ true → EachHead (first_heads file)) →
+        list_all is_good_line (file ++ line ∷ []) ≡ true → EachHead (first_heads (file ++ line ∷ []))
     step file line before good = subst EachHead (sym (first_heads-push file line)) (cases (opened_from (length file) line) refl)
       where
         parts : (list_all is_good_line file ≡ true) × (list_all is_good_line (line ∷ []) ≡ true)
@@ -289,27 +322,38 @@ heads_words = by_lines (λ file. list_all is_good_line file ≡ true → EachHea
 
         cases : (o : Option (List ℕ × ℕ)) → opened_from (length file) line ≡ o → EachHead (heads_with o (first_heads file))
         cases None e = before parts.0
-        cases (Some head) e = heads_append (first_heads file) (unless_known (is_headed head.0 (first_heads file)) head) (before parts.0) (new (is_headed head.0 (first_heads file)))
+        cases (Some head) e = heads_append (first_heads file) (unless_known (is_headed head.0 (first_heads file)) head)
+            (before parts.0) (new (is_headed head.0 (first_heads file)))
           where
             new : (b : Bool) → EachHead (unless_known b head)
             new true = tt
             new false = (opened_word (length file) line head.0 head.1 (and_parts (is_good_line line) true parts.1).0 e, tt)
 
 -- the interfaces of a file keep their facts
-interfaces_kept : (file : List (List ℕ)) (heads : List (List ℕ × ℕ)) → EachHead heads → All IsInterface (map (λ head. interface_of (said file) head.0 head.1) heads)
+interfaces_kept : (file : List (List ℕ)) (heads : List (List ℕ × ℕ)) → EachHead heads →
+    All IsInterface (map (λ head. interface_of (said file) head.0 head.1) heads)
 interfaces_kept file [] each = All-nil IsInterface
 interfaces_kept file (h ∷ heads) each =
     All-cons IsInterface (interface_of (said file) h.0 h.1) (map (λ head. interface_of (said file) head.0 head.1) heads)
-    (record { name = each.0; short = first_length (about (said file) h.0) (about_fits file h.0); cost = last_positive (about (said file) h.0) (about_fits file h.0) })
+    (record {
+      name = each.0;
+      short = first_length (about (said file) h.0) (about_fits file h.0);
+      cost = last_positive (about (said file) h.0) (about_fits file h.0);
+    })
     (interfaces_kept file heads each.1)
 
-named_at : (all : List Said) (heads : List (List ℕ × ℕ)) (x : List ℕ) (j : ℕ) (d : Interface) → j < length (map (λ (head : List ℕ × ℕ). interface_of all head.0 head.1) heads) →
+named_at : (all : List Said) (heads : List (List ℕ × ℕ)) (x : List ℕ) (j : ℕ) (d : Interface) →
+    j < length (map (λ (head : List ℕ × ℕ). interface_of all head.0 head.1) heads) →
     x ≡ (get_or (map (λ (head : List ℕ × ℕ). interface_of all head.0 head.1) heads) j d).name → list_any (same_bytes x) (head_names heads) ≡ true
 named_at all [] x j d within e = absurd (omega arith)
-named_at all (h ∷ heads) x zero d within e = or_left (same_bytes x h.0) (list_any (same_bytes x) (head_names heads)) (ap (same_bytes x) (sym e) ∙ same_bytes-refl x)
-named_at all (h ∷ heads) x (suc j) d within e = or_right (same_bytes x h.0) (list_any (same_bytes x) (head_names heads)) (named_at all heads x j d (omega arith) e)
+named_at all (h ∷ heads) x zero d within e =
+    or_left (same_bytes x h.0) (list_any (same_bytes x) (head_names heads)) (ap (same_bytes x) (sym e)
+    ∙ same_bytes-refl x)
+named_at all (h ∷ heads) x (suc j) d within e =
+    or_right (same_bytes x h.0) (list_any (same_bytes x) (head_names heads)) (named_at all heads x j d (omega arith) e)
 
-interfaces_apart : (all : List Said) (heads : List (List ℕ × ℕ)) → NamesApart (head_names heads) → AllPairs (λ (a b : Interface). a.name ≢ b.name) (map (λ head. interface_of all head.0 head.1) heads)
+interfaces_apart : (all : List Said) (heads : List (List ℕ × ℕ)) → NamesApart (head_names heads) →
+    AllPairs (λ (a b : Interface). a.name ≢ b.name) (map (λ head. interface_of all head.0 head.1) heads)
 interfaces_apart all [] apart i j d before within = absurd (omega arith)
 interfaces_apart all (h ∷ heads) apart i zero d before within = absurd (omega arith)
 interfaces_apart all (h ∷ heads) apart zero (suc j) d before within = λ same. false≢true (sym apart.0 ∙ named_at all heads h.0 j d (omega arith) same)
@@ -348,11 +392,13 @@ abbrev pub is_short_line : List ℕ → Bool
 is_short_line line = nat_le (length line) 4096
 
 -- a configuration with no line too long and a router's name says a router
-pub router_kept : (file_name bytes : List ℕ) → list_all is_short_line (lines bytes) ≡ true → is_router_name (router_name file_name (lines bytes)).0 ≡ true → IsRouter (config_of file_name bytes)
+pub router_kept : (file_name bytes : List ℕ) → list_all is_short_line (lines bytes) ≡ true →
+    is_router_name (router_name file_name (lines bytes)).0 ≡ true → IsRouter (config_of file_name bytes)
 router_kept file_name bytes short named = record {
   name = router_word (router_name file_name (lines bytes)).0 named;
   interfaces = interfaces_kept (lines bytes) (first_heads (lines bytes)) (heads_words (lines bytes) (both (lines bytes) (lines_lack bytes) short));
-  different = interfaces_apart (said (lines bytes)) (first_heads (lines bytes)) (firsts-apart [] (filter_map (opened_at (lines bytes)) (numbers_from 0 (length (lines bytes)))));
+  different = interfaces_apart (said (lines bytes)) (first_heads (lines bytes))
+      (firsts-apart [] (filter_map (opened_at (lines bytes)) (numbers_from 0 (length (lines bytes)))));
 }
   where
     both : (ls : List (List ℕ)) → all_lack_end ls ≡ true → list_all is_short_line ls ≡ true → list_all is_good_line ls ≡ true

@@ -9,7 +9,7 @@ use Rattle.config_reader.specs.Statements.{block_of, begin_with, word_at}
 use Rattle.config_reader.specs.Settings.{Said, said, said_at, said_by, block_by_head}
 use Rattle.config_reader.specs.Configs.{opened_at, with_line, name_opened}
 use Rattle.config_reader.specs.Faults.{is_hostname_head, last_hostname, name_and_line, router_name}
-use Rattle.config_reader.proofs.Places.{map-numbers_more, filter_map-numbers_more, filter-numbers_same, last_passing-lt}
+use Rattle.config_reader.proofs.LongerLists.{map-numbers_more, filter_map-numbers_more, filter-numbers_same, last_passing-lt}
 
 -- what a line says at a place, behind a head
 abbrev pub said_behind : ℕ → Option (List ℕ) → List ℕ → Said
@@ -33,7 +33,8 @@ said_at-append file more i within =
 -- what the last line of a file says
 pub last_said : (file : List (List ℕ)) (line : List ℕ) → said_at (file ++ line ∷ []) (length file) ≡ said_after file line
 last_said file line =
-    ap (λ (l : List ℕ). said_behind (length file) (last_of (filter is_head (take (length file) (file ++ line ∷ [])))) l) (get_or_at file line [] [] (length file) refl)
+    ap (λ (l : List ℕ). said_behind (length file) (last_of (filter is_head (take (length file) (file ++ line ∷ [])))) l)
+    (get_or_at file line [] [] (length file) refl)
     ∙ ap (λ (front : List (List ℕ)). said_behind (length file) (last_of (filter is_head front)) line) (take_at file (line ∷ []) (length file) refl)
 
 -- one more line says one thing more
@@ -48,20 +49,25 @@ abbrev pub opened_from : ℕ → List ℕ → Option (List ℕ × ℕ)
 opened_from i line = if is_head line then with_line (i + 1) (name_opened (block_of (words line))) else None
 
 -- one more line opens at most one interface more
-pub opened-push : (file : List (List ℕ)) (line : List ℕ) → filter_map (opened_at (file ++ line ∷ [])) (numbers_from 0 (length (file ++ line ∷ []))) ≡ filter_map (opened_at file) (numbers_from 0 (length file)) ++ cons_option (opened_from (length file) line) []
+pub opened-push : (file : List (List ℕ)) (line : List ℕ) →
+    filter_map (opened_at (file ++ line ∷ [])) (numbers_from 0 (length (file ++ line ∷ [])))
+    ≡ filter_map (opened_at file) (numbers_from 0 (length file)) ++ cons_option (opened_from (length file) line) []
 opened-push file line =
     ap (λ n. filter_map (opened_at (file ++ line ∷ [])) (numbers_from 0 n)) (length_more file line)
     ∙ filter_map-numbers_more (opened_at (file ++ line ∷ [])) (opened_at file) (length file)
     (λ i within. ap (λ (l : List ℕ). opened_from i l) (get_or_append_left file (line ∷ []) [] i within))
-    ∙ ap (λ (l : List ℕ). filter_map (opened_at file) (numbers_from 0 (length file)) ++ cons_option (opened_from (length file) l) []) (get_or_at file line [] [] (length file) refl)
+    ∙ ap (λ (l : List ℕ). filter_map (opened_at file) (numbers_from 0 (length file))
+    ++ cons_option (opened_from (length file) l) []) (get_or_at file line [] [] (length file) refl)
 
 -- whether a line is a `hostname` head
 abbrev pub names_router : List ℕ → Bool
 names_router line = is_head line && begin_with (codes "hostname" ∷ []) (words line)
 
 -- one more line that is no `hostname` head leaves the router's name
-pub router_name-push : (file_name : List ℕ) (file : List (List ℕ)) (line : List ℕ) → names_router line ≡ false → router_name file_name (file ++ line ∷ []) ≡ router_name file_name file
-router_name-push file_name file line other = ap (name_and_line file_name (file ++ line ∷ [])) last ∙ at (last_hostname file) (λ i e. last_passing-lt (is_hostname_head file) 0 (length file) i e)
+pub router_name-push : (file_name : List ℕ) (file : List (List ℕ)) (line : List ℕ) → names_router line ≡ false →
+    router_name file_name (file ++ line ∷ []) ≡ router_name file_name file
+router_name-push file_name file line other = ap (name_and_line file_name (file ++ line ∷ [])) last
+    ∙ at (last_hostname file) (λ i e. last_passing-lt (is_hostname_head file) 0 (length file) i e)
   where
     last : last_hostname (file ++ line ∷ []) ≡ last_hostname file
     last =

@@ -11,7 +11,7 @@ use Rattle.config_reader.specs.Settings.{Said, said, about, about_router, settin
 use Rattle.config_reader.specs.Configs.{first_heads}
 use Rattle.config_reader.specs.Faults.{router_name, is_router_name}
 use Rattle.config_reader.specs.FaultList.{takes_part, differs, second_address, area_twice, is_other_area, address_by_networks}
-use Rattle.config_reader.proofs.Places.{any-map}
+use Rattle.config_reader.proofs.LongerLists.{any-map}
 use Rattle.config_reader.proofs.BlockFacts.{head_names}
 use Rattle.config_reader.proofs.FineLines.{AllFine}
 use Rattle.config_reader.proofs.FaultlessFiles.{Faultless}
@@ -45,7 +45,8 @@ module _ (old new : List (List ℕ)) (same : SameTests old new) where
       ∙ ap (λ t. cond (t && differs p (address_of (said new) name)) (Some SecondAddress) None) (sym (takes_same name))
   second_same _ _ = refl
 
-  twice_same : (earlier : List Network) (block : Block) (s : Statement) → area_twice (said old) (first_heads old) earlier block s ≡ area_twice (said new) (first_heads new) earlier block s
+  twice_same : (earlier : List Network) (block : Block) (s : Statement) →
+      area_twice (said old) (first_heads old) earlier block s ≡ area_twice (said new) (first_heads new) earlier block s
   twice_same earlier OfRouter (NetworkIs n) =
       ap (λ b. cond b (Some AreaTwice) None)
       (any-map (other (said old)) (λ (head : List ℕ × ℕ). head.0) (first_heads old)
@@ -64,7 +65,8 @@ module _ (old new : List (List ℕ)) (same : SameTests old new) where
 
 -- where the lines of the new file are fine by the tests of the old one, it has no fault
 pub faultless_so : (file_name : List ℕ) (old new : List (List ℕ)) → SameTests old new →
-    AllFine (second_address (said old)) (area_twice (said old) (first_heads old)) [] new → is_router_name (router_name file_name new).0 ≡ true → Faultless file_name new
+    AllFine (second_address (said old)) (area_twice (said old) (first_heads old)) [] new →
+    is_router_name (router_name file_name new).0 ≡ true → Faultless file_name new
 faultless_so file_name old new same fine name = record {
   fine =
       subst (λ f. AllFine f (area_twice (said new) (first_heads new)) [] new) (λ i block s. second_same old new same block s i)

@@ -6,13 +6,13 @@ use Rattle.std.specs.Option.{option_or}
 use Rattle.std.proofs.lemmas.List.{map-append}
 use Rattle.std.proofs.lemmas.List.Elements.{filter-append, filter_map-append}
 use Rattle.cost_base.specs.Lists.{last_of, first_of, same_bytes}
+use Rattle.cost_base.proofs.ListLemmas.{last_of-push, first_of-push}
 use Rattle.text_lines.specs.Numbers.{Prefix}
 use Rattle.interface_model.specs.declared.Interface.{Interface}
 use Rattle.interface_model.specs.declared.Kind.{Kind}
 use Rattle.interface_model.specs.declared.Kind.TheVariants.{Broadcast}
 use Rattle.config_reader.specs.Statements.{Statement, CostIs, Network}
 use Rattle.config_reader.specs.Settings.{Said, about, about_router, is_of, is_of_router, setting, interface_of, address_of, networks, area_by_networks, address_said, area_said, cost_said, kind_said, passive_said, down_said, priority_said, network_said, passive_name_said, matches, or_if_none, address_part, length_part}
-use Rattle.config_reader.proofs.Places.{last_of-push, first_of-push}
 
 -- a thing that is said where a test passes
 abbrev pub said_where : Bool → Statement → List Statement
@@ -42,7 +42,8 @@ about_router-push all s =
     one false t = refl
 
 -- a setting with one more statement: the last of its kind counts
-pub setting-push : {X : Type 0} (pick : Statement → Option X) (own : List Statement) (s : Statement) → setting pick (own ++ s ∷ []) ≡ option_or (pick s) (setting pick own)
+pub setting-push : {X : Type 0} (pick : Statement → Option X) (own : List Statement) (s : Statement) →
+    setting pick (own ++ s ∷ []) ≡ option_or (pick s) (setting pick own)
 setting-push {X} pick own s = ap last_of (filter_map-append pick own (s ∷ [])) ∙ cases (pick s) (filter_map pick own)
   where
     cases : (o : Option X) (xs : List X) → last_of (xs ++ cons_option o []) ≡ option_or o (last_of xs)
@@ -50,7 +51,8 @@ setting-push {X} pick own s = ap last_of (filter_map-append pick own (s ∷ []))
     cases (Some x) xs = last_of-push xs x
 
 -- the first of a kind, with one more statement
-pub first_said-push : {X : Type 0} (pick : Statement → Option X) (own : List Statement) (s : Statement) → first_of (filter_map pick (own ++ s ∷ [])) ≡ option_or (first_of (filter_map pick own)) (pick s)
+pub first_said-push : {X : Type 0} (pick : Statement → Option X) (own : List Statement) (s : Statement) →
+    first_of (filter_map pick (own ++ s ∷ [])) ≡ option_or (first_of (filter_map pick own)) (pick s)
 first_said-push {X} pick own s = ap first_of (filter_map-append pick own (s ∷ [])) ∙ cases (pick s) (filter_map pick own)
   where
     cases : (o : Option X) (xs : List X) → first_of (xs ++ cons_option o []) ≡ option_or (first_of xs) o
@@ -86,7 +88,9 @@ interface_from own router name line =
 
 pub interface_of-from : (all : List Said) (name : List ℕ) (line : ℕ) → interface_of all name line ≡ interface_from (about all name) (about_router all) name line
 unfolding interface_from interface_by
-interface_of-from all name line = ap (λ (area : Option ℕ). record (interface_of all name line) { area = area }) (same (setting area_said (about all name)) (address_of all name))
+interface_of-from all name line =
+    ap (λ (area : Option ℕ). record (interface_of all name line) { area = area })
+    (same (setting area_said (about all name)) (address_of all name))
   where
     same : (own : Option ℕ) (address : Option Prefix) → or_if_none own (area_by_networks all address) ≡ area_from own address (networks all)
     same own None = refl
@@ -95,11 +99,22 @@ interface_of-from all name line = ap (λ (area : Option ℕ). record (interface_
 -- an interface with one more statement in its blocks
 pub interface_from-push : (own router : List Statement) (name : List ℕ) (line : ℕ) (s : Statement) →
     interface_from (own ++ s ∷ []) router name line
-    ≡ interface_by name line (option_or (first_of (filter_map address_said own)) (address_said s)) (option_or (area_said s) (setting area_said own)) (option_or (cost_said s) (setting cost_said own)) (option_or (kind_said s) (setting kind_said own))
-    (option_or (passive_said s) (setting passive_said own)) (option_or (down_said s) (setting down_said own)) (option_or (priority_said s) (setting priority_said own)) router
+    ≡ interface_by name line (option_or (first_of (filter_map address_said own)) (address_said s))
+    (option_or (area_said s) (setting area_said own)) (option_or (cost_said s) (setting cost_said own))
+    (option_or (kind_said s) (setting kind_said own))
+    (option_or (passive_said s) (setting passive_said own)) (option_or (down_said s) (setting down_said own))
+    (option_or (priority_said s) (setting priority_said own)) router
 unfolding interface_from
 interface_from-push own router name line s =
-    cc (first_said-push address_said own s, setting-push area_said own s, setting-push cost_said own s, setting-push kind_said own s, setting-push passive_said own s, setting-push down_said own s, setting-push priority_said own s)
+    cc (
+      first_said-push address_said own s,
+      setting-push area_said own s,
+      setting-push cost_said own s,
+      setting-push kind_said own s,
+      setting-push passive_said own s,
+      setting-push down_said own s,
+      setting-push priority_said own s,
+    )
 
 -- nothing said changes nothing
 pub option_or-none : {X : Type 0} (o : Option X) → option_or o None ≡ o
@@ -110,7 +125,8 @@ option_or-none (Some x) = refl
 pub interface_from-cost : (own router : List Statement) (name : List ℕ) (line n : ℕ) →
     interface_from (own ++ CostIs n ∷ []) router name line ≡ record (interface_from own router name line) { cost = Some n }
 unfolding interface_from interface_by
-interface_from-cost own router name line n = interface_from-push own router name line (CostIs n) ∙ ap by_address (option_or-none (first_of (filter_map address_said own))) ∙ set
+interface_from-cost own router name line n = interface_from-push own router name line (CostIs n)
+    ∙ ap by_address (option_or-none (first_of (filter_map address_said own))) ∙ set
   where
     by_address : Option Prefix → Interface
     by_address address =
@@ -121,26 +137,36 @@ interface_from-cost own router name line n = interface_from-push own router name
     set = refl
 
 -- what is said in other blocks leaves an interface
-pub interface_of-other : (all : List Said) (s : Said) (name : List ℕ) (line : ℕ) → is_of name s.block ≡ false → is_of_router s.block ≡ false → interface_of (all ++ s ∷ []) name line ≡ interface_of all name line
+pub interface_of-other : (all : List Said) (s : Said) (name : List ℕ) (line : ℕ) → is_of name s.block ≡ false →
+    is_of_router s.block ≡ false → interface_of (all ++ s ∷ []) name line ≡ interface_of all name line
 interface_of-other all s name line other no_router =
-    let own : about (all ++ s ∷ []) name ≡ about all name = about-push all s name ∙ ap (λ b. about all name ++ said_where b s.statement) other ∙ append-nil (about all name) in
-    let router : about_router (all ++ s ∷ []) ≡ about_router all = about_router-push all s ∙ ap (λ b. about_router all ++ said_where b s.statement) no_router ∙ append-nil (about_router all) in
+    let own : about (all ++ s ∷ []) name ≡ about all name = about-push all s name
+    ∙ ap (λ b. about all name ++ said_where b s.statement) other ∙ append-nil (about all name) in
+    let router : about_router (all ++ s ∷ []) ≡ about_router all = about_router-push all s
+    ∙ ap (λ b. about_router all ++ said_where b s.statement) no_router ∙ append-nil (about_router all) in
     interface_of-from (all ++ s ∷ []) name line
     ∙ ap (λ said. interface_from said (about_router (all ++ s ∷ [])) name line) own
     ∙ ap (λ said. interface_from (about all name) said name line) router
     ∙ sym (interface_of-from all name line)
 
 -- what is said in its own block is added to what is said of it
-pub interface_of-own : (all : List Said) (s : Said) (name : List ℕ) (line : ℕ) → is_of name s.block ≡ true → is_of_router s.block ≡ false → interface_of (all ++ s ∷ []) name line ≡ interface_from (about all name ++ s.statement ∷ []) (about_router all) name line
+pub interface_of-own : (all : List Said) (s : Said) (name : List ℕ) (line : ℕ) → is_of name s.block ≡ true →
+    is_of_router s.block ≡ false →
+    interface_of (all ++ s ∷ []) name line ≡ interface_from (about all name ++ s.statement ∷ [])
+    (about_router all) name line
 interface_of-own all s name line here no_router =
-    let own : about (all ++ s ∷ []) name ≡ about all name ++ s.statement ∷ [] = about-push all s name ∙ ap (λ b. about all name ++ said_where b s.statement) here in
-    let router : about_router (all ++ s ∷ []) ≡ about_router all = about_router-push all s ∙ ap (λ b. about_router all ++ said_where b s.statement) no_router ∙ append-nil (about_router all) in
+    let own : about (all ++ s ∷ []) name ≡ about all name ++ s.statement ∷ [] = about-push all s name
+    ∙ ap (λ b. about all name ++ said_where b s.statement) here in
+    let router : about_router (all ++ s ∷ []) ≡ about_router all = about_router-push all s
+    ∙ ap (λ b. about_router all ++ said_where b s.statement) no_router ∙ append-nil (about_router all) in
     interface_of-from (all ++ s ∷ []) name line
     ∙ ap (λ said. interface_from said (about_router (all ++ s ∷ [])) name line) own
     ∙ ap (λ said. interface_from (about all name ++ s.statement ∷ []) said name line) router
 
 -- a cost line of an interface sets its cost alone
-pub interface_of-cost : (all : List Said) (s : Said) (name : List ℕ) (line n : ℕ) → is_of name s.block ≡ true → is_of_router s.block ≡ false → s.statement ≡ CostIs n → interface_of (all ++ s ∷ []) name line ≡ record (interface_of all name line) { cost = Some n }
+pub interface_of-cost : (all : List Said) (s : Said) (name : List ℕ) (line n : ℕ) → is_of name s.block ≡ true →
+    is_of_router s.block ≡ false → s.statement ≡ CostIs n →
+    interface_of (all ++ s ∷ []) name line ≡ record (interface_of all name line) { cost = Some n }
 interface_of-cost all s name line n here no_router cost =
     interface_of-own all s name line here no_router
     ∙ ap (λ statement. interface_from (about all name ++ statement ∷ []) (about_router all) name line) cost

@@ -28,12 +28,14 @@ one_more n k found (v ∷ ws) w =
 same_prefix-true : (a b : NetworkPrefix) → same_prefix a b ≡ true → a ≡ b
 same_prefix-true a b e =
     let parts = and_parts (eqb a.subnet b.subnet) (eqb a.length b.length) e in
-    ap (λ s. record { subnet = s; length = a.length }) (eqb-true a.subnet b.subnet parts.0) ∙ ap (λ l. record { subnet = b.subnet; length = l }) (eqb-true a.length b.length parts.1)
+    ap (λ s. record { subnet = s; length = a.length }) (eqb-true a.subnet b.subnet parts.0)
+    ∙ ap (λ l. record { subnet = b.subnet; length = l }) (eqb-true a.length b.length parts.1)
 
 -- a map that has the lines of each prefix has them still, once the lines of one prefix are put with one more
 pub lines_with : (old new : NetworkPrefix → Option PrefixLines) (ws : List NetworkLine) (w : NetworkLine) →
     ((k : NetworkPrefix) → old k ≡ lines_of k ws) →
-    ((k : NetworkPrefix) → new k ≡ cond (same_prefix (prefix_at w.address w.length) k) (Some (noted (length ws) w (old (prefix_at w.address w.length)))) (old k)) →
+    ((k : NetworkPrefix) → new k ≡ cond (same_prefix (prefix_at w.address w.length) k)
+    (Some (noted (length ws) w (old (prefix_at w.address w.length)))) (old k)) →
     (k : NetworkPrefix) → new k ≡ lines_of k (ws ++ w ∷ [])
 lines_with old new ws w each put k = put k ∙ go (names_prefix k w) refl ∙ sym (one_more 0 k None ws w)
   where
@@ -42,12 +44,14 @@ lines_with old new ws w each put k = put k ∙ go (names_prefix k w) refl ∙ sy
 
     go : (b : Bool) → names_prefix k w ≡ b →
         cond b (Some (noted (length ws) w (old own))) (old k) ≡ cond b (Some (noted (0 + length ws) w (lines_of k ws))) (lines_of k ws)
-    go true e = ap (λ found. Some (noted (length ws) w found)) (ap old (same_prefix-true own k e) ∙ each k) ∙ ap (λ m. Some (noted m w (lines_of k ws))) (omega arith)
+    go true e = ap (λ found. Some (noted (length ws) w found)) (ap old (same_prefix-true own k e) ∙ each k)
+        ∙ ap (λ m. Some (noted m w (lines_of k ws))) (omega arith)
     go false e = each k
 
 -- The first line of a prefix.
 
-kept_first : (n : ℕ) (k : NetworkPrefix) (l : PrefixLines) (ws : List NetworkLine) → option_map (λ found. found.first) (lines_from n k (Some l) ws) ≡ Some l.first
+kept_first : (n : ℕ) (k : NetworkPrefix) (l : PrefixLines) (ws : List NetworkLine) →
+    option_map (λ found. found.first) (lines_from n k (Some l) ws) ≡ Some l.first
 kept_first n k l [] = refl
 kept_first n k l (w ∷ ws) = go (names_prefix k w) (kept_first (n + 1) k (noted n w (Some l)) ws) (kept_first (n + 1) k l ws)
   where
@@ -58,12 +62,14 @@ kept_first n k l (w ∷ ws) = go (names_prefix k w) (kept_first (n + 1) k (noted
     go true one none = one
     go false one none = none
 
-pub first_named : (n : ℕ) (k : NetworkPrefix) (ws : List NetworkLine) → option_map (λ found. found.first) (lines_from n k None ws) ≡ first_at n (names_prefix k) ws
+pub first_named : (n : ℕ) (k : NetworkPrefix) (ws : List NetworkLine) →
+    option_map (λ found. found.first) (lines_from n k None ws) ≡ first_at n (names_prefix k) ws
 first_named n k [] = refl
 first_named n k (w ∷ ws) = go (names_prefix k w) (first_named (n + 1) k ws)
   where
     go : (b : Bool) → option_map (λ found. found.first) (lines_from (n + 1) k None ws) ≡ first_at (n + 1) (names_prefix k) ws →
-        option_map (λ found. found.first) (lines_from (n + 1) k (cond b (Some (noted n w None)) None) ws) ≡ cond b (Some (record { place = n; line = w })) (first_at (n + 1) (names_prefix k) ws)
+        option_map (λ found. found.first) (lines_from (n + 1) k (cond b (Some (noted n w None)) None) ws)
+        ≡ cond b (Some (record { place = n; line = w })) (first_at (n + 1) (names_prefix k) ws)
     go true more = kept_first (n + 1) k (noted n w None) ws
     go false more = more
 
@@ -139,7 +145,9 @@ other_named n k area (w ∷ ws) = go (names_prefix k w) (other_named (n + 1) k a
     more : Option Sighted
     more = first_at (n + 1) (elsewhere_of k area) ws
 
-    go : (b : Bool) → other_in area (lines_from (n + 1) k None ws) ≡ more → other_in area (lines_from (n + 1) k (cond b (Some (noted n w None)) None) ws) ≡ cond (b && is_elsewhere area w) (Some here) more
+    go : (b : Bool) → other_in area (lines_from (n + 1) k None ws) ≡ more →
+        other_in area (lines_from (n + 1) k (cond b (Some (noted n w None)) None) ws)
+        ≡ cond (b && is_elsewhere area w) (Some here) more
     go true rest = open_other (n + 1) k area here ws ∙ cond_not (eqb w.area area) more (Some here)
     go false rest = rest
 
@@ -161,7 +169,8 @@ pub first_elsewhere : (k : NetworkPrefix) (area : ℕ) (ws : List NetworkLine) (
 first_elsewhere k area ws l is apart =
     sym (ap (λ b. cond b l.other (Some l.first)) (ne_eqb l.first.line.area area apart)) ∙ ap (other_in area) is ∙ other_named 0 k area ws
 
-pub other_lacks : (k : NetworkPrefix) (area : ℕ) (ws : List NetworkLine) → None ≡ lines_of k ws → None ≡ first_at 0 (λ w. names_prefix k w && is_elsewhere area w) ws
+pub other_lacks : (k : NetworkPrefix) (area : ℕ) (ws : List NetworkLine) → None ≡ lines_of k ws →
+    None ≡ first_at 0 (λ w. names_prefix k w && is_elsewhere area w) ws
 other_lacks k area ws is = ap (other_in area) is ∙ other_named 0 k area ws
 
 -- The first of two.
@@ -228,14 +237,19 @@ covers_more m address w =
     elim (cases_order w.length m) [
       | inl same ↦
           ap (λ b. b && inside) (lt-ltb w.length (m + 1) (omega (arith, same)))
-          ∙ sym (ap (λ b. b || names_prefix (prefix_at address m) w) (ap (λ b. b && inside) (le-ltb w.length m (omega (arith, same)))) ∙ ap (λ b. eqb own (subnet address m) && b) (eq-eqb w.length m same) ∙ and_true (eqb own (subnet address m)) ∙ ap (λ l. eqb own (subnet address l)) (sym same))
+          ∙ sym (ap (λ b. b || names_prefix (prefix_at address m) w)
+          (ap (λ b. b && inside) (le-ltb w.length m (omega (arith, same))))
+          ∙ ap (λ b. eqb own (subnet address m) && b) (eq-eqb w.length m same)
+          ∙ and_true (eqb own (subnet address m)) ∙ ap (λ l. eqb own (subnet address l)) (sym same))
       | inr apart ↦ elim apart [
         | inl before ↦
             ap (λ b. b && inside) (lt-ltb w.length (m + 1) (omega (arith, before)))
-            ∙ sym (ap (λ b. (b && inside) || names_prefix (prefix_at address m) w) (lt-ltb w.length m before) ∙ ap (λ b. inside || b) (other (λ e. omega (arith, e, before))) ∙ or_false inside)
+            ∙ sym (ap (λ b. (b && inside) || names_prefix (prefix_at address m) w) (lt-ltb w.length m before)
+            ∙ ap (λ b. inside || b) (other (λ e. omega (arith, e, before))) ∙ or_false inside)
         | inr after ↦
             ap (λ b. b && inside) (le-ltb w.length (m + 1) (omega (arith, after)))
-            ∙ sym (ap (λ b. (b && inside) || names_prefix (prefix_at address m) w) (le-ltb w.length m (omega (arith, after))) ∙ other (λ e. omega (arith, e, after)))
+            ∙ sym (ap (λ b. (b && inside) || names_prefix (prefix_at address m) w)
+            (le-ltb w.length m (omega (arith, after))) ∙ other (λ e. omega (arith, e, after)))
       ]
     ]
   where
@@ -259,8 +273,10 @@ covers_more m address w =
 pub covers_all : (p : Prefix) (w : NetworkLine) → covers_below (p.length + 1) p.address w ≡ covers p w
 covers_all p w =
     elim (cases_lt p.length w.length) [
-      | inl long ↦ ap (λ b. b && contains w.address w.length p.address) (le-ltb w.length (p.length + 1) (omega (arith, long)) ∙ sym (lt-leb w.length p.length long))
-      | inr short ↦ ap (λ b. b && contains w.address w.length p.address) (lt-ltb w.length (p.length + 1) (omega (arith, short)) ∙ sym (le-leb w.length p.length short))
+      | inl long ↦ ap (λ b. b && contains w.address w.length p.address)
+          (le-ltb w.length (p.length + 1) (omega (arith, long)) ∙ sym (lt-leb w.length p.length long))
+      | inr short ↦ ap (λ b. b && contains w.address w.length p.address)
+          (lt-ltb w.length (p.length + 1) (omega (arith, short)) ∙ sym (le-leb w.length p.length short))
     ]
 
 pub never : (n : ℕ) (test : NetworkLine → Bool) (ws : List NetworkLine) → ((w : NetworkLine) → test w ≡ false) → first_at n test ws ≡ None
@@ -274,15 +290,19 @@ pub next_length : (m address : ℕ) (ws : List NetworkLine) (found other : Optio
 next_length m address ws found other so_far here =
     ap (λ o. lesser o other) so_far ∙ ap (lesser (first_at 0 (covers_below m address) ws)) here
     ∙ sym (first_of_two 0 (covers_below m address) (names_prefix (prefix_at address m)) ws)
-    ∙ first_same 0 (λ w. covers_below m address w || names_prefix (prefix_at address m) w) (covers_below (m + 1) address) ws (λ w. sym (covers_more m address w))
+    ∙ first_same 0 (λ w. covers_below m address w || names_prefix (prefix_at address m) w)
+    (covers_below (m + 1) address) ws (λ w. sym (covers_more m address w))
 
 -- the same among the lines with another area
 pub next_elsewhere : (m address area : ℕ) (ws : List NetworkLine) (found other : Option Sighted) →
-    found ≡ first_at 0 (λ w. covers_below m address w && is_elsewhere area w) ws → other ≡ first_at 0 (λ w. names_prefix (prefix_at address m) w && is_elsewhere area w) ws →
+    found ≡ first_at 0 (λ w. covers_below m address w && is_elsewhere area w) ws →
+    other ≡ first_at 0 (λ w. names_prefix (prefix_at address m) w && is_elsewhere area w) ws →
     lesser found other ≡ first_at 0 (λ w. covers_below (m + 1) address w && is_elsewhere area w) ws
 next_elsewhere m address area ws found other so_far here =
     ap (λ o. lesser o other) so_far ∙ ap (lesser (first_at 0 before ws)) here ∙ sym (first_of_two 0 before now ws)
-    ∙ first_same 0 (λ w. before w || now w) (λ w. covers_below (m + 1) address w && is_elsewhere area w) ws (λ w. spread (covers_below m address w) (names_prefix (prefix_at address m) w) (is_elsewhere area w) ∙ ap (λ b. b && is_elsewhere area w) (sym (covers_more m address w)))
+    ∙ first_same 0 (λ w. before w || now w) (λ w. covers_below (m + 1) address w && is_elsewhere area w) ws
+    (λ w. spread (covers_below m address w) (names_prefix (prefix_at address m) w) (is_elsewhere area w)
+    ∙ ap (λ b. b && is_elsewhere area w) (sym (covers_more m address w)))
   where
     before : NetworkLine → Bool
     before w = covers_below m address w && is_elsewhere area w
@@ -303,7 +323,8 @@ pub any_first : (n : ℕ) (test : NetworkLine → Bool) (ws : List NetworkLine) 
 any_first n test [] = refl
 any_first n test (w ∷ ws) = go (test w) (any_first (n + 1) test ws)
   where
-    go : (b : Bool) → is_some (first_at (n + 1) test ws) ≡ list_any test ws → is_some (cond b (Some (record { place = n; line = w })) (first_at (n + 1) test ws)) ≡ (b || list_any test ws)
+    go : (b : Bool) → is_some (first_at (n + 1) test ws) ≡ list_any test ws →
+        is_some (cond b (Some (record { place = n; line = w })) (first_at (n + 1) test ws)) ≡ (b || list_any test ws)
     go true rest = refl
     go false rest = rest
 
@@ -311,11 +332,15 @@ pub area_first : (n : ℕ) (p : Prefix) (ws : List NetworkLine) → option_map (
 area_first n p [] = refl
 area_first n p (w ∷ ws) = go (covers p w) (area_first (n + 1) p ws)
   where
-    go : (b : Bool) → option_map (λ found. found.line.area) (first_at (n + 1) (covers p) ws) ≡ area_among p ws → option_map (λ found. found.line.area) (cond b (Some (record { place = n; line = w })) (first_at (n + 1) (covers p) ws)) ≡ first_of (map (λ v. v.area) (cond b (w ∷ filter (covers p) ws) (filter (covers p) ws)))
+    go : (b : Bool) → option_map (λ found. found.line.area) (first_at (n + 1) (covers p) ws) ≡ area_among p ws →
+        option_map (λ found. found.line.area)
+        (cond b (Some (record { place = n; line = w })) (first_at (n + 1) (covers p) ws))
+        ≡ first_of (map (λ v. v.area) (cond b (w ∷ filter (covers p) ws) (filter (covers p) ws)))
     go true rest = refl
     go false rest = rest
 
-pub area_found : (p : Prefix) (ws : List NetworkLine) (found : Option Sighted) → found ≡ first_at 0 (covers p) ws → option_map (λ first. first.line.area) found ≡ area_among p ws
+pub area_found : (p : Prefix) (ws : List NetworkLine) (found : Option Sighted) → found ≡ first_at 0 (covers p) ws →
+    option_map (λ first. first.line.area) found ≡ area_among p ws
 area_found p ws found is = ap (option_map (λ first. first.line.area)) is ∙ area_first 0 p ws
 
 -- the number of the first line that matches and has another area
@@ -326,7 +351,9 @@ clash_behind : (n : ℕ) (p : Prefix) (area : ℕ) (ws : List NetworkLine) → c
 clash_behind n p area [] = refl
 clash_behind n p area (w ∷ ws) = go (covers p w && is_elsewhere area w) (clash_behind (n + 1) p area ws)
   where
-    go : (b : Bool) → clash p (Some area) ws ≡ elsewhere_first (n + 1) p ws area → cond b (Some w.line) (clash p (Some area) ws) ≡ option_map (λ found. found.line.line) (cond b (Some (record { place = n; line = w })) (first_at (n + 1) (λ v. covers p v && is_elsewhere area v) ws))
+    go : (b : Bool) → clash p (Some area) ws ≡ elsewhere_first (n + 1) p ws area →
+        cond b (Some w.line) (clash p (Some area) ws) ≡ option_map (λ found. found.line.line)
+        (cond b (Some (record { place = n; line = w })) (first_at (n + 1) (λ v. covers p v && is_elsewhere area v) ws))
     go true rest = refl
     go false rest = rest
 

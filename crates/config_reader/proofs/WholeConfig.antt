@@ -30,7 +30,8 @@ pub record IsRead (file_name bytes : List ℕ) (p : Parts) (nets : List NetworkL
 -- the fault that is found among it
 abbrev pub found_among : Parts → List NetworkLine → Drafts → List ℕ × ℕ → Option Fault
 found_among p nets d name =
-    earliest (earliest (earliest (option_map fault_of p.fault) (first_second d.drafts.items (map said_of p.said.items))) (first_clash nets None d.drafts.items)) (name_fault name)
+    earliest (earliest (earliest (option_map fault_of p.fault) (first_second d.drafts.items (map said_of p.said.items)))
+    (first_clash nets None d.drafts.items)) (name_fault name)
 
 module _ (file_name bytes : List ℕ) (p : Parts) (nets : List NetworkLine) (d : Drafts) (name : List ℕ × ℕ) (read : IsRead file_name bytes p nets d name) where
   nets_is : nets ≡ network_lines (heard (lines bytes)).said
@@ -45,38 +46,82 @@ module _ (file_name bytes : List ℕ) (p : Parts) (nets : List NetworkLine) (d :
   name_is : name ≡ name_from file_name (heard (lines bytes)).hostname
   name_is = read.named ∙ ap (name_from file_name) read.parts.hostname
 
-  found_is : found_among p nets d name ≡ earliest (earliest (earliest (heard (lines bytes)).fault (first_second d.drafts.items (heard (lines bytes)).said)) (first_clash nets None d.drafts.items)) (name_fault (name_from file_name (heard (lines bytes)).hostname))
+  found_is : found_among p nets d name
+      ≡ earliest (earliest (earliest (heard (lines bytes)).fault
+      (first_second d.drafts.items (heard (lines bytes)).said)) (first_clash nets None d.drafts.items))
+      (name_fault (name_from file_name (heard (lines bytes)).hostname))
   found_is =
-      ap (λ (o : Option Fault). earliest (earliest (earliest o (first_second d.drafts.items (map said_of p.said.items))) (first_clash nets None d.drafts.items)) (name_fault name)) read.parts.fault
-      ∙ ap (λ (all : List Said). earliest (earliest (earliest (heard (lines bytes)).fault (first_second d.drafts.items all)) (first_clash nets None d.drafts.items)) (name_fault name)) read.parts.said
-      ∙ ap (λ (n : List ℕ × ℕ). earliest (earliest (earliest (heard (lines bytes)).fault (first_second d.drafts.items (heard (lines bytes)).said)) (first_clash nets None d.drafts.items)) (name_fault n)) name_is
+      ap (λ (o : Option Fault). earliest
+      (earliest (earliest o (first_second d.drafts.items (map said_of p.said.items)))
+      (first_clash nets None d.drafts.items)) (name_fault name)) read.parts.fault
+      ∙ ap (λ (all : List Said). earliest
+      (earliest (earliest (heard (lines bytes)).fault (first_second d.drafts.items all))
+      (first_clash nets None d.drafts.items)) (name_fault name)) read.parts.said
+      ∙ ap (λ (n : List ℕ × ℕ). earliest
+      (earliest (earliest (heard (lines bytes)).fault (first_second d.drafts.items (heard (lines bytes)).said))
+      (first_clash nets None d.drafts.items)) (name_fault n)) name_is
 
   pub fault_is : found_among p nets d name ≡ config_fault file_name bytes
   fault_is = found_is ∙ total_law file_name bytes nets d.drafts.items nets_is drafts_is
 
-  pub config_is : found_among p nets d name ≡ None → IsConfig file_name bytes (record { name = name.0; router_id = id_after None (map said_of p.said.items); interfaces = map (finished nets) d.drafts.items })
+  pub config_is : found_among p nets d name ≡ None →
+      IsConfig file_name bytes (record {
+        name = name.0;
+        router_id = id_after None (map said_of p.said.items);
+        interfaces = map (finished nets) d.drafts.items;
+      })
   config_is none = subst (IsConfig file_name bytes) same (made_law file_name bytes nets d.drafts.items nets_is drafts_is (sym found_is ∙ none))
     where
-      same : ◌≡◌ {A = Router} (record { name = (name_from file_name (heard (lines bytes)).hostname).0; router_id = id_after None (heard (lines bytes)).said; interfaces = map (finished nets) d.drafts.items }) (record { name = name.0; router_id = id_after None (map said_of p.said.items); interfaces = map (finished nets) d.drafts.items })
+      same : ◌≡◌ {A = Router} (record {
+        name = (name_from file_name (heard (lines bytes)).hostname).0;
+        router_id = id_after None (heard (lines bytes)).said;
+        interfaces = map (finished nets) d.drafts.items;
+      })
+          (record {
+            name = name.0;
+            router_id = id_after None (map said_of p.said.items);
+            interfaces = map (finished nets) d.drafts.items;
+          })
       same =
-          ap (λ (n : List ℕ × ℕ). record { name = n.0; router_id = id_after None (heard (lines bytes)).said; interfaces = map (finished nets) d.drafts.items }) (sym name_is)
-          ∙ ap (λ (all : List Said). record { name = name.0; router_id = id_after None all; interfaces = map (finished nets) d.drafts.items }) (sym read.parts.said)
+          ap (λ (n : List ℕ × ℕ). record {
+            name = n.0;
+            router_id = id_after None (heard (lines bytes)).said;
+            interfaces = map (finished nets) d.drafts.items;
+          }) (sym name_is)
+          ∙ ap (λ (all : List Said). record {
+            name = name.0;
+            router_id = id_after None all;
+            interfaces = map (finished nets) d.drafts.items;
+          }) (sym read.parts.said)
 
-pub read_is : (file_name bytes : List ℕ) (p : Parts) (nets : List NetworkLine) (d : Drafts) (name : List ℕ × ℕ) (one two : List SaidLine) (heads : List NamedHead) (f : List ℕ) →
-    IsParts (heard (lines bytes)) p → nets ≡ network_lines (map said_of one) → one ≡ p.said.items → IsGathered nets (map head_of heads) (map said_of two) d → heads ≡ p.heads.items → two ≡ p.said.items →
+pub read_is : (file_name bytes : List ℕ) (p : Parts) (nets : List NetworkLine) (d : Drafts) (name : List ℕ × ℕ)
+    (one two : List SaidLine) (heads : List NamedHead) (f : List ℕ) →
+    IsParts (heard (lines bytes)) p → nets ≡ network_lines (map said_of one) → one ≡ p.said.items →
+    IsGathered nets (map head_of heads) (map said_of two) d → heads ≡ p.heads.items → two ≡ p.said.items →
     name ≡ name_from f (option_map head_of p.hostname) → f ≡ file_name → IsRead file_name bytes p nets d name
 read_is file_name bytes p nets d name one two heads f parts found same_one gathered same_heads same_two named same_name = record {
   parts = parts;
   found = found ∙ ap (λ ls. network_lines (map said_of ls)) same_one;
-  gathered = subst (λ (hs : List NamedHead). IsGathered nets (map head_of hs) (map said_of p.said.items) d) same_heads (subst (λ (ls : List SaidLine). IsGathered nets (map head_of heads) (map said_of ls) d) same_two gathered);
+  gathered = subst (λ (hs : List NamedHead). IsGathered nets (map head_of hs) (map said_of p.said.items) d) same_heads
+      (subst (λ (ls : List SaidLine). IsGathered nets (map head_of heads) (map said_of ls) d) same_two gathered);
   named = named ∙ ap (λ (n : List ℕ). name_from n (option_map head_of p.hostname)) same_name;
 }
 
-pub config_as : (file_name bytes : List ℕ) (p : Parts) (nets : List NetworkLine) (d : Drafts) (name : List ℕ × ℕ) → IsRead file_name bytes p nets d name → (three : List SaidLine) (id : Option ℕ) (is : List Interface) →
-    id ≡ id_after None (map said_of three) → three ≡ p.said.items → is ≡ map (finished nets) d.drafts.items → found_among p nets d name ≡ None → IsConfig file_name bytes (record { name = name.0; router_id = id; interfaces = is })
-config_as file_name bytes p nets d name read three id is id_is same_three is_is none = subst (IsConfig file_name bytes) same (config_is file_name bytes p nets d name read none)
+pub config_as : (file_name bytes : List ℕ) (p : Parts) (nets : List NetworkLine) (d : Drafts) (name : List ℕ × ℕ) →
+    IsRead file_name bytes p nets d name → (three : List SaidLine) (id : Option ℕ) (is : List Interface) →
+    id ≡ id_after None (map said_of three) → three ≡ p.said.items → is ≡ map (finished nets) d.drafts.items →
+    found_among p nets d name ≡ None →
+    IsConfig file_name bytes (record { name = name.0; router_id = id; interfaces = is })
+config_as file_name bytes p nets d name read three id is id_is same_three is_is none =
+    subst (IsConfig file_name bytes) same (config_is file_name bytes p nets d name read none)
   where
-    same : ◌≡◌ {A = Router} (record { name = name.0; router_id = id_after None (map said_of p.said.items); interfaces = map (finished nets) d.drafts.items }) (record { name = name.0; router_id = id; interfaces = is })
+    same : ◌≡◌ {A = Router} (record {
+      name = name.0;
+      router_id = id_after None (map said_of p.said.items);
+      interfaces = map (finished nets) d.drafts.items;
+    })
+        (record { name = name.0; router_id = id; interfaces = is })
     same =
-        ap (λ (o : Option ℕ). record { name = name.0; router_id = o; interfaces = map (finished nets) d.drafts.items }) (sym (id_is ∙ ap (λ (ls : List SaidLine). id_after None (map said_of ls)) same_three))
+        ap (λ (o : Option ℕ). record { name = name.0; router_id = o; interfaces = map (finished nets) d.drafts.items })
+        (sym (id_is ∙ ap (λ (ls : List SaidLine). id_after None (map said_of ls)) same_three))
         ∙ ap (λ (xs : List Interface). record { name = name.0; router_id = id; interfaces = xs }) (sym is_is)

@@ -7,6 +7,8 @@ use Rattle.std.proofs.lemmas.Bool.{false≢true, and_right, ne_eqb, eq-eqb}
 use Rattle.std.proofs.lemmas.List.{length-map}
 use Rattle.std.proofs.lemmas.List.Quantifiers.{position-Some}
 use Rattle.cost_base.specs.Lists.{numbers_from, first_of, same_bytes}
+use Rattle.cost_base.proofs.ListLemmas.{get_or-map-numbers_from, length-map-numbers_from}
+use Rattle.cost_base.proofs.ByteLemmas.{same_bytes-true}
 use Rattle.text_lines.specs.Lines.{kind_of, words, block_at}
 use Rattle.text_lines.specs.Numbers.{Prefix}
 use Rattle.text_lines.specs.declared.LineKind.{LineKind}
@@ -24,13 +26,14 @@ use Rattle.config_reader.specs.Hearing.{Heard, heard, sets, named_by}
 use Rattle.config_reader.specs.Drafting.{network_lines, covers, whole_address, at_place, find_draft, is_second, second_in, second_of, first_second, first_clash, earliest, name_from, name_fault}
 use Rattle.config_reader.proofs.FirstFaults.{firsts_at, bound, merge, agree, never, met_at, earliest_none, past_all, first_flat, first_five, first_front, first_filtered, filter_map-map}
 use Rattle.config_reader.proofs.DraftLaws.{draft_of, plain, plain_by, any_matched}
-use Rattle.config_reader.proofs.Places.{same_bytes-true, any-map, last_passing-lt}
+use Rattle.config_reader.proofs.LongerLists.{any-map, last_passing-lt}
 use Rattle.config_reader.proofs.BlockFacts.{about-unheaded, head_names}
 use Rattle.config_reader.proofs.HeadSteps.{is_headed}
 use Rattle.config_reader.proofs.HeardSteps.{length-read_lines}
-use Rattle.config_reader.proofs.Whole.{net_of, nets_law, Numbered, no_said, areas_rule, clashes_law, no_place, whole_parts}
+use Rattle.config_reader.proofs.WholeConfigs.{net_of, nets_law, Numbered, no_said, areas_rule, clashes_law, no_place, whole_parts}
 
-drafts_names : (nets : List NetworkLine) (all : List Said) (heads : List (List ℕ × ℕ)) → map (λ d. d.interface.name) (map (draft_of nets all) heads) ≡ head_names heads
+drafts_names : (nets : List NetworkLine) (all : List Said) (heads : List (List ℕ × ℕ)) →
+    map (λ d. d.interface.name) (map (draft_of nets all) heads) ≡ head_names heads
 unfolding plain plain_by
 drafts_names nets all [] = refl
 drafts_names nets all (h ∷ hs) = ap (λ ns. h.0 ∷ ns) (drafts_names nets all hs)
@@ -49,32 +52,44 @@ headed_names : (name : List ℕ) (heads : List (List ℕ × ℕ)) → is_headed 
 headed_names name heads = any-map (same_bytes name) (λ (h : List ℕ × ℕ). h.0) heads
 
 -- a draft of an interface takes part exactly where the interface does
-takes_law : (all : List Said) (head : List ℕ × ℕ) (p : Prefix) → is_second p (Some (draft_of (network_lines all) all head)) ≡ (takes_part all head.0 && differs p (address_of all head.0))
+takes_law : (all : List Said) (head : List ℕ × ℕ) (p : Prefix) →
+    is_second p (Some (draft_of (network_lines all) all head))
+    ≡ (takes_part all head.0 && differs p (address_of all head.0))
 unfolding plain plain_by
 takes_law all head p =
-    ap (λ m. (is_some (setting area_said (about all head.0)) || m) && differs p (whole_address (address_part (address_of all head.0)) (length_part (address_of all head.0)))) matched
+    ap (λ m. (is_some (setting area_said (about all head.0)) || m)
+    && differs p (whole_address (address_part (address_of all head.0)) (length_part (address_of all head.0))))
+    matched
     ∙ ap (λ o. takes_part all head.0 && differs p o) (whole_parts (address_of all head.0))
   where
     one : (q : Prefix) → list_any (covers q) (network_lines all) ≡ list_any (matches q) (networks all)
     one q = any-map (matches q) net_of (network_lines all) ∙ ap (list_any (matches q)) (sym (nets_law all))
 
-    matched : any_matched (network_lines all) (about all head.0) ≡ list_any (λ q. list_any (matches q) (networks all)) (filter_map address_said (about all head.0))
+    matched : any_matched (network_lines all) (about all head.0) ≡ list_any (λ q. list_any (matches q) (networks all))
+        (filter_map address_said (about all head.0))
     matched = ap (λ (f : Prefix → Bool). list_any f (filter_map address_said (about all head.0))) (λ i q. one q i)
 
 module _ (all : List Said) (heads : List (List ℕ × ℕ)) (unheaded : (name : List ℕ) → is_headed name heads ≡ false → about all name ≡ []) where
-  second_found : (name : List ℕ) (p : Prefix) → is_second p (find_draft name (map (draft_of (network_lines all) all) heads)) ≡ (takes_part all name && differs p (address_of all name))
+  second_found : (name : List ℕ) (p : Prefix) →
+      is_second p (find_draft name (map (draft_of (network_lines all) all) heads))
+      ≡ (takes_part all name && differs p (address_of all name))
   second_found name p =
-      ap (λ ns. is_second p (at_place (position (same_bytes name) ns) (map (draft_of (network_lines all) all) heads))) (drafts_names (network_lines all) all heads)
+      ap (λ ns. is_second p (at_place (position (same_bytes name) ns) (map (draft_of (network_lines all) all) heads)))
+      (drafts_names (network_lines all) all heads)
       ∙ cases (position (same_bytes name) (head_names heads)) refl
     where
-      cases : (o : Option ℕ) → position (same_bytes name) (head_names heads) ≡ o → is_second p (at_place o (map (draft_of (network_lines all) all) heads)) ≡ (takes_part all name && differs p (address_of all name))
+      cases : (o : Option ℕ) → position (same_bytes name) (head_names heads) ≡ o →
+          is_second p (at_place o (map (draft_of (network_lines all) all) heads))
+          ≡ (takes_part all name && differs p (address_of all name))
       cases None e =
           let none : about all name ≡ [] = unheaded name (headed_names name heads ∙ no_place (same_bytes name) (head_names heads) e) in
           sym (and_right (takes_part all name) (differs p (address_of all name)) (ap (λ own. differs p (first_of (filter_map address_said own))) none))
       cases (Some i) e =
           let found = position-Some (same_bytes name) (head_names heads) i [] e in
           let within : i < length heads = omega (arith, found.0, length-map heads (λ (h : List ℕ × ℕ). h.0)) in
-          let named : name ≡ (get_or heads i ([], 0)).0 = same_bytes-true name (get_or heads i ([], 0)).0 (ap (same_bytes name) (sym (name_at heads i ([], 0))) ∙ found.1) in
+          let named : name ≡ (get_or heads i ([], 0)).0 =
+          same_bytes-true name (get_or heads i ([], 0)).0 (ap (same_bytes name) (sym (name_at heads i ([], 0)))
+          ∙ found.1) in
           ap (is_second p) (slice_get_map (draft_of (network_lines all) all) heads i ([], 0) within)
           ∙ takes_law all (get_or heads i ([], 0)) p
           ∙ ap (λ n. takes_part all n && differs p (address_of all n)) (sym named)
@@ -103,24 +118,17 @@ number_at file i = cases (kind_of (get_or file i []))
     cases Head = refl
     cases Indented = refl
 
-get_numbers : {X : Type 0} (f : ℕ → X) (a n i : ℕ) (d : X) → i < n → get_or (map f (numbers_from a n)) i d ≡ f (a + i)
-get_numbers f a zero i d within = absurd (omega arith)
-get_numbers f a (suc n) zero d within = ap f (omega arith)
-get_numbers f a (suc n) (suc i) d within = get_numbers f (a + 1) n i d (omega arith) ∙ ap f (omega arith)
-
 numbered : (file : List (List ℕ)) (a n : ℕ) → Numbered a (map (said_at file) (numbers_from a n))
 numbered file a zero = tt
 numbered file a (suc n) = (number_at file a, numbered file (a + 1) n)
 
-length_numbers : (a n : ℕ) → length (numbers_from a n) ≡ n
-length_numbers a zero = refl
-length_numbers a (suc n) = ap suc (length_numbers (a + 1) n)
-
-length-said : (file : List (List ℕ)) → length (said file) ≡ length file
-length-said file = length-map (numbers_from 0 (length file)) (said_at file) ∙ length_numbers 0 (length file)
+pub length-said : (file : List (List ℕ)) → length (said file) ≡ length file
+length-said file = length-map-numbers_from (said_at file) 0 (length file)
 
 -- the name's fault, before or among the lines
-name_law : (name : List ℕ × ℕ) (n : ℕ) (o : Option Fault) → name.1 ≤ n → ((x : Fault) → o ≡ Some x → 0 < x.line) → option_or (at_line 0 (bad_name name 0)) (earliest o (firsts_at (λ i. bad_name name (i + 1)) 0 n)) ≡ earliest o (name_fault name)
+name_law : (name : List ℕ × ℕ) (n : ℕ) (o : Option Fault) → name.1 ≤ n → ((x : Fault) → o ≡ Some x → 0 < x.line) →
+    option_or (at_line 0 (bad_name name 0)) (earliest o (firsts_at (λ i. bad_name name (i + 1)) 0 n))
+    ≡ earliest o (name_fault name)
 name_law name n o within past = cases (is_router_name name.0) refl
   where
     good : (l : ℕ) → is_router_name name.0 ≡ true → bad_name name l ≡ None
@@ -132,19 +140,24 @@ name_law name n o within past = cases (is_router_name name.0) refl
     there : (l : ℕ) → ((name.1 ≡ l) → ⊥) → bad_name name l ≡ None
     there l other = ap (λ b. cond (b && not (is_router_name name.0)) (Some BadName) None) (ne_eqb name.1 l other)
 
-    by_line : (l : ℕ) → name.1 ≡ l → is_router_name name.0 ≡ false → option_or (at_line 0 (bad_name name 0)) (earliest o (firsts_at (λ i. bad_name name (i + 1)) 0 n)) ≡ earliest o (Some (record { line = l; fault = BadName }))
+    by_line : (l : ℕ) → name.1 ≡ l → is_router_name name.0 ≡ false →
+        option_or (at_line 0 (bad_name name 0)) (earliest o (firsts_at (λ i. bad_name name (i + 1)) 0 n))
+        ≡ earliest o (Some (record { line = l; fault = BadName }))
     by_line zero same e =
         ap (λ b. option_or (at_line 0 b) (earliest o (firsts_at (λ i. bad_name name (i + 1)) 0 n))) (here 0 e same)
         ∙ sym (past_all o (record { line = 0; fault = BadName }) past)
     by_line (suc l) same e =
         ap (λ b. option_or (at_line 0 b) (earliest o (firsts_at (λ i. bad_name name (i + 1)) 0 n))) (there 0 (λ z. omega (arith, same, z)))
-        ∙ ap (earliest o) (met_at (λ i. bad_name name (i + 1)) 0 n l BadName (here (l + 1) e (omega (arith, same))) (λ i less. there (i + 1) (λ z. omega (arith, same, z, less))) (omega arith) (omega (arith, same, within)))
+        ∙ ap (earliest o) (met_at (λ i. bad_name name (i + 1)) 0 n l BadName (here (l + 1) e (omega (arith, same)))
+        (λ i less. there (i + 1) (λ z. omega (arith, same, z, less))) (omega arith) (omega (arith, same, within)))
         ∙ ap (λ k. earliest o (Some (record { line = k; fault = BadName }))) (next l)
       where
         next : (k : ℕ) → k + 1 ≡ suc k
         next k = omega arith
 
-    cases : (b : Bool) → is_router_name name.0 ≡ b → option_or (at_line 0 (bad_name name 0)) (earliest o (firsts_at (λ i. bad_name name (i + 1)) 0 n)) ≡ earliest o (name_fault name)
+    cases : (b : Bool) → is_router_name name.0 ≡ b →
+        option_or (at_line 0 (bad_name name 0)) (earliest o (firsts_at (λ i. bad_name name (i + 1)) 0 n))
+        ≡ earliest o (name_fault name)
     cases true e =
         ap (λ b. option_or (at_line 0 b) (earliest o (firsts_at (λ i. bad_name name (i + 1)) 0 n))) (good 0 e)
         ∙ ap (earliest o) (never (λ i. bad_name name (i + 1)) 0 n (λ i. good (i + 1) e))
@@ -173,17 +186,32 @@ abbrev pub file_drafts : List (List ℕ) → List Draft
 file_drafts file = map (draft_of (network_lines (said (read_lines file))) (said (read_lines file))) (first_heads (read_lines file))
 
 pub faults_law : (file_name : List ℕ) (file : List (List ℕ)) →
-    earliest (earliest (earliest (heard file).fault (first_second (file_drafts file) (heard file).said)) (first_clash (network_lines (said (read_lines file))) None (file_drafts file))) (name_fault (name_from file_name (heard file).hostname))
+    earliest (earliest (earliest (heard file).fault (first_second (file_drafts file) (heard file).said))
+    (first_clash (network_lines (said (read_lines file))) None (file_drafts file)))
+    (name_fault (name_from file_name (heard file).hostname))
     ≡ first_of (faults file_name file)
 faults_law file_name file =
-    ap (λ s. earliest (earliest (earliest (heard file).fault s) (first_clash (network_lines all) None (file_drafts file))) (name_fault (name_from file_name (heard file).hostname))) seconds
-    ∙ ap (λ t. earliest (earliest (earliest (heard file).fault (firsts_at second 0 (length file))) t) (name_fault (name_from file_name (heard file).hostname))) twices
-    ∙ ap (λ n. earliest (earliest (earliest (heard file).fault (firsts_at second 0 (length file))) (firsts_at twice 0 (length file))) (name_fault n)) (named_law file_name file)
+    ap (λ s. earliest (earliest (earliest (heard file).fault s)
+    (first_clash (network_lines all) None (file_drafts file)))
+    (name_fault (name_from file_name (heard file).hostname))) seconds
+    ∙ ap (λ t. earliest (earliest (earliest (heard file).fault (firsts_at second 0 (length file))) t)
+    (name_fault (name_from file_name (heard file).hostname))) twices
+    ∙ ap (λ n. earliest (earliest (earliest (heard file).fault (firsts_at second 0 (length file)))
+    (firsts_at twice 0 (length file))) (name_fault n)) (named_law file_name file)
     ∙ ap (λ o. earliest (earliest o (firsts_at twice 0 (length file))) (name_fault name)) (sym (merge own second 0 (length file)))
     ∙ ap (λ o. earliest o (name_fault name)) (sym (merge (λ i. option_or (own i) (second i)) twice 0 (length file)))
-    ∙ sym (name_law name (length file) (firsts_at (λ i. option_or (option_or (own i) (second i)) (twice i)) 0 (length file)) (omega (arith, name_within file_name read, length-read_lines file)) (λ x e. bound (λ i. option_or (option_or (own i) (second i)) (twice i)) 0 (length file) x e))
-    ∙ sym (ap (option_or (at_line 0 (bad_name name 0))) (merge (λ i. option_or (option_or (own i) (second i)) (twice i)) (λ i. bad_name name (i + 1)) 0 (length file)))
-    ∙ sym (ap (option_or (at_line 0 (bad_name name 0))) (first_flat (faults_at file_name file) (λ i. option_or (option_or (option_or (own i) (second i)) (twice i)) (bad_name name (i + 1))) 0 (length file) (λ i. first_five (i + 1) (long_line (get_or file i [])) (refused (said_at read i).statement) (second i) (twice i) (bad_name name (i + 1)))))
+    ∙ sym (name_law name (length file)
+    (firsts_at (λ i. option_or (option_or (own i) (second i)) (twice i)) 0 (length file))
+    (omega (arith, name_within file_name read, length-read_lines file))
+    (λ x e. bound (λ i. option_or (option_or (own i) (second i)) (twice i)) 0 (length file) x e))
+    ∙ sym (ap (option_or (at_line 0 (bad_name name 0)))
+    (merge (λ i. option_or (option_or (own i) (second i)) (twice i)) (λ i. bad_name name (i + 1)) 0
+    (length file)))
+    ∙ sym (ap (option_or (at_line 0 (bad_name name 0)))
+    (first_flat (faults_at file_name file)
+    (λ i. option_or (option_or (option_or (own i) (second i)) (twice i)) (bad_name name (i + 1))) 0
+    (length file) (λ i. first_five (i + 1) (long_line (get_or file i [])) (refused (said_at read i).statement)
+    (second i) (twice i) (bad_name name (i + 1)))))
     ∙ sym (first_front (bad_name name 0) (flat_map (faults_at file_name file) (numbers_from 0 (length file))))
   where
     read : List (List ℕ)
@@ -209,7 +237,9 @@ faults_law file_name file =
 
     seconds : first_second (file_drafts file) (heard file).said ≡ firsts_at second 0 (length file)
     seconds =
-        ap first_of (first_filtered (λ (s : Said). sets s.statement) (λ (s : Said). second_of (file_drafts file) s.number s.block s.statement) all (λ s quiet. unset_second (file_drafts file) s.number s.block s.statement quiet))
+        ap first_of (first_filtered (λ (s : Said). sets s.statement)
+        (λ (s : Said). second_of (file_drafts file) s.number s.block s.statement) all
+        (λ s quiet. unset_second (file_drafts file) s.number s.block s.statement quiet))
         ∙ ap first_of (filter_map-map (λ (s : Said). second_of (file_drafts file) s.number s.block s.statement) (said_at read) (numbers_from 0 (length read)))
         ∙ ap (λ (f : ℕ → Option Fault). first_of (filter_map f (numbers_from 0 (length read)))) (λ j i. one i j)
         ∙ ap (firsts_at second 0) (length-read_lines file)
@@ -223,10 +253,12 @@ faults_law file_name file =
     twices =
         clashes_law all None heads (numbered read 0 (length read))
         ∙ ap (firsts_at (areas_rule all heads) 0) (length-said read ∙ length-read_lines file)
-        ∙ agree (areas_rule all heads) twice 0 (length file) (λ i above below. ap (λ (s : Said). area_twice all heads (networks (take i all)) s.block s.statement) (at_number i (omega (arith, below, length-read_lines file))))
+        ∙ agree (areas_rule all heads) twice 0 (length file)
+        (λ i above below. ap (λ (s : Said). area_twice all heads (networks (take i all)) s.block s.statement)
+        (at_number i (omega (arith, below, length-read_lines file))))
       where
         at_number : (i : ℕ) → i < length read → get_or all i no_said ≡ said_at read i
-        at_number i within = get_numbers (said_at read) 0 (length read) i no_said within ∙ ap (said_at read) (from_zero i)
+        at_number i within = get_or-map-numbers_from (said_at read) 0 (length read) i no_said within ∙ ap (said_at read) (from_zero i)
           where
             from_zero : (k : ℕ) → 0 + k ≡ k
             from_zero k = omega arith

@@ -5,7 +5,9 @@ use Rattle.std.specs.List.{filter, filter_map, list_any, list_all, cons_option}
 use Rattle.std.specs.Option.{option_or}
 use Rattle.std.proofs.lemmas.Bool.{false≢true, and_parts}
 use Rattle.std.proofs.lemmas.List.Folds.{list_all-append}
+use Rattle.std.proofs.lemmas.Simd.{map-map}
 use Rattle.cost_base.specs.Lists.{first_of, last_of, same_bytes}
+use Rattle.cost_base.proofs.ListLemmas.{map-agree, option_or-none}
 use Rattle.text_lines.specs.Lines.{lines}
 use Rattle.text_lines.specs.Numbers.{Prefix}
 use Rattle.interface_model.specs.declared.Interface.{Interface}
@@ -27,7 +29,7 @@ use Rattle.config_reader.proofs.BlockFacts.{by_lines}
 use Rattle.config_reader.proofs.HeardSteps.{fault-push}
 use Rattle.config_reader.proofs.SaidSteps.{said_after}
 use Rattle.config_reader.proofs.RouterFacts.{is_short_line, router_kept}
-use Rattle.config_reader.proofs.Whole.{net_of, nets_law, whole_parts}
+use Rattle.config_reader.proofs.WholeConfigs.{net_of, nets_law, whole_parts}
 use Rattle.config_reader.proofs.WholeFaults.{faults_law, named_law, file_drafts}
 
 -- areas by `network` lines
@@ -39,7 +41,9 @@ among_law p ws = ap first_of (go ws)
     go (v ∷ vs) = cases (covers p v) (go vs)
       where
         cases : (b : Bool) → map (λ w. w.area) (filter (covers p) vs) ≡ map (λ n. n.area) (filter (matches p) (map net_of vs)) →
-            map (λ (w : NetworkLine). w.area) (cond b (v ∷ filter (covers p) vs) (filter (covers p) vs)) ≡ map (λ (n : Network). n.area) (cond b (net_of v ∷ filter (matches p) (map net_of vs)) (filter (matches p) (map net_of vs)))
+            map (λ (w : NetworkLine). w.area) (cond b (v ∷ filter (covers p) vs) (filter (covers p) vs))
+            ≡ map (λ (n : Network). n.area)
+            (cond b (net_of v ∷ filter (matches p) (map net_of vs)) (filter (matches p) (map net_of vs)))
         cases true more = ap (λ areas. v.area ∷ areas) more
         cases false more = more
 
@@ -67,7 +71,9 @@ last_cons None xs o = refl
 last_cons (Some x) [] o = refl
 last_cons (Some x) (y ∷ ys) o = last_some y ys o ∙ sym (last_some y ys (Some x))
 
-ids_cons : (n : ℕ) (b : Block) (s : Statement) (all : List Said) → filter_map router_id_said (about_router (record { number = n; block = b; statement = s } ∷ all)) ≡ cons_option (id_in b s) (filter_map router_id_said (about_router all))
+ids_cons : (n : ℕ) (b : Block) (s : Statement) (all : List Said) →
+    filter_map router_id_said (about_router (record { number = n; block = b; statement = s } ∷ all))
+    ≡ cons_option (id_in b s) (filter_map router_id_said (about_router all))
 ids_cons n OfRouter (RouterIdIs id) all = refl
 ids_cons n OfRouter (AddressIs p) all = refl
 ids_cons n OfRouter (AreaIs a) all = refl
@@ -87,21 +93,26 @@ unset_id : (b : Block) (s : Statement) → sets s ≡ false → id_in b s ≡ No
 unset_id OfRouter (RouterIdIs id) quiet = absurd (false≢true (sym quiet))
 unset_id _ _ quiet = refl
 
-ids_along : (all : List Said) (o : Option ℕ) → id_after o (filter (λ s. sets s.statement) all) ≡ option_or (last_of (filter_map router_id_said (about_router all))) o
+ids_along : (all : List Said) (o : Option ℕ) →
+    id_after o (filter (λ s. sets s.statement) all)
+    ≡ option_or (last_of (filter_map router_id_said (about_router all))) o
 ids_along [] o = refl
-ids_along (s ∷ all) o = cases (sets s.statement) refl (λ p. ids_along all p) ∙ sym (last_cons (id_in s.block s.statement) (filter_map router_id_said (about_router all)) o) ∙ ap (λ xs. option_or (last_of xs) o) (sym (ids_cons s.number s.block s.statement all))
+ids_along (s ∷ all) o = cases (sets s.statement) refl (λ p. ids_along all p)
+    ∙ sym (last_cons (id_in s.block s.statement) (filter_map router_id_said (about_router all)) o)
+    ∙ ap (λ xs. option_or (last_of xs) o) (sym (ids_cons s.number s.block s.statement all))
   where
-    cases : (b : Bool) → sets s.statement ≡ b → ((p : Option ℕ) → id_after p (filter (λ t. sets t.statement) all) ≡ option_or (last_of (filter_map router_id_said (about_router all))) p) →
-        id_after o (cond b (s ∷ filter (λ t. sets t.statement) all) (filter (λ t. sets t.statement) all)) ≡ option_or (last_of (filter_map router_id_said (about_router all))) (option_or (id_in s.block s.statement) o)
+    cases : (b : Bool) → sets s.statement ≡ b →
+        ((p : Option ℕ) → id_after p (filter (λ t. sets t.statement) all)
+        ≡ option_or (last_of (filter_map router_id_said (about_router all))) p) →
+        id_after o (cond b (s ∷ filter (λ t. sets t.statement) all) (filter (λ t. sets t.statement) all))
+        ≡ option_or (last_of (filter_map router_id_said (about_router all)))
+        (option_or (id_in s.block s.statement) o)
     cases true e more = more (option_or (id_in s.block s.statement) o)
-    cases false e more = more o ∙ ap (λ c. option_or (last_of (filter_map router_id_said (about_router all))) (option_or c o)) (sym (unset_id s.block s.statement e))
-
-or_none_option : (o : Option ℕ) → option_or o None ≡ o
-or_none_option None = refl
-or_none_option (Some x) = refl
+    cases false e more = more o ∙ ap (λ c. option_or (last_of (filter_map router_id_said (about_router all)))
+        (option_or c o)) (sym (unset_id s.block s.statement e))
 
 ids_law : (all : List Said) → id_after None (filter (λ s. sets s.statement) all) ≡ setting router_id_said (about_router all)
-ids_law all = ids_along all None ∙ or_none_option (setting router_id_said (about_router all))
+ids_law all = ids_along all None ∙ option_or-none (setting router_id_said (about_router all))
 
 -- no fault of its own on any line: no line is too long
 either_none : (o p : Option Fault) → option_or o p ≡ None → (o ≡ None) × (p ≡ None)
@@ -120,17 +131,26 @@ earliest_parts (Some x) (Some y) e = absurd (cases (nat_lt y.line x.line) e)
 all_short : (file : List (List ℕ)) → (heard file).fault ≡ None → list_all is_short_line file ≡ true
 all_short = by_lines (λ file. (heard file).fault ≡ None → list_all is_short_line file ≡ true) (λ e. refl) step
   where
-    step : (file : List (List ℕ)) (line : List ℕ) → ((heard file).fault ≡ None → list_all is_short_line file ≡ true) → (heard (file ++ line ∷ [])).fault ≡ None → list_all is_short_line (file ++ line ∷ []) ≡ true
+    step : (file : List (List ℕ)) (line : List ℕ) → ((heard file).fault ≡ None → list_all is_short_line file ≡ true) →
+        (heard (file ++ line ∷ [])).fault ≡ None → list_all is_short_line (file ++ line ∷ []) ≡ true
     step file line before none =
-        list_all-append is_short_line file (line ∷ []) ∙ both (before parts.0) (short (refused (said_after (read_lines file) (read_line line)).statement) (is_short line) refl parts.1)
+        list_all-append is_short_line file (line ∷ [])
+        ∙ both (before parts.0) (short (refused (said_after (read_lines file) (read_line line)).statement)
+        (is_short line) refl parts.1)
       where
-        parts : ((heard file).fault ≡ None) × (at_line (length file + 1) (option_or (long_line line) (refused (said_after (read_lines file) (read_line line)).statement)) ≡ None)
-        parts = either_none (heard file).fault (at_line (length file + 1) (option_or (long_line line) (refused (said_after (read_lines file) (read_line line)).statement))) (sym (fault-push file line) ∙ none)
+        parts : ((heard file).fault ≡ None)
+            × (at_line (length file + 1)
+            (option_or (long_line line) (refused (said_after (read_lines file) (read_line line)).statement)) ≡ None)
+        parts = either_none (heard file).fault
+            (at_line (length file + 1)
+            (option_or (long_line line) (refused (said_after (read_lines file) (read_line line)).statement)))
+            (sym (fault-push file line) ∙ none)
 
         both : list_all is_short_line file ≡ true → is_short line ≡ true → (list_all is_short_line file && (is_short_line line && true)) ≡ true
         both a b = rw (a, b)
 
-        short : (o : Option ConfigFault) (b : Bool) → is_short line ≡ b → at_line (length file + 1) (option_or (cond b None (Some LongLine)) o) ≡ None → is_short line ≡ true
+        short : (o : Option ConfigFault) (b : Bool) → is_short line ≡ b →
+            at_line (length file + 1) (option_or (cond b None (Some LongLine)) o) ≡ None → is_short line ≡ true
         short o true e h = e
         short o false e h = let g : Some (record { line = length file + 1; fault = LongLine }) ≡ None = h in absurd (cc)
 
@@ -143,7 +163,9 @@ read_same (line ∷ file) short =
 named_good : (name : List ℕ × ℕ) → name_fault name ≡ None → is_router_name name.0 ≡ true
 named_good name none = cases (is_router_name name.0) refl none
   where
-    cases : (b : Bool) → is_router_name name.0 ≡ b → ◌≡◌ {A = Option Fault} (cond b None (Some (record { line = name.1; fault = BadName }))) None → is_router_name name.0 ≡ true
+    cases : (b : Bool) → is_router_name name.0 ≡ b →
+        ◌≡◌ {A = Option Fault} (cond b None (Some (record { line = name.1; fault = BadName }))) None →
+        is_router_name name.0 ≡ true
     cases true e h = e
     cases false e h = absurd (cc)
 
@@ -160,32 +182,40 @@ unset_net n OfRouter (NetworkIs w) quiet = absurd (false≢true (sym quiet))
 unset_net n _ _ quiet = refl
 
 pub nets_same : (all : List Said) → network_lines (filter (λ s. sets s.statement) all) ≡ network_lines all
-nets_same all = first_filtered (λ (s : Said). sets s.statement) (λ (s : Said). network_line s.number s.block s.statement) all (λ s quiet. unset_net s.number s.block s.statement quiet)
-
-map_agree : {X Y : Type 0} (f g : X → Y) (xs : List X) → ((x : X) → f x ≡ g x) → map f xs ≡ map g xs
-map_agree f g [] same = refl
-map_agree f g (x ∷ xs) same = cc (same x, map_agree f g xs same)
-
-map_map : {X Y Z : Type 0} (f : Y → Z) (g : X → Y) (xs : List X) → map f (map g xs) ≡ map (λ x. f (g x)) xs
-map_map f g [] = refl
-map_map f g (x ∷ xs) = ap (λ ys. f (g x) ∷ ys) (map_map f g xs)
+nets_same all = first_filtered (λ (s : Said). sets s.statement)
+    (λ (s : Said). network_line s.number s.block s.statement) all
+    (λ s quiet. unset_net s.number s.block s.statement quiet)
 
 -- the drafts that are gathered are those of the file
-pub drafts_same : (file : List (List ℕ)) (nets : List NetworkLine) (drafts : List Draft) → nets ≡ network_lines (heard file).said → drafts ≡ map (λ head. draft_after nets (heard file).said (new_draft head)) (firsts [] (heard file).heads) → (nets ≡ network_lines (said (read_lines file))) × (drafts ≡ file_drafts file)
+pub drafts_same : (file : List (List ℕ)) (nets : List NetworkLine) (drafts : List Draft) →
+    nets ≡ network_lines (heard file).said →
+    drafts ≡ map (λ head. draft_after nets (heard file).said (new_draft head)) (firsts [] (heard file).heads) →
+    (nets ≡ network_lines (said (read_lines file))) × (drafts ≡ file_drafts file)
 drafts_same file nets drafts found made =
     let whole : nets ≡ network_lines (said (read_lines file)) = found ∙ nets_same (said (read_lines file)) in (
       whole,
       made ∙ ap (λ ns. map (λ head. draft_after ns (heard file).said (new_draft head)) (first_heads (read_lines file))) whole
-          ∙ map_agree (λ head. draft_after (network_lines (said (read_lines file))) (heard file).said (new_draft head)) (draft_of (network_lines (said (read_lines file))) (said (read_lines file))) (first_heads (read_lines file)) (λ head. drafted (network_lines (said (read_lines file))) (said (read_lines file)) head),
+          ∙ map-agree (λ head. draft_after (network_lines (said (read_lines file))) (heard file).said (new_draft head))
+          (draft_of (network_lines (said (read_lines file))) (said (read_lines file)))
+          (first_heads (read_lines file))
+          (λ head. drafted (network_lines (said (read_lines file))) (said (read_lines file)) head),
     )
 
 -- the fault that the code finds
-pub total_law : (file_name bytes : List ℕ) (nets : List NetworkLine) (drafts : List Draft) → nets ≡ network_lines (heard (lines bytes)).said → drafts ≡ map (λ head. draft_after nets (heard (lines bytes)).said (new_draft head)) (firsts [] (heard (lines bytes)).heads) →
-    earliest (earliest (earliest (heard (lines bytes)).fault (first_second drafts (heard (lines bytes)).said)) (first_clash nets None drafts)) (name_fault (name_from file_name (heard (lines bytes)).hostname)) ≡ config_fault file_name bytes
+pub total_law : (file_name bytes : List ℕ) (nets : List NetworkLine) (drafts : List Draft) →
+    nets ≡ network_lines (heard (lines bytes)).said →
+    drafts ≡ map (λ head. draft_after nets (heard (lines bytes)).said (new_draft head))
+    (firsts [] (heard (lines bytes)).heads) →
+    earliest (earliest (earliest (heard (lines bytes)).fault (first_second drafts (heard (lines bytes)).said))
+    (first_clash nets None drafts)) (name_fault (name_from file_name (heard (lines bytes)).hostname))
+    ≡ config_fault file_name bytes
 total_law file_name bytes nets drafts found made =
     let same = drafts_same (lines bytes) nets drafts found made in
-    ap (λ ns. earliest (earliest (earliest (heard (lines bytes)).fault (first_second drafts (heard (lines bytes)).said)) (first_clash ns None drafts)) (name_fault (name_from file_name (heard (lines bytes)).hostname))) same.0
-    ∙ ap (λ ds. earliest (earliest (earliest (heard (lines bytes)).fault (first_second ds (heard (lines bytes)).said)) (first_clash (network_lines (said (read_lines (lines bytes)))) None ds)) (name_fault (name_from file_name (heard (lines bytes)).hostname))) same.1
+    ap (λ ns. earliest (earliest (earliest (heard (lines bytes)).fault (first_second drafts (heard (lines bytes)).said))
+    (first_clash ns None drafts)) (name_fault (name_from file_name (heard (lines bytes)).hostname))) same.0
+    ∙ ap (λ ds. earliest (earliest (earliest (heard (lines bytes)).fault (first_second ds (heard (lines bytes)).said))
+    (first_clash (network_lines (said (read_lines (lines bytes)))) None ds))
+    (name_fault (name_from file_name (heard (lines bytes)).hostname))) same.1
     ∙ faults_law file_name (lines bytes)
 
 pub record IsConfig (file_name bytes : List ℕ) (r : Router) : Type 0 where
@@ -193,16 +223,27 @@ pub record IsConfig (file_name bytes : List ℕ) (r : Router) : Type 0 where
   pub kept : IsRouter r
 
 -- the records that the code makes, where there is no fault
-pub made_law : (file_name bytes : List ℕ) (nets : List NetworkLine) (drafts : List Draft) → nets ≡ network_lines (heard (lines bytes)).said → drafts ≡ map (λ head. draft_after nets (heard (lines bytes)).said (new_draft head)) (firsts [] (heard (lines bytes)).heads) →
-    earliest (earliest (earliest (heard (lines bytes)).fault (first_second drafts (heard (lines bytes)).said)) (first_clash nets None drafts)) (name_fault (name_from file_name (heard (lines bytes)).hostname)) ≡ None →
-    IsConfig file_name bytes (record { name = (name_from file_name (heard (lines bytes)).hostname).0; router_id = id_after None (heard (lines bytes)).said; interfaces = map (finished nets) drafts })
-made_law file_name bytes nets drafts found made none = record { same = made_same; kept = subst IsRouter (sym made_same) (router_kept file_name bytes short named) }
+pub made_law : (file_name bytes : List ℕ) (nets : List NetworkLine) (drafts : List Draft) →
+    nets ≡ network_lines (heard (lines bytes)).said →
+    drafts ≡ map (λ head. draft_after nets (heard (lines bytes)).said (new_draft head))
+    (firsts [] (heard (lines bytes)).heads) →
+    earliest (earliest (earliest (heard (lines bytes)).fault (first_second drafts (heard (lines bytes)).said))
+    (first_clash nets None drafts)) (name_fault (name_from file_name (heard (lines bytes)).hostname)) ≡ None →
+    IsConfig file_name bytes (record {
+      name = (name_from file_name (heard (lines bytes)).hostname).0;
+      router_id = id_after None (heard (lines bytes)).said;
+      interfaces = map (finished nets) drafts;
+    })
+made_law file_name bytes nets drafts found made none =
+    record { same = made_same; kept = subst IsRouter (sym made_same) (router_kept file_name bytes short named) }
   where
     file : List (List ℕ)
     file = lines bytes
 
-    outer : (earliest (earliest (heard file).fault (first_second drafts (heard file).said)) (first_clash nets None drafts) ≡ None) × (name_fault (name_from file_name (heard file).hostname) ≡ None)
-    outer = earliest_parts (earliest (earliest (heard file).fault (first_second drafts (heard file).said)) (first_clash nets None drafts)) (name_fault (name_from file_name (heard file).hostname)) none
+    outer : (earliest (earliest (heard file).fault (first_second drafts (heard file).said))
+        (first_clash nets None drafts) ≡ None) × (name_fault (name_from file_name (heard file).hostname) ≡ None)
+    outer = earliest_parts (earliest (earliest (heard file).fault (first_second drafts (heard file).said))
+        (first_clash nets None drafts)) (name_fault (name_from file_name (heard file).hostname)) none
 
     inner : (earliest (heard file).fault (first_second drafts (heard file).said) ≡ None) × (first_clash nets None drafts ≡ None)
     inner = earliest_parts (earliest (heard file).fault (first_second drafts (heard file).said)) (first_clash nets None drafts) outer.0
@@ -214,7 +255,9 @@ made_law file_name bytes nets drafts found made none = record { same = made_same
     whole = read_same file short
 
     named : is_router_name (router_name file_name file).0 ≡ true
-    named = ap (λ (ls : List (List ℕ)). is_router_name (router_name file_name ls).0) (sym whole) ∙ ap (λ (n : List ℕ × ℕ). is_router_name n.0) (sym (named_law file_name file)) ∙ named_good (name_from file_name (heard file).hostname) outer.1
+    named = ap (λ (ls : List (List ℕ)). is_router_name (router_name file_name ls).0) (sym whole)
+        ∙ ap (λ (n : List ℕ × ℕ). is_router_name n.0) (sym (named_law file_name file))
+        ∙ named_good (name_from file_name (heard file).hostname) outer.1
 
     same : (nets ≡ network_lines (said (read_lines file))) × (drafts ≡ file_drafts file)
     same = drafts_same file nets drafts found made
@@ -223,12 +266,34 @@ made_law file_name bytes nets drafts found made none = record { same = made_same
     interfaces =
         ap (λ ns. map (finished ns) drafts) same.0
         ∙ ap (map (finished (network_lines (said (read_lines file))))) same.1
-        ∙ map_map (finished (network_lines (said (read_lines file)))) (draft_of (network_lines (said (read_lines file))) (said (read_lines file))) (first_heads (read_lines file))
-        ∙ map_agree (λ head. finished (network_lines (said (read_lines file))) (draft_of (network_lines (said (read_lines file))) (said (read_lines file)) head)) (λ head. interface_of (said (read_lines file)) head.0 head.1) (first_heads (read_lines file)) (λ head. finish_law (said (read_lines file)) head)
+        ∙ map-map (finished (network_lines (said (read_lines file))))
+        (draft_of (network_lines (said (read_lines file))) (said (read_lines file))) (first_heads (read_lines file))
+        ∙ map-agree (λ head. finished (network_lines (said (read_lines file)))
+        (draft_of (network_lines (said (read_lines file))) (said (read_lines file)) head))
+        (λ head. interface_of (said (read_lines file)) head.0 head.1) (first_heads (read_lines file))
+        (λ head. finish_law (said (read_lines file)) head)
 
-    made_same : (record { name = (name_from file_name (heard file).hostname).0; router_id = id_after None (heard file).said; interfaces = map (finished nets) drafts }) ≡ config_of file_name bytes
+    made_same : (record {
+      name = (name_from file_name (heard file).hostname).0;
+      router_id = id_after None (heard file).said;
+      interfaces = map (finished nets) drafts;
+    })
+        ≡ config_of file_name bytes
     made_same =
-        ap (λ (n : List ℕ × ℕ). record { name = n.0; router_id = id_after None (heard file).said; interfaces = map (finished nets) drafts }) (named_law file_name file)
-        ∙ ap (λ (o : Option ℕ). record { name = (router_name file_name (read_lines file)).0; router_id = o; interfaces = map (finished nets) drafts }) (ids_law (said (read_lines file)))
-        ∙ ap (λ (is : List Interface). record { name = (router_name file_name (read_lines file)).0; router_id = setting router_id_said (about_router (said (read_lines file))); interfaces = is }) interfaces
+        ap (λ (n : List ℕ × ℕ). record {
+          name = n.0;
+          router_id = id_after None (heard file).said;
+          interfaces = map (finished nets) drafts;
+        }) (named_law file_name file)
+        ∙ ap (λ (o : Option ℕ). record {
+          name = (router_name file_name (read_lines file)).0;
+          router_id = o;
+          interfaces = map (finished nets) drafts;
+        }) (ids_law (said (read_lines file)))
+        ∙ ap (λ (is : List Interface). record {
+          name = (router_name file_name (read_lines file)).0;
+          router_id = setting router_id_said (about_router (said (read_lines file)));
+          interfaces =
+              is;
+        }) interfaces
         ∙ ap (records_of file_name) whole

@@ -1,4 +1,4 @@
--- What the code gathers of each interface and of the `network` lines.
+-- What the code gathers of each interface and of the `network` lines. No public clause cites it.
 use Rattle.std.specs.Prelude.{ℕ, List, [], ◌∷◌, ◌&&◌, ◌||◌, ◌==◌, not, nat_le, nat_lt, if◌then◌else◌, Bool, true, false, Option, Some, None, map, filter, is_some, slice_get, position}
 use Rattle.std.specs.List.{filter_map, list_any}
 use Rattle.std.specs.Option.{option_or}

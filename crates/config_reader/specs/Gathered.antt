@@ -1,4 +1,4 @@
--- What the code's drafts are, for heads and lines.
+-- What the code's drafts are, for heads and lines. No public clause cites it.
 use Rattle.std.specs.Prelude.{◌≡◌, ℕ, List, [], ◌∷◌, map, false}
 use Rattle.std.specs.List.{list_any}
 use Rattle.cost_base.specs.Lists.{same_bytes}

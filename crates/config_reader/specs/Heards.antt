@@ -1,4 +1,4 @@
--- What the code's reader keeps.
+-- What the code's reader keeps. No public clause cites it.
 use Rattle.std.specs.Prelude.{ℕ, List}
 use Rattle.config_reader.specs.declared.reader.SaidLine.{SaidLine}
 use Rattle.config_reader.specs.declared.reader.NamedHead.{NamedHead}

@@ -1,4 +1,4 @@
--- What the code hands on of a configuration.
+-- What the code hands on of a configuration. No public clause cites it.
 use Rattle.std.specs.Prelude.{◌≡◌, map}
 use Rattle.std.specs.Option.{option_map}
 use Rattle.config_reader.specs.declared.reader.Parts.{Parts}

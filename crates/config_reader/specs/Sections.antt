@@ -1,33 +1,28 @@
 -- A configuration with a printed section after it.
-use Rattle.std.specs.Prelude.{◌≡◌, ℕ, ◌≤◌, List, [], ◌∷◌, ◌++◌, ◌==◌, if◌then◌else◌, All, Contains, Option, Some, None, codes, map}
-use Rattle.std.specs.List.{concat, join_with_byte}
+use Rattle.std.specs.Prelude.{◌≡◌, ℕ, ◌≤◌, List, [], ◌∷◌, ◌++◌, if◌then◌else◌, All, Contains, Option, Some, None, codes, map}
+use Rattle.std.specs.List.{join_with_byte}
 use Rattle.cost_base.specs.Decimal.{decimal}
 use Rattle.cost_base.specs.Lists.{same_bytes}
 use Rattle.cost_base.specs.Words.{IsOneWord}
-use Rattle.text_lines.specs.Lines.{lines}
+use Rattle.text_lines.specs.Lines.{lines, with_ends, ended}
 use Rattle.interface_model.specs.declared.Interface.{Interface}
 use Rattle.interface_model.specs.Records.{Router}
 use Rattle.config_reader.specs.Configs.{first_heads, config_of}
 use Rattle.config_reader.specs.FaultList.{config_fault}
 
--- the bytes, and an LF where the last line lacks one
-abbrev pub ended : List ℕ → List ℕ
-ended [] = []
-ended (c ∷ []) = if c == 10 then c ∷ [] else c ∷ 10 ∷ []
-ended (c ∷ d ∷ cs) = c ∷ ended (d ∷ cs)
+-- `interface NAME`
+abbrev pub name_line : List ℕ → List ℕ
+name_line name = join_with_byte 32 (codes "interface" ∷ name ∷ [])
 
--- each line with its LF
-abbrev pub with_ends : List (List ℕ) → List ℕ
-with_ends lines = concat (map (λ line. line ++ 10 ∷ []) lines)
+-- ` ip ospf cost N`
+abbrev pub cost_line : ℕ → List ℕ
+cost_line n = join_with_byte 32 (codes " ip" ∷ codes "ospf" ∷ codes "cost" ∷ decimal n ∷ [])
 
 -- for each name and cost three lines: `interface NAME`, ` ip ospf cost N` and `exit`
 abbrev pub section_lines : List (List ℕ × ℕ) → List (List ℕ)
 section_lines [] = []
 section_lines (cost ∷ costs) =
-    join_with_byte 32 (codes "interface" ∷ cost.0 ∷ [])
-    ∷ join_with_byte 32 (codes " ip" ∷ codes "ospf" ∷ codes "cost" ∷ decimal cost.1 ∷ [])
-    ∷ codes "exit"
-    ∷ section_lines costs
+    name_line cost.0 ∷ cost_line cost.1 ∷ codes "exit" ∷ section_lines costs
 
 -- the last cost that is given to a name, or the one of before
 abbrev pub cost_after : List (List ℕ × ℕ) → List ℕ → Option ℕ → Option ℕ

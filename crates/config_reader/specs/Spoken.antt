@@ -1,4 +1,4 @@
--- What the code's statements, blocks and lines mean.
+-- What the code's statements, blocks and lines mean. No public clause cites it.
 use Rattle.text_lines.specs.Numbers.{Prefix}
 use Rattle.config_reader.specs.declared.statements.AddressPrefix.{AddressPrefix}
 use Rattle.config_reader.specs.declared.statements.Statement.{Statement as Spoken}

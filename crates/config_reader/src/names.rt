@@ -33,6 +33,10 @@ impl<'a> Names<'a> {
     }
 
     /// Adds a name, unless it is there; tells whether it is new. The names stay as they were where there is no memory.
+    ///
+    /// # Errors
+    ///
+    /// `OutOfMemory`.
     pub fn add(&mut self, name: &'a [u8]) -> Result<bool, OutOfMemory>
         ensures new { IfOk result (λ new. new ≡ not (list_any (same_bytes name.now) self.old)) }
         ensures kept { OnErr result (self.new ≡ self.old) }

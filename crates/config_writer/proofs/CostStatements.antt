@@ -1,22 +1,19 @@
 -- What `ip ospf cost` lines say, and no other lines do.
-use Rattle.std.proofs.Common.{◌≡◌, ℕ, List, [], ◌∷◌, length, Bool, cond, true, false, ◌&&◌, eqb, refl, sym, ap, ◌∙◌, arith, Option, Some, None, ◌≤◌}
+use Rattle.std.proofs.Common.{◌≡◌, ℕ, List, [], ◌∷◌, length, Bool, cond, true, false, ◌&&◌, eqb, refl, sym, ap, ◌∙◌, arith, Option, Some, None}
 use Rattle.std.specs.Prelude.{codes, nat_le}
-use Rattle.std.proofs.lemmas.Bool.{and_parts, ne_eqb}
-use Rattle.cost_base.specs.Decimal.{decimal}
+use Rattle.std.proofs.lemmas.Bool.{and_parts}
 use Rattle.cost_base.specs.Lists.{same_bytes}
-use Rattle.text_lines.specs.Lines.{words}
+use Rattle.cost_base.proofs.ByteLemmas.{same_bytes-true}
 use Rattle.text_lines.specs.Numbers.{number, prefix, area, Prefix}
 use Rattle.interface_model.specs.declared.Kind.TheVariants.{PointToPoint, Broadcast}
 use Rattle.config_reader.specs.declared.stop.ConfigFault.TheVariants.{BadNumber, Unsupported}
 use Rattle.config_reader.specs.Statements.{Statement, CostIs, KindIs, PassiveIs, Refused, Unread, begin_with, word_at, ip_ospf, no, alone, address_statement, area_statement, cost_statement, priority_statement, switch_statement, is_unsupported, interface_statement}
 use Rattle.config_reader.specs.Settings.{cost_said}
 use Rattle.config_reader.specs.FaultList.{refused}
-use Rattle.config_reader.proofs.Places.{same_bytes-true}
-use Rattle.config_reader.proofs.PrintedLines.{words-word, decimal-word, number-decimal}
-use Rattle.config_writer.specs.Rewriting.{cost_line}
 
 -- words that begin with `ip ospf cost`
-begins_cost : (ws : List (List ℕ)) → begin_with (ip_ospf (codes "cost")) ws ≡ true → (more : List (List ℕ)) × (ws ≡ codes "ip" ∷ codes "ospf" ∷ codes "cost" ∷ more)
+begins_cost : (ws : List (List ℕ)) → begin_with (ip_ospf (codes "cost")) ws ≡ true →
+    (more : List (List ℕ)) × (ws ≡ codes "ip" ∷ codes "ospf" ∷ codes "cost" ∷ more)
 begins_cost [] begins = absurd (cc)
 begins_cost (a ∷ []) begins = let parts = and_parts (same_bytes (codes "ip") a) false begins in absurd (cc)
 begins_cost (a ∷ b ∷ []) begins =
@@ -38,18 +35,24 @@ cost_given : (last : Bool) (o : Option ℕ) → refused (cost_statement last o) 
 cost_given last None fine = absurd (cc)
 cost_given last (Some n) fine = cases (eqb n 0) last fine
   where
-    cases : (z l : Bool) → refused (cond z (Refused BadNumber) (alone l (CostIs n))) ≡ None → (m : ℕ) × (cond z (Refused BadNumber) (alone l (CostIs n)) ≡ CostIs m)
+    cases : (z l : Bool) → refused (cond z (Refused BadNumber) (alone l (CostIs n))) ≡ None →
+        (m : ℕ) × (cond z (Refused BadNumber) (alone l (CostIs n)) ≡ CostIs m)
     cases true l fine = absurd (cc)
     cases false true fine = (n, refl)
     cases false false fine = absurd (cc)
 
 -- an `ip ospf cost` line that isn't refused sets a cost
-pub sets_cost : (ws : List (List ℕ)) → begin_with (ip_ospf (codes "cost")) ws ≡ true → refused (interface_statement ws) ≡ None → (n : ℕ) × (interface_statement ws ≡ CostIs n)
+pub sets_cost : (ws : List (List ℕ)) → begin_with (ip_ospf (codes "cost")) ws ≡ true →
+    refused (interface_statement ws) ≡ None → (n : ℕ) × (interface_statement ws ≡ CostIs n)
 sets_cost ws begins fine =
     let found = begins_cost ws begins in
-    let says : interface_statement ws ≡ cost_statement (nat_le (length (codes "ip" ∷ codes "ospf" ∷ codes "cost" ∷ found.0)) 4) (number (word_at (codes "ip" ∷ codes "ospf" ∷ codes "cost" ∷ found.0) 3) 65535) = ap interface_statement found.1 in
+    let says : interface_statement ws
+    ≡ cost_statement (nat_le (length (codes "ip" ∷ codes "ospf" ∷ codes "cost" ∷ found.0)) 4)
+    (number (word_at (codes "ip" ∷ codes "ospf" ∷ codes "cost" ∷ found.0) 3) 65535) =
+    ap interface_statement found.1 in
     let given =
-    cost_given (nat_le (length (codes "ip" ∷ codes "ospf" ∷ codes "cost" ∷ found.0)) 4) (number (word_at (codes "ip" ∷ codes "ospf" ∷ codes "cost" ∷ found.0) 3) 65535)
+    cost_given (nat_le (length (codes "ip" ∷ codes "ospf" ∷ codes "cost" ∷ found.0)) 4)
+    (number (word_at (codes "ip" ∷ codes "ospf" ∷ codes "cost" ∷ found.0) 3) 65535)
     (ap refused (sym says) ∙ fine) in
     (given.0, says ∙ given.1)
 
@@ -89,29 +92,24 @@ no_switch ws =
 pub sets_none : (ws : List (List ℕ)) → begin_with (ip_ospf (codes "cost")) ws ≡ false → cost_said (interface_statement ws) ≡ None
 sets_none ws other =
     neither (begin_with (codes "ip" ∷ codes "address" ∷ []) ws) _ _
-    (neither (same_bytes (word_at ws 3) (codes "peer")) (Refused Unsupported) (address_statement (prefix (word_at ws 2))) refl (no_address (prefix (word_at ws 2))))
+    (neither (same_bytes (word_at ws 3) (codes "peer")) (Refused Unsupported)
+    (address_statement (prefix (word_at ws 2))) refl (no_address (prefix (word_at ws 2))))
     (neither (begin_with (ip_ospf (codes "area")) ws) _ _ (no_area (nat_le (length ws) 4) (area (word_at ws 3)))
     (ap (λ b. cost_said (cond b (cost_statement (nat_le (length ws) 4) (number (word_at ws 3) 65535)) (behind ws))) other
     ∙ neither (begin_with (ip_ospf (codes "network")) ws) _ _ (no_kind ws)
     (neither (begin_with (ip_ospf (codes "priority")) ws) _ _ (no_priority (nat_le (length ws) 4) (number (word_at ws 3) 255)) (no_switch ws))))
   where
     kind_of_words : List (List ℕ) → Statement
-    kind_of_words vs = cond (same_bytes (word_at vs 3) (codes "point-to-point")) (KindIs PointToPoint) (cond (same_bytes (word_at vs 3) (codes "broadcast")) (KindIs Broadcast) (Refused Unsupported))
+    kind_of_words vs = cond (same_bytes (word_at vs 3) (codes "point-to-point")) (KindIs PointToPoint)
+        (cond (same_bytes (word_at vs 3) (codes "broadcast")) (KindIs Broadcast) (Refused Unsupported))
 
     behind : List (List ℕ) → Statement
-    behind vs = cond (begin_with (ip_ospf (codes "network")) vs) (kind_of_words vs) (cond (begin_with (ip_ospf (codes "priority")) vs) (priority_statement (nat_le (length vs) 4) (number (word_at vs 3) 255)) (switch_statement vs))
+    behind vs = cond (begin_with (ip_ospf (codes "network")) vs) (kind_of_words vs)
+        (cond (begin_with (ip_ospf (codes "priority")) vs)
+        (priority_statement (nat_le (length vs) 4) (number (word_at vs 3) 255)) (switch_statement vs))
 
     no_kind : (vs : List (List ℕ)) → cost_said (kind_of_words vs) ≡ None
     no_kind vs =
-        neither (same_bytes (word_at vs 3) (codes "point-to-point")) (KindIs PointToPoint) (cond (same_bytes (word_at vs 3) (codes "broadcast")) (KindIs Broadcast) (Refused Unsupported)) refl
+        neither (same_bytes (word_at vs 3) (codes "point-to-point")) (KindIs PointToPoint)
+        (cond (same_bytes (word_at vs 3) (codes "broadcast")) (KindIs Broadcast) (Refused Unsupported)) refl
         (neither (same_bytes (word_at vs 3) (codes "broadcast")) (KindIs Broadcast) (Refused Unsupported) refl refl)
-
--- what a new cost line says
-pub cost_line-says : (n : ℕ) → 1 ≤ n → n ≤ 65535 → interface_statement (words (cost_line n)) ≡ CostIs n
-cost_line-says n from to =
-    ap (λ ws. interface_statement (codes "ip" ∷ codes "ospf" ∷ codes "cost" ∷ ws)) (words-word (decimal n) (decimal-word n))
-    ∙ ap (cost_statement true) (number-decimal n 65535 to (omega arith))
-    ∙ positive
-  where
-    positive : cost_statement true (Some n) ≡ CostIs n
-    positive = let some : eqb n 0 ≡ false = ne_eqb n 0 (λ e. omega arith) in rw some

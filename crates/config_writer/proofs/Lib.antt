@@ -1,9 +1,9 @@
 pub mod CostMaps
 pub mod WholeLines
-pub mod Steps
+pub mod WrittenLines
 pub mod NewLines
 pub mod CostStatements
-pub mod Alike
+pub mod SameStatements
 pub mod Recosted
-pub mod Fine
+pub mod FaultlessLines
 pub mod ReadingBack

@@ -9,11 +9,13 @@ use Rattle.cost_base.specs.Lists.{numbers_from}
 use Rattle.text_lines.specs.Lines.{lines, grow, IsOneLine}
 use Rattle.text_lines.specs.Reading.{line_end}
 use Rattle.text_lines.proofs.LineLaws.{lines-cons, lines-one, lines-some}
-use Rattle.config_reader.proofs.PrintedLines.{lacks_end, word_lacks_end, decimal-word}
-use Rattle.config_writer.specs.Rewriting.{is_replaced, cost_behind, cost_line, whole_lines, written_for, written_at, rewritten}
+use Rattle.config_reader.proofs.PrintedLines.{lacks_end, word_lacks_end}
+use Rattle.text_lines.proofs.WordLaws.{decimal-word}
+use Rattle.config_reader.specs.Sections.{cost_line}
+use Rattle.config_writer.specs.Rewriting.{is_replaced, cost_behind, whole_lines, written_for, written_at, rewritten}
 use Rattle.config_writer.proofs.WholeLines.{IsCut, whole_first, ended-line}
 use Rattle.config_reader.proofs.FaultlessFiles.{one_more}
-use Rattle.config_writer.proofs.Steps.{written_here}
+use Rattle.config_writer.proofs.WrittenLines.{written_here}
 
 -- the lines that stand for a line
 abbrev pub lines_for : Bool → Option ℕ → List ℕ → List (List ℕ)
@@ -102,7 +104,8 @@ two_lines a b more =
     ∙ ap (λ rest. a ++ 10 ∷ rest) (append_assoc b (10 ∷ []) more)
 
 -- a line with its end, and what follows
-kept_line : (bytes line : List ℕ) (end : Bool) (left more : List ℕ) → IsCut bytes line end left → (end ≡ false → more ≡ []) → lines ((line ++ line_end end) ++ more) ≡ line ∷ lines more
+kept_line : (bytes line : List ℕ) (end : Bool) (left more : List ℕ) → IsCut bytes line end left →
+    (end ≡ false → more ≡ []) → lines ((line ++ line_end end) ++ more) ≡ line ∷ lines more
 kept_line bytes line true left more cut done = ap lines (append_assoc line (10 ∷ []) more) ∙ lines-cons line more cut.one
 kept_line bytes line false left more cut done =
     ap (λ m. lines ((line ++ []) ++ m)) (done refl)
@@ -111,7 +114,8 @@ kept_line bytes line false left more cut done =
     ∙ ap (λ m. line ∷ lines m) (sym (done refl))
 
 -- the lines of what is written for a line, and of what follows
-lines-written_for : (replaced : Bool) (behind : Option ℕ) (bytes line : List ℕ) (end : Bool) (left more : List ℕ) → IsCut bytes line end left → (end ≡ false → more ≡ []) →
+lines-written_for : (replaced : Bool) (behind : Option ℕ) (bytes line : List ℕ) (end : Bool) (left more : List ℕ) →
+    IsCut bytes line end left → (end ≡ false → more ≡ []) →
     lines (written_for replaced behind (line ++ line_end end) ++ more) ≡ lines_for replaced behind line ++ lines more
 lines-written_for true behind bytes line end left more cut done = refl
 lines-written_for false None bytes line end left more cut done = kept_line bytes line end left more cut done
@@ -127,17 +131,21 @@ lines-written_from : (costs : List (List ℕ × ℕ)) (bytes : List ℕ) (front 
 lines-written_from costs bytes front fronts [] left at split wholes same = refl
 lines-written_from costs bytes front fronts (line ∷ rest) left at split wholes same =
     let cut = cut_of left line rest at in
-    let whole : whole_lines bytes ≡ fronts ++ (line ++ line_end cut.end) ∷ whole_lines cut.left = wholes ∙ ap (λ ws. fronts ++ ws) (whole_first left line cut.end cut.left cut.cut) in
+    let whole : whole_lines bytes ≡ fronts ++ (line ++ line_end cut.end) ∷ whole_lines cut.left =
+    wholes ∙ ap (λ ws. fronts ++ ws) (whole_first left line cut.end cut.left cut.cut) in
     let next =
     lines-written_from costs bytes (front ++ line ∷ []) (fronts ++ (line ++ line_end cut.end) ∷ []) rest cut.left cut.behind
     (split ∙ sym (append_assoc front (line ∷ []) rest))
     (whole ∙ sym (append_assoc fronts ((line ++ line_end cut.end) ∷ []) (whole_lines cut.left)))
     (one_more fronts (line ++ line_end cut.end) ∙ ap (λ n. n + 1) same ∙ sym (one_more front line)) in
     let none : cut.end ≡ false → concat (map (written_at costs bytes) (numbers_from (length front + 1) (length rest))) ≡ [] =
-    λ open_ended. ap (λ (ls : List (List ℕ)). concat (map (written_at costs bytes) (numbers_from (length front + 1) (length ls)))) (sym cut.behind ∙ ap lines (cut.cut.last open_ended).1) in
+    λ open_ended. ap (λ (ls : List (List ℕ)).
+    concat (map (written_at costs bytes) (numbers_from (length front + 1) (length ls)))) (sym cut.behind
+    ∙ ap lines (cut.cut.last open_ended).1) in
     ap (λ piece. lines (piece ++ concat (map (written_at costs bytes) (numbers_from (length front + 1) (length rest)))))
     (written_here costs bytes front line rest fronts (line ++ line_end cut.end) (whole_lines cut.left) split whole same)
-    ∙ lines-written_for (is_replaced costs front line) (cost_behind costs front line) left line cut.end cut.left (concat (map (written_at costs bytes) (numbers_from (length front + 1) (length rest)))) cut.cut none
+    ∙ lines-written_for (is_replaced costs front line) (cost_behind costs front line) left line cut.end cut.left
+    (concat (map (written_at costs bytes) (numbers_from (length front + 1) (length rest)))) cut.cut none
     ∙ ap (λ ls. lines_for (is_replaced costs front line) (cost_behind costs front line) line ++ ls)
     (ap (λ n. lines (concat (map (written_at costs bytes) (numbers_from n (length rest))))) (sym (one_more front line)) ∙ next)
 

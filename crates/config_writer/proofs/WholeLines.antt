@@ -1,11 +1,11 @@
 -- Lines with their ends.
 use Rattle.std.proofs.Common.{◌≡◌, ◌≢◌, ℕ, List, [], ◌∷◌, ◌++◌, Bool, true, false, eqb, Option, Some, None, refl, sym, ap, ◌∙◌, append-nil}
 use Rattle.std.proofs.lemmas.List.Elements.{All-head, All-tail}
-use Rattle.text_lines.specs.Lines.{lines, grow, IsOneLine}
+use Rattle.text_lines.specs.Lines.{lines, grow, IsOneLine, ended}
 use Rattle.text_lines.specs.Reading.{IsFirstLine, line_end}
 use Rattle.text_lines.proofs.LineLaws.{line-whole}
-use Rattle.config_reader.specs.Sections.{ended}
-use Rattle.config_writer.specs.Rewriting.{whole_lines, written_for, cost_line}
+use Rattle.config_reader.specs.Sections.{cost_line}
+use Rattle.config_writer.specs.Rewriting.{whole_lines, written_for}
 use Rattle.config_writer.specs.Writing.{put_for}
 
 -- a line with its LF before a text
@@ -40,7 +40,8 @@ first_cut bytes line end left first = record {
   where
     some : end ≡ false → line ≢ []
     some open_ended none =
-        let empty : bytes ≡ [] = first.parts ∙ ap (λ e. line ++ (line_end e ++ left)) open_ended ∙ ap (λ l. line ++ l) (first.last open_ended) ∙ append-nil line ∙ none in
+        let empty : bytes ≡ [] = first.parts ∙ ap (λ e. line ++ (line_end e ++ left)) open_ended
+        ∙ ap (λ l. line ++ l) (first.last open_ended) ∙ append-nil line ∙ none in
         let no_line : [] ≡ line ∷ lines left = ap lines (sym empty) ∙ first.first in
         cc
 

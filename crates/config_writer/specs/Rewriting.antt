@@ -1,15 +1,14 @@
 -- A configuration with new costs: which lines are taken out, and where the new lines stand.
 use Rattle.std.specs.Prelude.{◌≡◌, ℕ, List, [], ◌∷◌, ◌++◌, ◌==◌, ◌&&◌, not, if◌then◌else◌, Bool, true, false, Option, Some, None, length, map, take, position, is_some, slice_index_or, codes}
-use Rattle.std.specs.List.{concat, list_any, join_with_byte}
-use Rattle.cost_base.specs.Decimal.{decimal}
+use Rattle.std.specs.List.{concat, list_any}
 use Rattle.cost_base.specs.Lists.{numbers_from, same_bytes}
-use Rattle.text_lines.specs.Lines.{lines, words, grow, kind_of, is_head}
+use Rattle.text_lines.specs.Lines.{lines, words, grow, kind_of, is_head, ended}
 use Rattle.text_lines.specs.declared.LineKind.{LineKind}
 use Rattle.text_lines.specs.declared.LineKind.TheVariants.{Indented}
 use Rattle.config_reader.specs.Statements.{Block, OfInterface, OfRouter, OfOther, block_of, begin_with, ip_ospf}
 use Rattle.config_reader.specs.Reading.{open_block}
 use Rattle.config_reader.specs.Configs.{first_heads, config_of}
-use Rattle.config_reader.specs.Sections.{ended, cost_after, with_costs}
+use Rattle.config_reader.specs.Sections.{cost_after, with_costs, cost_line}
 use Rattle.config_reader.specs.FaultList.{config_fault}
 use Rattle.interface_model.specs.declared.Interface.{Interface}
 use Rattle.interface_model.specs.Records.{Router}
@@ -53,10 +52,6 @@ is_first_block before OfOther = false
 abbrev pub cost_behind : List (List ℕ × ℕ) → List (List ℕ) → List ℕ → Option ℕ
 cost_behind costs before line =
     if is_head line && is_first_block before (block_of (words line)) then new_cost costs (block_of (words line)) else None
-
--- the line ` ip ospf cost N`
-abbrev pub cost_line : ℕ → List ℕ
-cost_line n = join_with_byte 32 (codes " ip" ∷ codes "ospf" ∷ codes "cost" ∷ decimal n ∷ [])
 
 -- the lines of a text, each with its LF, which only the last may lack
 abbrev pub whole_lines : List ℕ → List (List ℕ)

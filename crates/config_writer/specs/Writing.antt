@@ -1,4 +1,4 @@
--- What the code keeps while it writes, and what one more line adds.
+-- What the code keeps while it writes, and what one more line adds. No public clause cites it.
 use Rattle.std.specs.Prelude.{◌≡◌, ℕ, List, [], ◌∷◌, ◌++◌, ◌&&◌, if◌then◌else◌, Bool, true, false, Option, Some, None, is_some}
 use Rattle.std.specs.List.{list_any}
 use Rattle.cost_base.specs.Lists.{same_bytes}
@@ -7,7 +7,8 @@ use Rattle.text_lines.specs.Reading.{line_end}
 use Rattle.text_lines.specs.declared.LineKind.{LineKind}
 use Rattle.text_lines.specs.declared.LineKind.TheVariants.{Head}
 use Rattle.config_reader.specs.Statements.{Block, OfInterface, OfRouter, OfOther, block_of}
-use Rattle.config_writer.specs.Rewriting.{is_cost_line, cost_line}
+use Rattle.config_reader.specs.Sections.{cost_line}
+use Rattle.config_writer.specs.Rewriting.{is_cost_line}
 use Rattle.config_writer.specs.declared.writer.Writer.{Writer}
 
 -- the value of the first entry of a name
@@ -62,7 +63,8 @@ pub record Opens (old new : Writer) (block : Block) (behind : Option ℕ) : Type
 
 -- a line was gone over
 pub record GoesOverLine (old new : Writer) (line : List ℕ) (end : Bool) : Type 0 where
-  pub out : new.out.items ≡ old.out.items ++ put_for (old.in_named_block && is_cost_line line) (cost_after_line (kind_of line) old.costs old.heads (block_of (words line))) line end
+  pub out : new.out.items ≡ old.out.items ++ put_for (old.in_named_block && is_cost_line line)
+      (cost_after_line (kind_of line) old.costs old.heads (block_of (words line))) line end
   pub heads : new.heads ≡ heads_after_line (kind_of line) old.heads (block_of (words line))
   pub named : new.in_named_block ≡ named_after_line (kind_of line) old.costs old.in_named_block (block_of (words line))
   pub costs : new.costs ≡ old.costs

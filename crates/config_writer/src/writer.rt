@@ -3,7 +3,7 @@ ghost use Rattle.std.specs.Prelude.{◌≡◌, ◌∷◌, ◌++◌, [], false, O
 ghost use Rattle.text_lines.specs.Lines.{words};
 ghost use Rattle.text_lines.specs.Reading.{line_end};
 ghost use Rattle.config_reader.specs.Statements.{block_of};
-ghost use Rattle.config_writer.specs.Rewriting.{cost_line};
+ghost use Rattle.config_reader.specs.Sections.{cost_line};
 ghost use Rattle.config_writer.specs.Writing.{Opens, GoesOverLine, put_for};
 
 use crate::config_lines::{interface_opened, sets_cost};

@@ -1,9 +1,9 @@
--- Lists: numbers in a row, maps and filters over them, tests of images, a list with one more element, and what a list lacks.
-use Rattle.std.proofs.Common.{◌≡◌, ◌≢◌, ℕ, zero, suc, ◌+◌, ◌<◌, ◌≤◌, refl, sym, ◌∙◌, ap, subst, List, [], ◌∷◌, ◌++◌, All, Bool, true, false, cond, ◌||◌, filter, map, length, get_or, arith, Option, None, Some}
-use Rattle.std.specs.List.{list_any}
+-- Lists: numbers in a row, maps and filters over them, tests of images, a list with one more element, what a list lacks, and two lists together.
+use Rattle.std.proofs.Common.{◌≡◌, ◌≢◌, ℕ, zero, suc, ◌+◌, ◌<◌, ◌≤◌, refl, sym, ◌∙◌, ap, subst, List, [], ◌∷◌, ◌++◌, All, Bool, true, false, cond, ◌||◌, filter, map, length, get_or, arith, Option, None, Some, append_assoc, zero-add}
+use Rattle.std.specs.List.{AllZip, list_any}
 use Rattle.std.specs.Option.{option_or}
 use Rattle.std.proofs.lemmas.Bool.{false≢true}
-use Rattle.std.proofs.lemmas.List.{length-map}
+use Rattle.std.proofs.lemmas.List.{length-map, map-append}
 use Rattle.std.proofs.lemmas.List.Elements.{All-cons, All-head, All-nil, All-tail}
 use native.Mathlib.Decide.{ℕ_discrete}
 use Rattle.cost_base.specs.Lists.{numbers_from, first_of, last_of, Lacks, NoneTwice}
@@ -42,13 +42,15 @@ get_or-map-numbers_from f a (suc n) zero d within = ap f (omega arith)
 get_or-map-numbers_from f a (suc n) (suc k) d within = get_or-map-numbers_from f (a + 1) n k d (omega arith) ∙ ap f (omega arith)
 
 -- functions that agree on the numbers give one list
-pub map-numbers_from-agree : {X : Type 0} (f g : ℕ → X) (a n : ℕ) → ((k : ℕ) → a ≤ k → k < a + n → f k ≡ g k) → map f (numbers_from a n) ≡ map g (numbers_from a n)
+pub map-numbers_from-agree : {X : Type 0} (f g : ℕ → X) (a n : ℕ) → ((k : ℕ) → a ≤ k → k < a + n → f k ≡ g k) →
+    map f (numbers_from a n) ≡ map g (numbers_from a n)
 map-numbers_from-agree f g a zero agree = refl
 map-numbers_from-agree f g a (suc n) agree =
     cc (agree a (omega arith) (omega arith), map-numbers_from-agree f g (a + 1) n (λ k above below. agree k (omega arith) (omega arith)))
 
 -- tests that agree on the numbers keep the same
-pub filter-numbers_from-agree : (f g : ℕ → Bool) (a n : ℕ) → ((k : ℕ) → a ≤ k → k < a + n → f k ≡ g k) → filter f (numbers_from a n) ≡ filter g (numbers_from a n)
+pub filter-numbers_from-agree : (f g : ℕ → Bool) (a n : ℕ) → ((k : ℕ) → a ≤ k → k < a + n → f k ≡ g k) →
+    filter f (numbers_from a n) ≡ filter g (numbers_from a n)
 filter-numbers_from-agree f g a zero agree = refl
 filter-numbers_from-agree f g a (suc n) agree =
     cc (agree a (omega arith) (omega arith), filter-numbers_from-agree f g (a + 1) n (λ k above below. agree k (omega arith) (omega arith)))
@@ -60,7 +62,8 @@ all_kept P test a (suc n) each =
     by_test (test a) (λ passes. each a (omega arith) (omega arith) passes)
     (all_kept P test (a + 1) n (λ k above below passes. each k (omega arith) (omega arith) passes))
   where
-    by_test : (b : Bool) → (b ≡ true → P a) → All P (filter test (numbers_from (a + 1) n)) → All P (cond b (a ∷ filter test (numbers_from (a + 1) n)) (filter test (numbers_from (a + 1) n)))
+    by_test : (b : Bool) → (b ≡ true → P a) → All P (filter test (numbers_from (a + 1) n)) →
+        All P (cond b (a ∷ filter test (numbers_from (a + 1) n)) (filter test (numbers_from (a + 1) n)))
     by_test true here rest = All-cons P a (filter test (numbers_from (a + 1) n)) (here refl) rest
     by_test false here rest = rest
 
@@ -74,7 +77,8 @@ kept_all P test a (suc n) all k above below passes =
       | no other ↦ kept_all P test (a + 1) n split.1 k (omega arith) (omega arith) passes
     ]
   where
-    by_test : (b : Bool) → All P (cond b (a ∷ filter test (numbers_from (a + 1) n)) (filter test (numbers_from (a + 1) n))) → (b ≡ true → P a) × All P (filter test (numbers_from (a + 1) n))
+    by_test : (b : Bool) → All P (cond b (a ∷ filter test (numbers_from (a + 1) n))
+        (filter test (numbers_from (a + 1) n))) → (b ≡ true → P a) × All P (filter test (numbers_from (a + 1) n))
     by_test true all = (λ passes. All-head P a (filter test (numbers_from (a + 1) n)) all, All-tail P a (filter test (numbers_from (a + 1) n)) all)
     by_test false all = (λ passes. absurd (false≢true passes), all)
 
@@ -163,3 +167,32 @@ none_twice_push (z ∷ zs) x once lacks = (lacks_push zs x z once.0 (λ same. la
 pub none_twice_seam : (xs : List ℕ) (x : ℕ) (ys : List ℕ) → NoneTwice (xs ++ x ∷ ys) → Lacks xs x
 none_twice_seam [] x ys once = tt
 none_twice_seam (z ∷ zs) x ys once = (λ same. lacks_seam zs x ys z once.0 (sym same), none_twice_seam zs x ys once.1)
+
+-- a list to which what belongs to each number in turn is put
+pub put_more : {X : Type 0} (start olds news : List X) (f : ℕ → X) (k : ℕ) (x : X) → news ≡ olds ++ x ∷ [] →
+    olds ≡ start ++ map f (numbers_from 0 k) → x ≡ f k → news ≡ start ++ map f (numbers_from 0 (k + 1))
+put_more start olds news f k x news_are olds_are x_is =
+    news_are
+    ∙ ap (λ xs. xs ++ x ∷ []) olds_are
+    ∙ ap (λ y. (start ++ map f (numbers_from 0 k)) ++ y ∷ []) (x_is ∙ ap f (sym (zero-add k)))
+    ∙ append_assoc start (map f (numbers_from 0 k)) (f (0 + k) ∷ [])
+    ∙ ap (λ xs. start ++ xs) (sym (ap (map f) (numbers_from-push 0 k) ∙ map-append f (numbers_from 0 k) ((0 + k) ∷ [])))
+
+-- Two lists, one after the other or side by side.
+
+-- what holds of each element of two lists holds of each of the first
+pub All-left : {X : Type 0} (P : X → Type 0) (xs ys : List X) → All P (xs ++ ys) → All P xs
+All-left P [] ys all = All-nil P
+All-left P (x ∷ xs) ys all = All-cons P x xs (All-head P x (xs ++ ys) all) (All-left P xs ys (All-tail P x (xs ++ ys) all))
+
+-- and of each of the second
+pub All-right : {X : Type 0} (P : X → Type 0) (xs ys : List X) → All P (xs ++ ys) → All P ys
+All-right P [] ys all = all
+All-right P (x ∷ xs) ys all = All-right P xs ys (All-tail P x (xs ++ ys) all)
+
+-- one more of both lists
+pub zip_push : {X Y : Type 0} (R : X → Y → Type 0) (xs : List X) (ys : List Y) (x : X) (y : Y) → AllZip R xs ys → R x y → AllZip R (xs ++ x ∷ []) (ys ++ y ∷ [])
+zip_push R [] [] x y zip here = (here, tt)
+zip_push R [] (w ∷ ys) x y zip here = absurd zip
+zip_push R (z ∷ xs) [] x y zip here = absurd zip
+zip_push R (z ∷ xs) (w ∷ ys) x y zip here = (zip.0, zip_push R xs ys x y zip.1 here)

@@ -1,8 +1,12 @@
 -- What the fakes of the outside do.
-use Rattle.std.specs.Prelude.{◌⊎◌, ℕ, List, [], ◌∷◌, Option, Some, None, if◌then◌else◌, ◌==◌, IsTrue, length, min, Result, IsErrOf}
+use Rattle.std.specs.Prelude.{◌⊎◌, ℕ, Bool, List, [], ◌∷◌, Option, Some, None, if◌then◌else◌, ◌==◌, IsTrue, length, min, Result, IsErrOf}
 use Rattle.std.specs.List.{list_any}
 use Rattle.cost_base.specs.declared.ShelfStop.{ShelfStop}
 use Rattle.cost_base.specs.declared.ShelfStop.TheVariants.{Failed, OutOfMemory}
+
+-- the bytes that a sink tells, as long as nothing was lost
+abbrev pub unless_lost : Bool → List ℕ → Option (List ℕ)
+unless_lost lost bytes = if lost then None else Some bytes
 
 -- the number of a call is listed
 abbrev pub IsListed : List ℕ → ℕ → Type 0

@@ -12,6 +12,10 @@ abbrev pub or_empty : Option (List ℕ) → List ℕ
 or_empty None = []
 or_empty (Some bytes) = bytes
 
+-- the file of a shelf on which a missing name is an empty file
+abbrev pub sure_file : List (List ℕ × List ℕ) → List ℕ → Option (List ℕ)
+sure_file files name = Some (or_empty (first_file files name))
+
 -- how often a name stands in a list of names
 abbrev pub times : List (List ℕ) → List ℕ → ℕ
 times names name = count_by (λ other. bytes_eq other name) names

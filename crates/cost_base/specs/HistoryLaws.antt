@@ -12,24 +12,31 @@ given_none held noted = record { held = λ name. refl; told = tt; noted = sym (a
 
 failures-append : (xs ys : List Taken) → failures (xs ++ ys) ≡ failures xs ++ failures ys
 failures-append [] ys = refl
-failures-append (x ∷ xs) ys = ap (λ (names : List (List ℕ)). failure x.name x.came ++ names) (failures-append xs ys) ∙ sym (append_assoc (failure x.name x.came) (failures xs) (failures ys))
+failures-append (x ∷ xs) ys = ap (λ (names : List (List ℕ)). failure x.name x.came ++ names) (failures-append xs ys)
+    ∙ sym (append_assoc (failure x.name x.came) (failures xs) (failures ys))
 
-told-append : (held now : List ℕ → Option (List ℕ)) (xs ys : List Taken) → ((name : List ℕ) → now name ≡ held name) → AreTold held xs → AreTold now ys → AreTold held (xs ++ ys)
+told-append : (held now : List ℕ → Option (List ℕ)) (xs ys : List Taken) → ((name : List ℕ) → now name ≡ held name) →
+    AreTold held xs → AreTold now ys → AreTold held (xs ++ ys)
 told-append held now [] [] same first second = tt
 told-append held now [] (y ∷ ys) same first second =
     (subst (λ (file : Option (List ℕ)). IsToldAs file y.most y.came) (same y.name) second.0, told-append held now [] ys same tt second.1)
 told-append held now (x ∷ xs) ys same first second = (first.0, told-append held now xs ys same first.1 second)
 
 -- what was given first and what was given then
-pub given_more : (held_a held_b held_c : List ℕ → Option (List ℕ)) (noted_a noted_b noted_c : List (List ℕ)) (xs ys : List Taken) → HasGiven held_a held_b noted_a noted_b xs → HasGiven held_b held_c noted_b noted_c ys → HasGiven held_a held_c noted_a noted_c (xs ++ ys)
+pub given_more : (held_a held_b held_c : List ℕ → Option (List ℕ)) (noted_a noted_b noted_c : List (List ℕ))
+    (xs ys : List Taken) → HasGiven held_a held_b noted_a noted_b xs → HasGiven held_b held_c noted_b noted_c ys →
+    HasGiven held_a held_c noted_a noted_c (xs ++ ys)
 given_more held_a held_b held_c noted_a noted_b noted_c xs ys first second = record {
   held = λ name. second.held name ∙ first.held name;
   told = told-append held_a held_b xs ys first.held first.told second.told;
-  noted = second.noted ∙ ap (λ (names : List (List ℕ)). names ++ failures ys) first.noted ∙ append_assoc noted_a (failures xs) (failures ys) ∙ ap (λ (names : List (List ℕ)). noted_a ++ names) (sym (failures-append xs ys));
+  noted = second.noted ∙ ap (λ (names : List (List ℕ)). names ++ failures ys) first.noted
+      ∙ append_assoc noted_a (failures xs) (failures ys)
+      ∙ ap (λ (names : List (List ℕ)). noted_a ++ names) (sym (failures-append xs ys));
 }
 
 -- noted names count the files that failed
-pub given_counts : (held_a held_b : List ℕ → Option (List ℕ)) (noted_a noted_b : List (List ℕ)) (came : List Taken) → HasGiven held_a held_b noted_a noted_b came → CountsFailures (times noted_a) (times noted_b) came
+pub given_counts : (held_a held_b : List ℕ → Option (List ℕ)) (noted_a noted_b : List (List ℕ)) (came : List Taken) →
+    HasGiven held_a held_b noted_a noted_b came → CountsFailures (times noted_a) (times noted_b) came
 given_counts held_a held_b noted_a noted_b came given =
     let count : (name : List ℕ) → times noted_b name ≡ times noted_a name + times (failures came) name =
     λ name. ap (λ (names : List (List ℕ)). times names name) given.noted ∙ sum_by-append (λ (x : List ℕ). cond (bytes_eq x name) 1 0) noted_a (failures came) in
@@ -39,7 +46,8 @@ given_counts held_a held_b noted_a noted_b came given =
     }
 
 -- a shelf that notes no name had no file that failed
-pub given_surely : (held_a held_b : List ℕ → Option (List ℕ)) (came : List Taken) → HasGiven held_a held_b [] [] came → CountsFailures (λ name. 0) (λ name. 0) came
+pub given_surely : (held_a held_b : List ℕ → Option (List ℕ)) (came : List Taken) → HasGiven held_a held_b [] [] came →
+    CountsFailures (λ name. 0) (λ name. 0) came
 given_surely held_a held_b came given = given_counts held_a held_b [] [] came given
 
 -- a sink was handed nothing between a state and itself

@@ -40,7 +40,7 @@ impl<R: Files> Shelf for FileShelf<R> {
 
     ghost gave = { λ before now came. HasGiven (λ name. None) (λ name. None) before.failed.names.items now.failed.names.items came };
 
-    #[tactic(auto, using(crate::proofs::Shelves::noted))]
+    #[tactic(auto, using(crate::proofs::FaultCounts::noted))]
     fn take(&mut self, name: &str, most: usize, into: &mut Vec<u8>) -> Result<(), ShelfStop>
         requires empty { into.old.items ≡ [] }
         requires most { most < 2 ^ 31 }
@@ -48,7 +48,8 @@ impl<R: Files> Shelf for FileShelf<R> {
         ensures cut { IsErrOf result ShelfStop.TooLong → vec_len into.new ≡ most + 1 }
         ensures refused { OnErr result (vec_len into.new ≤ most + 1) }
         ensures faults { CountsFaults (times self.old.failed.names.items) (times self.new.failed.names.items) name.now result }
-        ensures gave { HasGiven (λ other. None) (λ other. None) self.old.failed.names.items self.new.failed.names.items (record { name = name.now; most = most; came = came_of result into.new.items } ∷ []) }
+        ensures gave { HasGiven (λ other. None) (λ other. None) self.old.failed.names.items self.new.failed.names.items
+            (record { name = name.now; most = most; came = came_of result into.new.items } ∷ []) }
     {
         let Ok(copy) = self.failed.make_room(name.as_bytes()) else {
             return Err(ShelfStop::OutOfMemory);
@@ -64,7 +65,9 @@ impl<R: Files> Shelf for FileShelf<R> {
 
     ghost gave_none = { λ a. given_none (λ name. None) a.failed.names.items };
 
-    ghost gave_more = { λ a b c first later. given_more (λ name. None) (λ name. None) (λ name. None) a.failed.names.items b.failed.names.items c.failed.names.items first later };
+    ghost gave_more = { λ a b c first later.
+        given_more (λ name. None) (λ name. None) (λ name. None)
+        a.failed.names.items b.failed.names.items c.failed.names.items first later };
 
     ghost gave_held = { λ a b came given. given.held };
 

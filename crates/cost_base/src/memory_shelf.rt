@@ -71,9 +71,10 @@ impl Shelf for MemoryShelf {
 
     ghost faults = { λ shelf name. times shelf.failed.names.items name };
 
-    ghost gave = { λ before now came. HasGiven (first_file before.files.items) (first_file now.files.items) before.failed.names.items now.failed.names.items came };
+    ghost gave = { λ before now came.
+        HasGiven (first_file before.files.items) (first_file now.files.items) before.failed.names.items now.failed.names.items came };
 
-    #[tactic(auto, using(crate::proofs::Shelves::noted))]
+    #[tactic(auto, using(crate::proofs::FaultCounts::noted))]
     fn take(&mut self, name: &str, most: usize, into: &mut Vec<u8>) -> Result<(), ShelfStop>
         requires empty { into.old.items ≡ [] }
         requires most { most < 2 ^ 31 }
@@ -89,7 +90,9 @@ impl Shelf for MemoryShelf {
         ensures missing { first_file self.old.files.items name.now ≡ None → FailsOrLacksMemory result }
         ensures next { self.new.calls ≡ min (self.old.calls + 1) (2 ^ 64 - 1) }
         ensures fail { self.new.fail.items ≡ self.old.fail.items }
-        ensures gave { HasGiven (first_file self.old.files.items) (first_file self.new.files.items) self.old.failed.names.items self.new.failed.names.items (record { name = name.now; most = most; came = came_of result into.new.items } ∷ []) }
+        ensures gave { HasGiven (first_file self.old.files.items) (first_file self.new.files.items)
+            self.old.failed.names.items self.new.failed.names.items
+            (record { name = name.now; most = most; came = came_of result into.new.items } ∷ []) }
     {
         let call = self.begin_call();
         let Ok(copy) = self.failed.make_room(name.as_bytes()) else {
@@ -106,11 +109,14 @@ impl Shelf for MemoryShelf {
 
     ghost gave_none = { λ a. given_none (first_file a.files.items) a.failed.names.items };
 
-    ghost gave_more = { λ a b c first later. given_more (first_file a.files.items) (first_file b.files.items) (first_file c.files.items) a.failed.names.items b.failed.names.items c.failed.names.items first later };
+    ghost gave_more = { λ a b c first later.
+        given_more (first_file a.files.items) (first_file b.files.items) (first_file c.files.items)
+        a.failed.names.items b.failed.names.items c.failed.names.items first later };
 
     ghost gave_held = { λ a b came given. given.held };
 
     ghost gave_told = { λ a b came given. given.told };
 
-    ghost gave_counted = { λ a b came given. given_counts (first_file a.files.items) (first_file b.files.items) a.failed.names.items b.failed.names.items came given };
+    ghost gave_counted = { λ a b came given.
+        given_counts (first_file a.files.items) (first_file b.files.items) a.failed.names.items b.failed.names.items came given };
 }

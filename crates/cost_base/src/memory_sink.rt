@@ -85,7 +85,8 @@ impl Sink for MemorySink {
         ensures cause { HasCause self.old.faults self.new.faults result }
         ensures good { OnOk result ((kept_at self.old.fail.items self.old.calls ≡ None) × (length piece.now ≤ self.old.room)) }
         ensures failed { kept_at self.old.fail.items self.old.calls ≡ None → length piece.now ≤ self.old.room → IsOk result }
-        ensures kept { self.new.bytes.items ≡ self.old.bytes.items ++ take (min self.old.room (kept_or_all (kept_at self.old.fail.items self.old.calls) piece.now)) piece.now }
+        ensures kept { self.new.bytes.items ≡
+            self.old.bytes.items ++ take (min self.old.room (kept_or_all (kept_at self.old.fail.items self.old.calls) piece.now)) piece.now }
         ensures counted { OnOk result (self.new.faults ≡ self.old.faults) }
         ensures next { self.new.calls ≡ min (self.old.calls + 1) (2 ^ 64 - 1) }
         ensures fail { self.new.fail.items ≡ self.old.fail.items }

@@ -4,7 +4,7 @@ ghost use Rattle.std.specs.Prelude.{◌≡◌, ℕ, List, [], ◌+◌, ◌^◌, 
 ghost use Rattle.cost_base.specs.Outside.{IsFile, IsLonger, CountsFaults};
 ghost use Rattle.cost_base.specs.Histories.{HasGiven, came_of};
 ghost use Rattle.cost_base.specs.HistoryLaws.{given_none, given_more, given_surely};
-ghost use Rattle.cost_base.specs.Files.{first_file, or_empty};
+ghost use Rattle.cost_base.specs.Files.{first_file, or_empty, sure_file};
 
 use crate::content::{copy_within, find_first};
 use crate::{Name, Shelf, ShelfStop};
@@ -28,24 +28,24 @@ impl SureShelf {
 }
 
 impl Shelf for SureShelf {
-    ghost held = { λ shelf name. Some (or_empty (first_file shelf.files.items name)) };
+    ghost held = { λ shelf name. sure_file shelf.files.items name };
 
     ghost faults = { λ shelf name. 0 };
 
-    ghost gave = { λ before now came. HasGiven (λ name. Some (or_empty (first_file before.files.items name))) (λ name. Some (or_empty (first_file now.files.items name))) [] [] came };
+    ghost gave = { λ before now came. HasGiven (sure_file before.files.items) (sure_file now.files.items) [] [] came };
 
     fn take(&mut self, name: &str, most: usize, into: &mut Vec<u8>) -> Result<(), ShelfStop> {
         let bytes = find_first(self.files.as_slice(), name.as_bytes()).unwrap_or(&[]);
         copy_within(bytes, most, into)
     }
 
-    ghost gave_none = { λ a. given_none (λ name. Some (or_empty (first_file a.files.items name))) [] };
+    ghost gave_none = { λ a. given_none (sure_file a.files.items) [] };
 
-    ghost gave_more = { λ a b c first later. given_more (λ name. Some (or_empty (first_file a.files.items name))) (λ name. Some (or_empty (first_file b.files.items name))) (λ name. Some (or_empty (first_file c.files.items name))) [] [] [] first later };
+    ghost gave_more = { λ a b c first later. given_more (sure_file a.files.items) (sure_file b.files.items) (sure_file c.files.items) [] [] [] first later };
 
     ghost gave_held = { λ a b came given. given.held };
 
     ghost gave_told = { λ a b came given. given.told };
 
-    ghost gave_counted = { λ a b came given. given_surely (λ name. Some (or_empty (first_file a.files.items name))) (λ name. Some (or_empty (first_file b.files.items name))) came given };
+    ghost gave_counted = { λ a b came given. given_surely (sure_file a.files.items) (sure_file b.files.items) came given };
 }

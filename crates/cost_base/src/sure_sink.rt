@@ -4,6 +4,7 @@ ghost use Rattle.std.specs.Prelude.{◌≡◌, ◌<◌, ◌≤◌, ◌+◌, ◌+
 ghost use Rattle.cost_base.specs.Outside.{GotWhole};
 ghost use Rattle.cost_base.specs.Histories.{Hands};
 ghost use Rattle.cost_base.specs.HistoryLaws.{handed_none, handed_more};
+ghost use Rattle.cost_base.specs.Fakes.{unless_lost};
 
 use crate::{OutOfMemory, PutFailed, Sink};
 use std::alloc::Global;
@@ -59,11 +60,11 @@ impl SureSink {
 }
 
 impl Sink for SureSink {
-    ghost got = { λ sink. if sink.lost then None else Some sink.bytes.items };
+    ghost got = { λ sink. unless_lost sink.lost sink.bytes.items };
 
     ghost faults = { λ sink. 0 };
 
-    ghost handed = { λ before now bytes. GotWhole (if before.lost then None else Some before.bytes.items) (if now.lost then None else Some now.bytes.items) bytes };
+    ghost handed = { λ before now bytes. GotWhole (unless_lost before.lost before.bytes.items) (unless_lost now.lost now.bytes.items) bytes };
 
     fn put(&mut self, piece: &[u8]) -> Result<(), PutFailed>
         ensures sure { IsOk result }
@@ -80,9 +81,10 @@ impl Sink for SureSink {
         Ok(())
     }
 
-    ghost handed_none = { λ a. handed_none (if a.lost then None else Some a.bytes.items) };
+    ghost handed_none = { λ a. handed_none (unless_lost a.lost a.bytes.items) };
 
-    ghost handed_more = { λ a b c first later. handed_more (if a.lost then None else Some a.bytes.items) (if b.lost then None else Some b.bytes.items) (if c.lost then None else Some c.bytes.items) first later };
+    ghost handed_more = { λ a b c first later.
+        handed_more (unless_lost a.lost a.bytes.items) (unless_lost b.lost b.bytes.items) (unless_lost c.lost c.bytes.items) first later };
 
     ghost handed_got = { λ a b bytes handed. handed };
 }

@@ -9,10 +9,11 @@ use Rattle.answer_lines.specs.Lawful.{IsRead}
 use Rattle.evidence_reader.specs.Refusals.{IsStop}
 use Rattle.evidence_reader.specs.declared.stop.AnswerStop.{AnswerStop}
 use Rattle.answer_lines.proofs.FirstLines.{read-none}
-use Rattle.evidence_reader.proofs.Going.{go-then, stop-then}
+use Rattle.evidence_reader.proofs.NextPlaces.{go-then, stop-then}
 
 -- no row was read yet
-pub rows_begin : (count before : ℕ) (bytes : List ℕ) (rows : List Row) → rows ≡ [] → IsRead (AtRow count) before bytes (map row_line rows) (AtRow (count - 0)) before bytes
+pub rows_begin : (count before : ℕ) (bytes : List ℕ) (rows : List Row) → rows ≡ [] →
+    IsRead (AtRow count) before bytes (map row_line rows) (AtRow (count - 0)) before bytes
 rows_begin count before bytes rows none =
     let all : count ≡ count - 0 = omega arith in
     subst (λ n. IsRead (AtRow count) before bytes (map row_line rows) (AtRow n) before bytes) all
@@ -28,7 +29,8 @@ pub row_more : (count i : ℕ) (rows more : List Row) (row : Row) {b0 b1 b2 : �
     IsRead (AtRow (suc (count - (i + 1)))) b1 middle (row_line row ∷ []) (AtRow (count - (i + 1))) b2 left →
     IsRead (AtRow count) b0 bytes (map row_line more) (AtRow (count - (i + 1))) b2 left
 row_more count i rows more row {b0} {b1} {b2} {bytes} {middle} {left} within grown first second =
-    subst (λ lines. IsRead (AtRow count) b0 bytes lines (AtRow (count - (i + 1))) b2 left) (sym (map-append row_line rows (row ∷ [])) ∙ ap (map row_line) (sym grown))
+    subst (λ lines. IsRead (AtRow count) b0 bytes lines (AtRow (count - (i + 1))) b2 left)
+    (sym (map-append row_line rows (row ∷ [])) ∙ ap (map row_line) (sym grown))
     (go-then first (subst (λ n. IsRead (AtRow n) b1 middle (row_line row ∷ []) (AtRow (count - (i + 1))) b2 left) (one_left count i within) second))
 
 -- the next row stops the reader

@@ -1,6 +1,6 @@
 pub mod CountedLines
 pub mod FaultLaws
-pub mod Going
+pub mod NextPlaces
 pub mod SectionLines
 pub mod TreeLines
 pub mod WholeText

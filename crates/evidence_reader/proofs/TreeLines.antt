@@ -16,7 +16,7 @@ use Rattle.evidence_text.specs.declared.TreePart.{TreePart}
 use Rattle.evidence_text.specs.declared.TreePart.TheVariants.{Proof, Unfinished}
 use Rattle.evidence_reader.specs.declared.stop.AnswerStop.{AnswerStop}
 use Rattle.answer_lines.proofs.FirstLines.{read-none}
-use Rattle.evidence_reader.proofs.Going.{go-then, stop-then}
+use Rattle.evidence_reader.proofs.NextPlaces.{go-then, stop-then}
 use Rattle.evidence_reader.proofs.CountedLines.{one_left}
 
 -- the lines before a part are those that it begins with
@@ -40,7 +40,8 @@ shut_full part (suc places) left bytes e = absurd (omega (arith, e))
 -- open places, and no line left
 pub shut_short : (part : TreePart) (places left : ℕ) (bytes : List ℕ) → places ≢ 0 → left ≡ 0 → IsShut (AtTree part places left) bytes
 shut_short part zero left bytes some none = absurd (some refl)
-shut_short part (suc places) zero bytes some none = (λ line more parts one lawful. lawful.1.is, (λ no. absurd (true≢false (sym no)), λ begins. absurd begins.1.1.is))
+shut_short part (suc places) zero bytes some none =
+    (λ line more parts one lawful. lawful.1.is, (λ no. absurd (true≢false (sym no)), λ begins. absurd begins.1.1.is))
 shut_short part (suc places) (suc left) bytes some none = absurd (omega (arith, none))
 
 -- an open place is one more than the others
@@ -53,12 +54,15 @@ pub entries_begin : (part : TreePart) (count before : ℕ) (bytes : List ℕ) (e
 entries_begin part count before bytes entries none =
     let all : count ≡ count - 0 = omega arith in
     subst (λ n. IsRead (AtTree part 1 count) before bytes (map entry_line entries) (AtTree part 1 n) before bytes) all
-    (subst (λ (l : List Entry). IsRead (AtTree part 1 count) before bytes (map entry_line l) (AtTree part 1 count) before bytes) (sym none) (read-none (AtTree part 1 count) before bytes))
+    (subst (λ (l : List Entry). IsRead (AtTree part 1 count) before bytes (map entry_line l)
+    (AtTree part 1 count) before bytes) (sym none) (read-none (AtTree part 1 count) before bytes))
 
 -- one more tree line was read
-pub entry_more : (part : TreePart) (count i places : ℕ) (entries more : List Entry) (entry : Entry) {b0 b1 b2 : ℕ} {bytes middle left : List ℕ} → i < count → more ≡ entries ++ entry ∷ [] →
+pub entry_more : (part : TreePart) (count i places : ℕ) (entries more : List Entry) (entry : Entry) {b0 b1 b2 : ℕ}
+    {bytes middle left : List ℕ} → i < count → more ≡ entries ++ entry ∷ [] →
     IsRead (AtTree part 1 count) b0 bytes (map entry_line entries) (AtTree part places (count - i)) b1 middle →
-    IsRead (AtTree part places (suc (count - (i + 1)))) b1 middle (entry_line entry ∷ []) (AtTree part (subtree_count entry + (places - 1)) (count - (i + 1))) b2 left →
+    IsRead (AtTree part places (suc (count - (i + 1)))) b1 middle (entry_line entry ∷ [])
+    (AtTree part (subtree_count entry + (places - 1)) (count - (i + 1))) b2 left →
     IsRead (AtTree part 1 count) b0 bytes (map entry_line more) (AtTree part (subtree_count entry + (places - 1)) (count - (i + 1))) b2 left
 entry_more part count i places entries more entry {b0} {b1} {b2} {bytes} {middle} {left} within grown first second =
     let to : Place = AtTree part (subtree_count entry + (places - 1)) (count - (i + 1)) in
@@ -88,13 +92,15 @@ LeavesOpen places entries = (rest : List Entry) → WholeTrees places rest → I
 pub open_none : (entries : List Entry) → entries ≡ [] → LeavesOpen 1 entries
 open_none entries none = subst (λ (l : List Entry). LeavesOpen 1 l) (sym none) (λ rest whole. whole)
 
-pub open_more : (places : ℕ) (entries more : List Entry) (entry : Entry) → places ≢ 0 → more ≡ entries ++ entry ∷ [] → LeavesOpen places entries → LeavesOpen (subtree_count entry + (places - 1)) more
+pub open_more : (places : ℕ) (entries more : List Entry) (entry : Entry) → places ≢ 0 → more ≡ entries ++ entry ∷ [] →
+    LeavesOpen places entries → LeavesOpen (subtree_count entry + (places - 1)) more
 open_more zero entries more entry some grown before = absurd (some refl)
 open_more (suc places) entries more entry some grown before =
     λ rest whole.
     let others : suc places - 1 ≡ places = omega arith in
     let behind : WholeTrees (subtree_count entry + places) rest = subst (λ n. WholeTrees (subtree_count entry + n) rest) others whole in
-    subst (λ (l : List Entry). IsWholeTree l) (sym (append_assoc entries (entry ∷ []) rest) ∙ ap (λ (l : List Entry). l ++ rest) (sym grown)) (before (entry ∷ rest) behind)
+    subst (λ (l : List Entry). IsWholeTree l) (sym (append_assoc entries (entry ∷ []) rest)
+    ∙ ap (λ (l : List Entry). l ++ rest) (sym grown)) (before (entry ∷ rest) behind)
 
 -- entries that leave none open are a whole tree
 pub open_done : (places : ℕ) (entries : List Entry) → places ≡ 0 → LeavesOpen places entries → IsWholeTree entries
@@ -107,4 +113,5 @@ pub tree_read : (part : TreePart) (cap count : ℕ) (entries : List Entry) {b0 b
     IsRead (AtTree part 1 count) b1 middle (map entry_line entries) (AtTree part 0 0) b2 left →
     IsRead (before_part part) b0 bytes (tree_lines (part_word part) (Some (record { cap = cap; tree = entries }))) (AtTree part 0 0) b2 left
 tree_read part cap count entries {b0} {b1} {b2} {bytes} {middle} {left} counted first second =
-    subst (λ n. IsRead (before_part part) b0 bytes (tree_line part cap n ∷ map entry_line entries) (AtTree part 0 0) b2 left) (sym counted) (go-then first second)
+    subst (λ n. IsRead (before_part part) b0 bytes (tree_line part cap n ∷ map entry_line entries)
+    (AtTree part 0 0) b2 left) (sym counted) (go-then first second)

@@ -1,7 +1,6 @@
 -- Refusals of texts that are no answer's.
 use Rattle.std.specs.Prelude.{◌≡◌, ◌≢◌, ℕ, ◌+◌, ◌⊎◌, List, [], ◌∷◌, ◌++◌, length}
-use Rattle.text_lines.specs.Lines.{IsOneLine}
-use Rattle.evidence_text.specs.Lines.{text_of}
+use Rattle.text_lines.specs.Lines.{IsOneLine, with_ends}
 use Rattle.answer_lines.specs.Grammar.{Place, AfterEnd}
 use Rattle.answer_lines.specs.Lawful.{LeadOn, IsLawful}
 use Rattle.evidence_reader.specs.declared.stop.AnswerFault.{AnswerFault}
@@ -37,7 +36,7 @@ pub record IsRefused (from : Place) (before : ℕ) (bytes : List ℕ) (kind : An
   pub place : Place
   pub rest : List ℕ
   pub lead : LeadOn from lines place
-  pub parts : bytes ≡ text_of lines ++ rest
+  pub parts : bytes ≡ with_ends lines ++ rest
   pub line_is : line ≡ before + length lines + 1
   pub fault : IsFault place rest kind
 

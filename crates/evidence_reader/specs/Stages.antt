@@ -1,4 +1,4 @@
--- What the stages of a reader find, and where each leads.
+-- What the stages of a reader find, and where each leads. No public clause cites it.
 use Rattle.std.specs.Prelude.{◌≡◌, ◌≢◌, ℕ, zero, ◌<◌, List, [], ◌∷◌, ◌++◌, codes, Option, Some, None}
 use Rattle.cost_base.specs.Words.{IsOneWord}
 use Rattle.path_rows.specs.Bounds.{BoundsFloor}

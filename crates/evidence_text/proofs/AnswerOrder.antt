@@ -5,9 +5,11 @@ use Rattle.path_rows.specs.declared.answer.Costs.{Costs}
 use Rattle.path_rows.specs.declared.form.Row.{Row}
 use Rattle.path_rows.specs.Answers.{AnswerParts}
 use Rattle.path_rows.specs.Text.{costs_lines, tree_lines, answer_lines, text}
-use Rattle.evidence_text.specs.Lines.{text_of, AreShort}
+use Rattle.text_lines.specs.Lines.{with_ends}
+use Rattle.evidence_text.specs.Lines.{AreShort}
 use Rattle.evidence_text.specs.Parts.{head_lines, floor_line, rows_lines, end_lines}
-use Rattle.evidence_text.proofs.TextLaws.{text_of-append, short_front, short_rest}
+use Rattle.text_lines.proofs.LineLaws.{with_ends-append}
+use Rattle.evidence_text.proofs.TextLaws.{short_front, short_rest}
 
 -- what follows the proof
 abbrev pub after_proof : AnswerParts → List (List ℕ)
@@ -47,29 +49,69 @@ answer_lines-ordered a =
     ∙ append_assoc A B (C ++ (D ++ (E ++ end_lines)))
 
 -- the text of an answer, part after part
-parts_text : (a : AnswerParts) → text a ≡ text_of (head_lines a.verdict) ++ (text_of (costs_lines a.costs) ++ (text_of (floor_line a.floor ∷ []) ++ (text_of (rows_lines a.rows) ++ (text_of (tree_lines (codes "proof") a.proof) ++ (text_of (tree_lines (codes "open") a.unfinished) ++ text_of end_lines)))))
+parts_text : (a : AnswerParts) →
+    text a ≡ with_ends (head_lines a.verdict)
+    ++ (with_ends (costs_lines a.costs)
+    ++ (with_ends (floor_line a.floor ∷ [])
+    ++ (with_ends (rows_lines a.rows)
+    ++ (with_ends (tree_lines (codes "proof") a.proof)
+    ++ (with_ends (tree_lines (codes "open") a.unfinished) ++ with_ends end_lines)))))
 parts_text a =
-    let H : List ℕ = text_of (head_lines a.verdict) in
-    let C : List ℕ = text_of (costs_lines a.costs) in
-    let F : List ℕ = text_of (floor_line a.floor ∷ []) in
-    let R : List ℕ = text_of (rows_lines a.rows) in
-    let P : List ℕ = text_of (tree_lines (codes "proof") a.proof) in
-    ap text_of (answer_lines-ordered a)
-    ∙ text_of-append (head_lines a.verdict) (after_head a)
-    ∙ ap (λ t. H ++ t) (text_of-append (costs_lines a.costs) (after_costs a))
-    ∙ ap (λ t. H ++ (C ++ t)) (text_of-append (floor_line a.floor ∷ []) (after_floor a))
-    ∙ ap (λ t. H ++ (C ++ (F ++ t))) (text_of-append (rows_lines a.rows) (after_rows a))
-    ∙ ap (λ t. H ++ (C ++ (F ++ (R ++ t)))) (text_of-append (tree_lines (codes "proof") a.proof) (after_proof a))
-    ∙ ap (λ t. H ++ (C ++ (F ++ (R ++ (P ++ t))))) (text_of-append (tree_lines (codes "open") a.unfinished) end_lines)
+    let H : List ℕ = with_ends (head_lines a.verdict) in
+    let C : List ℕ = with_ends (costs_lines a.costs) in
+    let F : List ℕ = with_ends (floor_line a.floor ∷ []) in
+    let R : List ℕ = with_ends (rows_lines a.rows) in
+    let P : List ℕ = with_ends (tree_lines (codes "proof") a.proof) in
+    ap with_ends (answer_lines-ordered a)
+    ∙ with_ends-append (head_lines a.verdict) (after_head a)
+    ∙ ap (λ t. H ++ t) (with_ends-append (costs_lines a.costs) (after_costs a))
+    ∙ ap (λ t. H ++ (C ++ t)) (with_ends-append (floor_line a.floor ∷ []) (after_floor a))
+    ∙ ap (λ t. H ++ (C ++ (F ++ t))) (with_ends-append (rows_lines a.rows) (after_rows a))
+    ∙ ap (λ t. H ++ (C ++ (F ++ (R ++ t)))) (with_ends-append (tree_lines (codes "proof") a.proof) (after_proof a))
+    ∙ ap (λ t. H ++ (C ++ (F ++ (R ++ (P ++ t))))) (with_ends-append (tree_lines (codes "open") a.unfinished) end_lines)
 
 -- the same, with the parts as a caller holds them
-pub text-parts : (a answer : AnswerParts) (costs : Option Costs) (rows : List Row) (proof unfinished : Option CapTree) → a ≡ answer → costs ≡ a.costs → rows ≡ a.rows → proof ≡ a.proof → unfinished ≡ a.unfinished →
-    text answer ≡ text_of (head_lines a.verdict) ++ (text_of (costs_lines costs) ++ (text_of (floor_line a.floor ∷ []) ++ (text_of (rows_lines rows) ++ (text_of (tree_lines (codes "proof") proof) ++ (text_of (tree_lines (codes "open") unfinished) ++ text_of end_lines)))))
+pub text-parts : (a answer : AnswerParts) (costs : Option Costs) (rows : List Row) (proof unfinished : Option CapTree) →
+    a ≡ answer → costs ≡ a.costs → rows ≡ a.rows → proof ≡ a.proof → unfinished ≡ a.unfinished →
+    text answer ≡ with_ends (head_lines a.verdict)
+    ++ (with_ends (costs_lines costs)
+    ++ (with_ends (floor_line a.floor ∷ [])
+    ++ (with_ends (rows_lines rows)
+    ++ (with_ends (tree_lines (codes "proof") proof)
+    ++ (with_ends (tree_lines (codes "open") unfinished) ++ with_ends end_lines)))))
 text-parts a answer costs rows proof unfinished same e f g h =
-    let part_costs = ap (λ (x : Option Costs). record { verdict = a.verdict; costs = x; floor = a.floor; rows = rows; proof = proof; unfinished = unfinished }) e in
-    let part_rows = ap (λ (x : List Row). record { verdict = a.verdict; costs = a.costs; floor = a.floor; rows = x; proof = proof; unfinished = unfinished }) f in
-    let part_proof = ap (λ (x : Option CapTree). record { verdict = a.verdict; costs = a.costs; floor = a.floor; rows = a.rows; proof = x; unfinished = unfinished }) g in
-    let part_unfinished = ap (λ (x : Option CapTree). record { verdict = a.verdict; costs = a.costs; floor = a.floor; rows = a.rows; proof = a.proof; unfinished = x }) h in
+    let part_costs = ap (λ (x : Option Costs). record {
+      verdict = a.verdict;
+      costs = x;
+      floor = a.floor;
+      rows = rows;
+      proof = proof;
+      unfinished = unfinished;
+    }) e in
+    let part_rows = ap (λ (x : List Row). record {
+      verdict = a.verdict;
+      costs = a.costs;
+      floor = a.floor;
+      rows = x;
+      proof = proof;
+      unfinished = unfinished;
+    }) f in
+    let part_proof = ap (λ (x : Option CapTree). record {
+      verdict = a.verdict;
+      costs = a.costs;
+      floor = a.floor;
+      rows = a.rows;
+      proof = x;
+      unfinished = unfinished;
+    }) g in
+    let part_unfinished = ap (λ (x : Option CapTree). record {
+      verdict = a.verdict;
+      costs = a.costs;
+      floor = a.floor;
+      rows = a.rows;
+      proof = a.proof;
+      unfinished = x;
+    }) h in
     let held : AnswerParts = record { verdict = a.verdict; costs = costs; floor = a.floor; rows = rows; proof = proof; unfinished = unfinished } in
     let is : held ≡ a = part_costs ∙ part_rows ∙ part_proof ∙ part_unfinished in
     ap text (sym same ∙ sym is) ∙ parts_text held

@@ -34,15 +34,22 @@ pub room_left : (line total : List ℕ) (words : List (List ℕ)) → with_words
 room_left line total words e h = omega (arith, length-with_words line words, ap length e)
 
 -- one more number
-pub numbers_turn : (line numbers : List ℕ) (i d : ℕ) → i < length numbers → with_words line (map decimal (drop i numbers)) ≡ with_words (line ++ 32 ∷ decimal (get_or numbers i d)) (map decimal (drop (i + 1) numbers))
+pub numbers_turn : (line numbers : List ℕ) (i d : ℕ) → i < length numbers →
+    with_words line (map decimal (drop i numbers)) ≡ with_words (line ++ 32 ∷ decimal (get_or numbers i d))
+    (map decimal (drop (i + 1) numbers))
 numbers_turn line numbers i d h = at_drop_more (λ rest. with_words line (map decimal rest)) numbers i d h
 
 -- one more member
-pub members_turn : (line : List ℕ) (members : List Member) (i : ℕ) (d : Member) → i < length members → with_words line (members_words (drop i members)) ≡ with_words (with_words line (member_words (get_or members i d))) (members_words (drop (i + 1) members))
+pub members_turn : (line : List ℕ) (members : List Member) (i : ℕ) (d : Member) → i < length members →
+    with_words line (members_words (drop i members)) ≡ with_words (with_words line (member_words (get_or members i d)))
+    (members_words (drop (i + 1) members))
 members_turn line members i d h =
     at_drop_more (λ rest. with_words line (members_words rest)) members i d h
     ∙ with_words-append line (member_words (get_or members i d)) (members_words (drop (i + 1) members))
 
 -- one more row with its multiplier
-pub parts_turn : (line : List ℕ) (parts : List (ℕ × ℕ)) (i : ℕ) (d : ℕ × ℕ) → i < length parts → with_words line (part_words (drop i parts)) ≡ with_words ((line ++ 32 ∷ decimal (get_or parts i d).0) ++ 32 ∷ decimal (get_or parts i d).1) (part_words (drop (i + 1) parts))
+pub parts_turn : (line : List ℕ) (parts : List (ℕ × ℕ)) (i : ℕ) (d : ℕ × ℕ) → i < length parts →
+    with_words line (part_words (drop i parts))
+    ≡ with_words ((line ++ 32 ∷ decimal (get_or parts i d).0) ++ 32 ∷ decimal (get_or parts i d).1)
+    (part_words (drop (i + 1) parts))
 parts_turn line parts i d h = at_drop_more (λ rest. with_words line (part_words rest)) parts i d h

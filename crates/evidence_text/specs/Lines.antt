@@ -1,11 +1,6 @@
 -- Texts of lines, and what putting them does to a sink.
-use Rattle.std.specs.Prelude.{ℕ, ◌≤◌, List, [], ◌∷◌, ◌++◌, length, map, All, Option, Result, OnOk, OnErr}
-use Rattle.std.specs.List.{concat}
+use Rattle.std.specs.Prelude.{ℕ, ◌≤◌, List, [], ◌∷◌, ◌++◌, length, All, Option, Result, OnOk, OnErr}
 use Rattle.cost_base.specs.Outside.{GotWhole, GotPart, HasCause}
-
--- each line ends with one LF
-abbrev pub text_of : List (List ℕ) → List ℕ
-text_of lines = concat (map (λ line. line ++ 10 ∷ []) lines)
 
 -- no line passes 65,536 bytes
 abbrev pub AreShort : List (List ℕ) → Type 0

@@ -2,7 +2,8 @@
 ghost use Rattle.std.specs.Prelude.{◌≡◌, ℕ, ◌+◌, ◌<◌, ◌≤◌, List, [], ◌∷◌, ◌++◌, length, take};
 ghost use Rattle.cost_base.specs.Decimal.{decimal};
 ghost use Rattle.path_rows.specs.Text.{integer};
-ghost use Rattle.evidence_text.specs.Lines.{text_of, IsPut};
+ghost use Rattle.text_lines.specs.Lines.{with_ends};
+ghost use Rattle.evidence_text.specs.Lines.{IsPut};
 
 use cost_base::{PutFailed, Sink};
 use std::marker::Model;
@@ -88,7 +89,7 @@ impl LineBuffer {
 
     /// Puts the line with its LF into the sink, in one piece.
     pub(crate) fn put<K: Sink>(&mut self, out: &mut K) -> Result<(), PutFailed>
-        ensures { IsPut (K.got out.old) (K.got out.new) (K.faults out.old) (K.faults out.new) (text_of (self.old ∷ [])) result }
+        ensures { IsPut (K.got out.old) (K.got out.new) (K.faults out.old) (K.faults out.new) (with_ends (self.old ∷ [])) result }
     {
         self.bytes[self.count] = b'\n';
         out.put(&self.bytes[..self.count + 1])

@@ -191,6 +191,7 @@ fn write_tighten(var: u32, side: Side, value: u16, row: u64, line: &mut LineBuff
     line.push_number(u128::from(row));
 }
 
+/// The word of an end of a range: `low` or `high`.
 pub fn side_word(side: Side) -> &'static [u8]
     ensures { result.now ≡ side_word side }
 {
@@ -222,6 +223,7 @@ fn write_halve(var: u32, value: u16, wide: &WideAt, line: &mut LineBuffer)
     push_members(wide.basis.as_slice(), line);
 }
 
+/// The word of a step of the arithmetic: `add`, `sub`, `mul`, `div`, `lcm` or `scale`.
 pub fn step_word(step: StepName) -> &'static [u8]
     ensures { result.now ≡ step_word step }
 {

@@ -32,8 +32,11 @@ told_more told n said = record {
   items = told.items ++ item_in n said;
 }
 
-first_push : {X : Type 0} (pick : Statement → Option X) (file : List (List ℕ)) (line : List ℕ) → first_of (filter_map (λ l. pick (said_by l)) (file ++ line ∷ [])) ≡ option_or (first_of (filter_map (λ l. pick (said_by l)) file)) (pick (said_by line))
-first_push {X} pick file line = ap first_of (filter_map-append (λ l. pick (said_by l)) file (line ∷ [])) ∙ cases (pick (said_by line)) (filter_map (λ l. pick (said_by l)) file)
+first_push : {X : Type 0} (pick : Statement → Option X) (file : List (List ℕ)) (line : List ℕ) →
+    first_of (filter_map (λ l. pick (said_by l)) (file ++ line ∷ []))
+    ≡ option_or (first_of (filter_map (λ l. pick (said_by l)) file)) (pick (said_by line))
+first_push {X} pick file line = ap first_of (filter_map-append (λ l. pick (said_by l)) file (line ∷ []))
+    ∙ cases (pick (said_by line)) (filter_map (λ l. pick (said_by l)) file)
   where
     cases : (o : Option X) (xs : List X) → first_of (xs ++ cons_option o []) ≡ option_or (first_of xs) o
     cases None [] = refl
@@ -42,16 +45,19 @@ first_push {X} pick file line = ap first_of (filter_map-append (λ l. pick (said
     cases (Some x) (y ∷ ys) = refl
 
 items_push : (n : ℕ) (file : List (List ℕ)) (line : List ℕ) → items_from n (file ++ line ∷ []) ≡ items_from n file ++ item_in (n + length file) (said_by line)
-items_push n [] line = let place : n ≡ n + length {A = List ℕ} [] = omega arith in append-nil (item_in n (said_by line)) ∙ ap (λ (k : ℕ). item_in k (said_by line)) place
+items_push n [] line = let place : n ≡ n + length {A = List ℕ} [] = omega arith in append-nil (item_in n (said_by line))
+    ∙ ap (λ (k : ℕ). item_in k (said_by line)) place
 items_push n (first ∷ more) line =
     let place : n + 1 + length more ≡ n + length (first ∷ more) = omega arith in
-    ap (λ (rest : List Item). item_in n (said_by first) ++ rest) (items_push (n + 1) more line ∙ ap (λ (k : ℕ). items_from (n + 1) more ++ item_in k (said_by line)) place)
+    ap (λ (rest : List Item). item_in n (said_by first) ++ rest) (items_push (n + 1) more line
+    ∙ ap (λ (k : ℕ). items_from (n + 1) more ++ item_in k (said_by line)) place)
     ∙ sym (append_assoc (item_in n (said_by first)) (items_from (n + 1) more) (item_in (n + length (first ∷ more)) (said_by line)))
 
 told_push : (file : List (List ℕ)) (line : List ℕ) → told_by (file ++ line ∷ []) ≡ told_more (told_by file) (length file + 1) (said_by line)
 told_push file line =
     let spoken : list_any (λ l. speaks (said_by l)) (file ++ line ∷ []) ≡ (list_any (λ l. speaks (said_by l)) file || speaks (said_by line)) =
-    list_any-append (λ l. speaks (said_by l)) file (line ∷ []) ∙ ap (λ (b : Bool). list_any (λ l. speaks (said_by l)) file || b) (or_none (speaks (said_by line))) in
+    list_any-append (λ l. speaks (said_by l)) file (line ∷ [])
+    ∙ ap (λ (b : Bool). list_any (λ l. speaks (said_by l)) file || b) (or_none (speaks (said_by line))) in
     let area = first_push area_in file line in
     let cost = first_push cost_in file line in
     let place : 1 + length file ≡ length file + 1 = omega arith in
@@ -67,7 +73,10 @@ alone None = refl
 alone (Some x) = refl
 
 -- a line without a fault adds what it says
-told_is : (spoken : Bool) (area cost : Option ℕ) (items : List Item) (n : ℕ) (said : Statement) → fault_said (record { spoken = spoken; area = area; default_cost = cost; items = items }) said ≡ None → told_with (record { spoken = spoken; area = area; default_cost = cost; items = items }) n said ≡ told_more (record { spoken = spoken; area = area; default_cost = cost; items = items }) n said
+told_is : (spoken : Bool) (area cost : Option ℕ) (items : List Item) (n : ℕ) (said : Statement) →
+    fault_said (record { spoken = spoken; area = area; default_cost = cost; items = items }) said ≡ None →
+    told_with (record { spoken = spoken; area = area; default_cost = cost; items = items }) n said
+    ≡ told_more (record { spoken = spoken; area = area; default_cost = cost; items = items }) n said
 told_is true area cost items n Passed none = cc (alone area, alone cost, append-nil items)
 told_is false area cost items n Passed none = cc (alone area, alone cost, append-nil items)
 told_is true area cost items n Header none = absurd (cc)
@@ -92,7 +101,9 @@ pub record ReadTo (bytes : List ℕ) (left : TextLeft) (told : Told) : Type 0 wh
   pub told_is : told ≡ told_by file
   pub faults : line_faults [] (lines bytes) ≡ line_faults file (lines left.bytes)
 
-pub read_begin : (bytes : List ℕ) (left : TextLeft) (told : Told) → left ≡ record { bytes = bytes; read = 0; ended = true; longest = 65536 } → told ≡ told_by [] → ReadTo bytes left told
+pub read_begin : (bytes : List ℕ) (left : TextLeft) (told : Told) →
+    left ≡ record { bytes = bytes; read = 0; ended = true; longest = 65536 } → told ≡ told_by [] →
+    ReadTo bytes left told
 read_begin bytes left told is none =
     let same : left.bytes ≡ bytes = ap (λ (t : TextLeft). t.bytes) is in
     record {
@@ -109,13 +120,19 @@ short_fault : (told : Told) (text : List ℕ) → length text ≤ 65536 → faul
 short_fault told text short = cond-true (nat_le (length text) 65536) (fault_said told (said_by text)) (Some BadRequestLine) (le-leb (length text) 65536 short)
 
 -- the faults from a line on
-faults_next : (bytes : List ℕ) (left : TextLeft) (told : Told) (line : List ℕ) (more : List (List ℕ)) (fault : Option RequestFault) (to : ReadTo bytes left told) → lines left.bytes ≡ line ∷ more → fault_of told line ≡ fault → line_faults [] (lines bytes) ≡ faults_at (left.read + 1) fault ++ line_faults (to.file ++ line ∷ []) more
+faults_next : (bytes : List ℕ) (left : TextLeft) (told : Told) (line : List ℕ) (more : List (List ℕ))
+    (fault : Option RequestFault) (to : ReadTo bytes left told) → lines left.bytes ≡ line ∷ more →
+    fault_of told line ≡ fault →
+    line_faults [] (lines bytes) ≡ faults_at (left.read + 1) fault ++ line_faults (to.file ++ line ∷ []) more
 faults_next bytes left told line more fault to is found =
     to.faults ∙ ap (line_faults to.file) is
-    ∙ ap (λ (o : Option RequestFault). faults_at (length to.file + 1) o ++ line_faults (to.file ++ line ∷ []) more) (ap (λ (t : Told). fault_of t line) (sym to.told_is) ∙ found)
+    ∙ ap (λ (o : Option RequestFault). faults_at (length to.file + 1) o ++ line_faults (to.file ++ line ∷ []) more)
+    (ap (λ (t : Told). fault_of t line) (sym to.told_is) ∙ found)
     ∙ ap (λ (k : ℕ). faults_at (k + 1) fault ++ line_faults (to.file ++ line ∷ []) more) (sym to.read)
 
-pub read_more : (bytes : List ℕ) (left next : TextLeft) (told after : Told) (line : Line) → ReadTo bytes left told → IsLineRead left next line → fault_said told (said_by line.text.now) ≡ None → after ≡ told_with told line.number (said_by line.text.now) → ReadTo bytes next after
+pub read_more : (bytes : List ℕ) (left next : TextLeft) (told after : Told) (line : Line) → ReadTo bytes left told →
+    IsLineRead left next line → fault_said told (said_by line.text.now) ≡ None →
+    after ≡ told_with told line.number (said_by line.text.now) → ReadTo bytes next after
 read_more bytes left next told after line to read lawful is =
     let text = line.text.now in
     let found : fault_of told text ≡ None = short_fault told text (omega (arith, read.1.within, to.longest)) ∙ lawful in
@@ -134,28 +151,39 @@ read_more bytes left next told after line to read lawful is =
     }
 
 -- the fault of a line is the first where no line before it has one
-tells_first : (n : ℕ) (fault : Option RequestFault) (more others : List FaultyLine) (stop : RequestStop) → TellsReading (fault_in_line n fault) stop → TellsReading (first_of ((faults_at n fault ++ more) ++ others)) stop
+tells_first : (n : ℕ) (fault : Option RequestFault) (more others : List FaultyLine) (stop : RequestStop) →
+    TellsReading (fault_in_line n fault) stop → TellsReading (first_of ((faults_at n fault ++ more) ++ others)) stop
 tells_first n fault more others OutOfMemory tells = tt
 tells_first n None more others (StopRefused told line) tells = absurd (cc)
 tells_first n (Some fault) more others (StopRefused told line) tells = tells
 
-refused_at : (bytes : List ℕ) (left : TextLeft) (told : Told) (line : List ℕ) (more : List (List ℕ)) (fault : Option RequestFault) (number : ℕ) (stop : RequestStop) → ReadTo bytes left told → lines left.bytes ≡ line ∷ more → fault_of told line ≡ fault → number ≡ left.read + 1 → TellsReading (fault_in_line number fault) stop → TellsReading (request_fault bytes) stop
+refused_at : (bytes : List ℕ) (left : TextLeft) (told : Told) (line : List ℕ) (more : List (List ℕ))
+    (fault : Option RequestFault) (number : ℕ) (stop : RequestStop) → ReadTo bytes left told →
+    lines left.bytes ≡ line ∷ more → fault_of told line ≡ fault → number ≡ left.read + 1 →
+    TellsReading (fault_in_line number fault) stop → TellsReading (request_fault bytes) stop
 refused_at bytes left told line more fault number stop to is found counted tells =
     subst (λ (o : Option FaultyLine). TellsReading o stop)
     (ap (λ (faults : List FaultyLine). first_of (faults ++ end_faults (lines bytes))) (sym (faults_next bytes left told line more fault to is found)))
-    (tells_first (left.read + 1) fault (line_faults (to.file ++ line ∷ []) more) (end_faults (lines bytes)) stop (subst (λ (n : ℕ). TellsReading (fault_in_line n fault) stop) counted tells))
+    (tells_first (left.read + 1) fault (line_faults (to.file ++ line ∷ []) more) (end_faults (lines bytes)) stop
+    (subst (λ (n : ℕ). TellsReading (fault_in_line n fault) stop) counted tells))
 
 -- a line is refused for what it says
-pub read_refused : (bytes : List ℕ) (left next : TextLeft) (told : Told) (line : Line) (stop : RequestStop) → ReadTo bytes left told → IsLineRead left next line → TellsReading (fault_in_line line.number (fault_said told (said_by line.text.now))) stop → TellsReading (request_fault bytes) stop
+pub read_refused : (bytes : List ℕ) (left next : TextLeft) (told : Told) (line : Line) (stop : RequestStop) →
+    ReadTo bytes left told → IsLineRead left next line →
+    TellsReading (fault_in_line line.number (fault_said told (said_by line.text.now))) stop →
+    TellsReading (request_fault bytes) stop
 read_refused bytes left next told line stop to read tells =
     refused_at bytes left told line.text.now (lines next.bytes) (fault_said told (said_by line.text.now)) line.number stop to read.0.first.first
     (short_fault told line.text.now (omega (arith, read.1.within, to.longest))) read.1.counted tells
 
 -- a line is refused for its length
-pub read_long : (bytes : List ℕ) (left next : TextLeft) (told : Told) (long : LongLine) (stop : RequestStop) → ReadTo bytes left told → IsLongLine left next long → TellsReading (Some (fault_at long.number BadRequestLine)) stop → TellsReading (request_fault bytes) stop
+pub read_long : (bytes : List ℕ) (left next : TextLeft) (told : Told) (long : LongLine) (stop : RequestStop) →
+    ReadTo bytes left told → IsLongLine left next long →
+    TellsReading (Some (fault_at long.number BadRequestLine)) stop → TellsReading (request_fault bytes) stop
 read_long bytes left next told long stop to (line, over, is_long) tells =
     refused_at bytes left told line (lines next.bytes) (Some BadRequestLine) long.number stop to over.first.first
-    (cond-false (nat_le (length line) 65536) (fault_said told (said_by line)) (Some BadRequestLine) (lt-leb (length line) 65536 (omega (arith, is_long.over, to.longest))))
+    (cond-false (nat_le (length line) 65536) (fault_said told (said_by line)) (Some BadRequestLine)
+    (lt-leb (length line) 65536 (omega (arith, is_long.over, to.longest))))
     is_long.counted tells
 
 -- at the end, the lines that were read are all lines, and none of them has a fault
@@ -170,20 +198,30 @@ read_all bytes left told to end =
     record {
       told_is = ap told_by all ∙ sym to.told_is;
       read_is = ap length all ∙ sym to.read;
-      fault = ap (λ (faults : List FaultyLine). first_of (faults ++ end_faults (lines bytes))) (to.faults ∙ ap (λ (b : List ℕ). line_faults to.file (lines b)) end);
+      fault = ap (λ (faults : List FaultyLine). first_of (faults ++ end_faults (lines bytes)))
+          (to.faults ∙ ap (λ (b : List ℕ). line_faults to.file (lines b)) end);
     }
 
-pub read_made : (bytes : List ℕ) (left : TextLeft) (told : Told) (asked : Asked) → ReadTo bytes left told → left.bytes ≡ [] → is_some told.area ≡ true → asked ≡ asked_of told → (request_fault bytes ≡ None) × (asked ≡ asked_by bytes)
+pub read_made : (bytes : List ℕ) (left : TextLeft) (told : Told) (asked : Asked) → ReadTo bytes left told →
+    left.bytes ≡ [] → is_some told.area ≡ true → asked ≡ asked_of told → (request_fault bytes ≡ None)
+    × (asked ≡ asked_by bytes)
 read_made bytes left told asked to end some is =
     let done = read_all bytes left told to end in (
-      done.fault ∙ ap first_of (cond-true (is_some (told_by (lines bytes)).area) [] (fault_at (length (lines bytes) + 1) BadRequestLine ∷ []) (ap (λ (t : Told). is_some t.area) done.told_is ∙ some)),
+      done.fault ∙ ap first_of (cond-true (is_some (told_by (lines bytes)).area) []
+          (fault_at (length (lines bytes) + 1) BadRequestLine ∷ [])
+          (ap (λ (t : Told). is_some t.area) done.told_is ∙ some)),
       is ∙ ap asked_of (sym done.told_is),
     )
 
-pub read_missing : (bytes : List ℕ) (left : TextLeft) (told : Told) (lines_read : ℕ) (stop : RequestStop) → ReadTo bytes left told → left.bytes ≡ [] → lines_read ≡ left.read → is_some told.area ≡ false → TellsReading (Some (fault_at (lines_read + 1) BadRequestLine)) stop → TellsReading (request_fault bytes) stop
+pub read_missing : (bytes : List ℕ) (left : TextLeft) (told : Told) (lines_read : ℕ) (stop : RequestStop) →
+    ReadTo bytes left told → left.bytes ≡ [] → lines_read ≡ left.read → is_some told.area ≡ false →
+    TellsReading (Some (fault_at (lines_read + 1) BadRequestLine)) stop → TellsReading (request_fault bytes) stop
 read_missing bytes left told lines_read stop to end count none tells =
     let done = read_all bytes left told to end in
     subst (λ (o : Option FaultyLine). TellsReading o stop)
-    (sym (done.fault ∙ ap first_of (cond-false (is_some (told_by (lines bytes)).area) [] (fault_at (length (lines bytes) + 1) BadRequestLine ∷ []) (ap (λ (t : Told). is_some t.area) done.told_is ∙ none))
+    (sym (done.fault ∙ ap first_of
+    (cond-false (is_some (told_by (lines bytes)).area) []
+    (fault_at (length (lines bytes) + 1) BadRequestLine ∷ [])
+    (ap (λ (t : Told). is_some t.area) done.told_is ∙ none))
     ∙ ap (λ (n : ℕ). Some (fault_at (n + 1) BadRequestLine)) (done.read_is ∙ sym count)))
     tells

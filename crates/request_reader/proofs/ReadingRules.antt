@@ -31,7 +31,8 @@ bounds_keep None hi = tt
 bounds_keep (Some lo) None = tt
 bounds_keep (Some lo) (Some hi) = by_test (nat_le 1 lo) (nat_le lo hi) (nat_le hi 65535) (leb-true 1 lo) (leb-true lo hi)
   where
-    by_test : (a b c : Bool) → (a ≡ true → 1 ≤ lo) → (b ≡ true → lo ≤ hi) → KeepBounds (cond (a && b && c) (Ok (record { lowest = lo; highest = hi })) (Err BadBounds))
+    by_test : (a b c : Bool) → (a ≡ true → 1 ≤ lo) → (b ≡ true → lo ≤ hi) →
+        KeepBounds (cond (a && b && c) (Ok (record { lowest = lo; highest = hi })) (Err BadBounds))
     by_test true true true least ordered = (least refl, ordered refl)
     by_test true true false least ordered = tt
     by_test true false c least ordered = tt
@@ -49,9 +50,12 @@ free_keeps : (ws : List (List ℕ)) → KeepsRules (free_line ws)
 free_keeps [] = tt
 free_keeps (a ∷ []) = tt
 free_keeps (a ∷ b ∷ []) = tt
-free_keeps (all ∷ lo ∷ hi ∷ []) = either (same_bytes all (codes "all")) (free_all (bounds_said lo hi)) off (free_all_keeps (bounds_said lo hi) (bounds_keep (bound lo) (bound hi))) tt
+free_keeps (all ∷ lo ∷ hi ∷ []) =
+    either (same_bytes all (codes "all")) (free_all (bounds_said lo hi)) off
+    (free_all_keeps (bounds_said lo hi) (bounds_keep (bound lo) (bound hi))) tt
 free_keeps (router ∷ interface ∷ lo ∷ hi ∷ []) =
-    either (is_router router) (free_one router interface (bounds_said lo hi)) off (free_one_keeps router interface (bounds_said lo hi) (bounds_keep (bound lo) (bound hi))) tt
+    either (is_router router) (free_one router interface (bounds_said lo hi)) off
+    (free_one_keeps router interface (bounds_said lo hi) (bounds_keep (bound lo) (bound hi))) tt
 free_keeps (a ∷ b ∷ c ∷ d ∷ e ∷ more) = tt
 
 fix_keeps : (ws : List (List ℕ)) → KeepsRules (fix_line ws)
@@ -105,13 +109,16 @@ path_keeps (word ∷ words) = said_keeps (route_of (word ∷ to_without words)) 
 
 line_keeps : (word : List ℕ) (ws : List (List ℕ)) → KeepsRules (line_of word ws)
 line_keeps word ws =
-    one_of (same_bytes word (codes "path")) (same_bytes word (codes "free")) (same_bytes word (codes "fix")) (same_bytes word (codes "symmetric")) (same_bytes word (codes "area"))
+    one_of (same_bytes word (codes "path")) (same_bytes word (codes "free")) (same_bytes word (codes "fix"))
+    (same_bytes word (codes "symmetric")) (same_bytes word (codes "area"))
     (same_bytes word (codes "default-cost")) (same_bytes word (codes "ospfcost"))
     (path_line ws) (free_line ws) (fix_line ws) (symmetric_line ws) (area_line ws) (cost_line ws) (header_line ws)
     (path_keeps ws) (free_keeps ws) (fix_keeps ws) (symmetric_keeps ws) (area_keeps ws) (cost_keeps ws) (header_keeps ws)
   where
     one_of :
-        (a b c d e f g : Bool) (p q r s t u v : Statement) → KeepsRules p → KeepsRules q → KeepsRules r → KeepsRules s → KeepsRules t → KeepsRules u → KeepsRules v → KeepsRules (cond a p (cond b q (cond c r (cond d s (cond e t (cond f u (cond g v off)))))))
+        (a b c d e f g : Bool) (p q r s t u v : Statement) → KeepsRules p → KeepsRules q → KeepsRules r → KeepsRules s →
+        KeepsRules t → KeepsRules u → KeepsRules v →
+        KeepsRules (cond a p (cond b q (cond c r (cond d s (cond e t (cond f u (cond g v off)))))))
     one_of a b c d e f g p q r s t u v kp kq kr ks kt ku kv =
         either a p _ kp (either b q _ kq (either c r _ kr (either d s _ ks (either e t _ kt (either f u _ ku (either g v off kv tt))))))
 

@@ -3,6 +3,7 @@ use Rattle.std.specs.Prelude.{ℕ, List, [], ◌∷◌, ◌==◌, ◌&&◌, nat_
 use Rattle.cost_base.specs.Lists.{same_bytes}
 use Rattle.text_lines.specs.Lines.{words, starts_comment}
 use Rattle.text_lines.specs.Numbers.{number, number_within, area}
+use Rattle.text_lines.specs.WordLists.{all_said}
 use Rattle.request_reader.specs.declared.Part.{Part}
 use Rattle.request_reader.specs.declared.Part.TheVariants.{Router, Interface}
 use Rattle.request_reader.specs.declared.Wish.TheVariants.{FreeAll, Free, Fix, Path, SymmetricAll, Symmetric}
@@ -103,13 +104,8 @@ part_of_hop (Some hop) = Some (Interface hop.0 hop.1)
 abbrev pub part_of : List ℕ → Option Part
 part_of word = if is_router word then Some (Router word) else part_of_hop (hop_of word)
 
-abbrev pub with_part : Option Part → Option (List Part) → Option (List Part)
-with_part (Some part) (Some parts) = Some (part ∷ parts)
-with_part _ _ = None
-
 abbrev pub parts_of : List (List ℕ) → Option (List Part)
-parts_of [] = Some []
-parts_of (word ∷ words) = with_part (part_of word) (parts_of words)
+parts_of words = all_said part_of words
 
 -- what a path takes away: nothing without the word `without`, and at least one part behind it
 abbrev pub taken_away : Option (List (List ℕ)) → Option (List Part)

@@ -26,7 +26,8 @@ use Rattle.set_reader.proofs.SetLaws.{wrong_alike}
 
 -- what some lines say together, and one line more
 spoken_push : (file : List (List ℕ)) (line : List ℕ) → (told_by (file ++ line ∷ [])).spoken ≡ ((told_by file).spoken || speaks (said_by line))
-spoken_push file line = list_any-append (λ l. speaks (said_by l)) file (line ∷ []) ∙ ap (λ (b : Bool). list_any (λ l. speaks (said_by l)) file || b) (or_none (speaks (said_by line)))
+spoken_push file line = list_any-append (λ l. speaks (said_by l)) file (line ∷ [])
+    ∙ ap (λ (b : Bool). list_any (λ l. speaks (said_by l)) file || b) (or_none (speaks (said_by line)))
   where
     or_none : (b : Bool) → (b || false) ≡ b
     or_none true = refl
@@ -36,12 +37,15 @@ sets_push : (file : List (List ℕ)) (line : List ℕ) → (told_by (file ++ lin
 sets_push file line = filter_map-append (λ l. numbers_in (said_by l)) file (line ∷ [])
 
 -- the sets of the lines and of one more, each in rising order
-orders_push : (numbers : Option (List ℕ)) (said sets after : List (List ℕ)) → AllZip IsInOrder said sets → Adds numbers sets after → AllZip IsInOrder (said ++ cons_option numbers []) after
+orders_push : (numbers : Option (List ℕ)) (said sets after : List (List ℕ)) → AllZip IsInOrder said sets →
+    Adds numbers sets after → AllZip IsInOrder (said ++ cons_option numbers []) after
 orders_push None said sets after orders adds = rw (adds, append-nil said) orders
 orders_push (Some numbers) said sets after orders adds = rw adds.2 (AllZip-push IsInOrder said sets numbers adds.0 orders adds.1)
 
 -- sets in rising order make the same faults
-faults_alike : (requests : List Request) (spoken : Bool) (said sets : List (List ℕ)) (statement : Statement) → AllZip IsInOrder said sets → fault_said requests (record { spoken = spoken; sets = said }) statement ≡ fault_said requests (record { spoken = spoken; sets = sets }) statement
+faults_alike : (requests : List Request) (spoken : Bool) (said sets : List (List ℕ)) (statement : Statement) →
+    AllZip IsInOrder said sets → fault_said requests (record { spoken = spoken; sets = said }) statement
+    ≡ fault_said requests (record { spoken = spoken; sets = sets }) statement
 faults_alike requests spoken said sets Passed orders = refl
 faults_alike requests spoken said sets Header orders = refl
 faults_alike requests spoken said sets Off orders = refl
@@ -59,7 +63,9 @@ pub record ReadTo (p : DesignProblem) (bytes : List ℕ) (left : TextLeft) (so_f
   pub orders : AllZip IsInOrder (told_by file).sets so_far.sets
   pub faults : line_faults p.paths [] (lines bytes) ≡ line_faults p.paths file (lines left.bytes)
 
-pub read_begin : (p : DesignProblem) (bytes : List ℕ) (left : TextLeft) (so_far : SoFar) → left ≡ record { bytes = bytes; read = 0; ended = true; longest = 65536 } → so_far ≡ record { problem = p; spoken = false; sets = [] } → ReadTo p bytes left so_far
+pub read_begin : (p : DesignProblem) (bytes : List ℕ) (left : TextLeft) (so_far : SoFar) →
+    left ≡ record { bytes = bytes; read = 0; ended = true; longest = 65536 } →
+    so_far ≡ record { problem = p; spoken = false; sets = [] } → ReadTo p bytes left so_far
 read_begin p bytes left so_far is none =
     let same : left.bytes ≡ bytes = ap (λ (t : TextLeft). t.bytes) is in
     record {
@@ -74,24 +80,36 @@ read_begin p bytes left so_far is none =
     }
 
 -- what the reader finds at a statement is what the lines before it say of it
-fault_found : (p : DesignProblem) (bytes : List ℕ) (left : TextLeft) (so_far : SoFar) (statement : Statement) (to : ReadTo p bytes left so_far) → fault_said p.paths (told_by to.file) statement ≡ fault_said so_far.problem.paths (told_of so_far) statement
+fault_found : (p : DesignProblem) (bytes : List ℕ) (left : TextLeft) (so_far : SoFar) (statement : Statement)
+    (to : ReadTo p bytes left so_far) →
+    fault_said p.paths (told_by to.file) statement ≡ fault_said so_far.problem.paths (told_of so_far) statement
 fault_found p bytes left so_far statement to =
     faults_alike p.paths (told_by to.file).spoken (told_by to.file).sets so_far.sets statement to.orders
     ∙ ap (λ (b : Bool). fault_said p.paths (record { spoken = b; sets = so_far.sets }) statement) (sym to.spoken)
     ∙ ap (λ (q : DesignProblem). fault_said q.paths (told_of so_far) statement) (sym to.problem)
 
 -- a line of lawful length has the fault of what it says
-short_fault : (requests : List Request) (told : Told) (text : List ℕ) → length text ≤ 65536 → fault_of requests told text ≡ fault_said requests told (said_by text)
-short_fault requests told text short = cond-true (nat_le (length text) 65536) (fault_said requests told (said_by text)) (Some BadSetLine) (le-leb (length text) 65536 short)
+short_fault : (requests : List Request) (told : Told) (text : List ℕ) → length text ≤ 65536 →
+    fault_of requests told text ≡ fault_said requests told (said_by text)
+short_fault requests told text short =
+    cond-true (nat_le (length text) 65536) (fault_said requests told (said_by text)) (Some BadSetLine)
+    (le-leb (length text) 65536 short)
 
 -- the faults from a line on
-faults_next : (p : DesignProblem) (bytes : List ℕ) (left : TextLeft) (so_far : SoFar) (line : List ℕ) (more : List (List ℕ)) (fault : Option SetFault) (to : ReadTo p bytes left so_far) → lines left.bytes ≡ line ∷ more → fault_of p.paths (told_by to.file) line ≡ fault → line_faults p.paths [] (lines bytes) ≡ faults_at (left.read + 1) fault ++ line_faults p.paths (to.file ++ line ∷ []) more
+faults_next : (p : DesignProblem) (bytes : List ℕ) (left : TextLeft) (so_far : SoFar) (line : List ℕ)
+    (more : List (List ℕ)) (fault : Option SetFault) (to : ReadTo p bytes left so_far) →
+    lines left.bytes ≡ line ∷ more → fault_of p.paths (told_by to.file) line ≡ fault →
+    line_faults p.paths [] (lines bytes) ≡ faults_at (left.read + 1) fault
+    ++ line_faults p.paths (to.file ++ line ∷ []) more
 faults_next p bytes left so_far line more fault to is found =
     to.faults ∙ ap (line_faults p.paths to.file) is
     ∙ ap (λ (o : Option SetFault). faults_at (length to.file + 1) o ++ line_faults p.paths (to.file ++ line ∷ []) more) found
     ∙ ap (λ (k : ℕ). faults_at (k + 1) fault ++ line_faults p.paths (to.file ++ line ∷ []) more) (sym to.read)
 
-pub read_more : (p : DesignProblem) (bytes : List ℕ) (left next : TextLeft) (so_far after : SoFar) (line : Line) → ReadTo p bytes left so_far → IsLineRead left next line → fault_said so_far.problem.paths (told_of so_far) (said_by line.text.now) ≡ None → TakesLine so_far (said_by line.text.now) after → ReadTo p bytes next after
+pub read_more : (p : DesignProblem) (bytes : List ℕ) (left next : TextLeft) (so_far after : SoFar) (line : Line) →
+    ReadTo p bytes left so_far → IsLineRead left next line →
+    fault_said so_far.problem.paths (told_of so_far) (said_by line.text.now) ≡ None →
+    TakesLine so_far (said_by line.text.now) after → ReadTo p bytes next after
 read_more p bytes left next so_far after line to read lawful taken =
     let text = line.text.now in
     let found : fault_of p.paths (told_by to.file) text ≡ None =
@@ -108,28 +126,42 @@ read_more p bytes left next so_far after line to read lawful taken =
     }
 
 -- the fault of a line is the first where no line before it has one
-tells_first : (n : ℕ) (fault : Option SetFault) (more others : List FaultyLine) (stop : SetStop) → TellsReading (fault_in_line n fault) stop → TellsReading (first_of ((faults_at n fault ++ more) ++ others)) stop
+tells_first : (n : ℕ) (fault : Option SetFault) (more others : List FaultyLine) (stop : SetStop) →
+    TellsReading (fault_in_line n fault) stop → TellsReading (first_of ((faults_at n fault ++ more) ++ others)) stop
 tells_first n fault more others OutOfMemory tells = tt
 tells_first n None more others (Refused told line) tells = absurd (cc)
 tells_first n (Some fault) more others (Refused told line) tells = tells
 
-refused_at : (p : DesignProblem) (bytes : List ℕ) (left : TextLeft) (so_far : SoFar) (line : List ℕ) (more : List (List ℕ)) (fault : Option SetFault) (number : ℕ) (stop : SetStop) (to : ReadTo p bytes left so_far) → lines left.bytes ≡ line ∷ more → fault_of p.paths (told_by to.file) line ≡ fault → number ≡ left.read + 1 → TellsReading (fault_in_line number fault) stop → TellsReading (set_fault p bytes) stop
+refused_at : (p : DesignProblem) (bytes : List ℕ) (left : TextLeft) (so_far : SoFar) (line : List ℕ)
+    (more : List (List ℕ)) (fault : Option SetFault) (number : ℕ) (stop : SetStop) (to : ReadTo p bytes left so_far) →
+    lines left.bytes ≡ line ∷ more → fault_of p.paths (told_by to.file) line ≡ fault → number ≡ left.read + 1 →
+    TellsReading (fault_in_line number fault) stop → TellsReading (set_fault p bytes) stop
 refused_at p bytes left so_far line more fault number stop to is found counted tells =
     subst (λ (o : Option FaultyLine). TellsReading o stop)
     (ap (λ (faults : List FaultyLine). first_of (faults ++ end_faults (lines bytes))) (sym (faults_next p bytes left so_far line more fault to is found)))
-    (tells_first (left.read + 1) fault (line_faults p.paths (to.file ++ line ∷ []) more) (end_faults (lines bytes)) stop (subst (λ (n : ℕ). TellsReading (fault_in_line n fault) stop) counted tells))
+    (tells_first (left.read + 1) fault (line_faults p.paths (to.file ++ line ∷ []) more) (end_faults (lines bytes)) stop
+    (subst (λ (n : ℕ). TellsReading (fault_in_line n fault) stop) counted tells))
 
 -- a line is refused for what it says
-pub read_refused : (p : DesignProblem) (bytes : List ℕ) (left next : TextLeft) (so_far : SoFar) (line : Line) (stop : SetStop) → ReadTo p bytes left so_far → IsLineRead left next line → TellsReading (fault_in_line line.number (fault_said so_far.problem.paths (told_of so_far) (said_by line.text.now))) stop → TellsReading (set_fault p bytes) stop
+pub read_refused : (p : DesignProblem) (bytes : List ℕ) (left next : TextLeft) (so_far : SoFar) (line : Line)
+    (stop : SetStop) → ReadTo p bytes left so_far → IsLineRead left next line →
+    TellsReading (fault_in_line line.number (fault_said so_far.problem.paths (told_of so_far) (said_by line.text.now)))
+    stop → TellsReading (set_fault p bytes) stop
 read_refused p bytes left next so_far line stop to read tells =
-    refused_at p bytes left so_far line.text.now (lines next.bytes) (fault_said so_far.problem.paths (told_of so_far) (said_by line.text.now)) line.number stop to read.0.first.first
-    (short_fault p.paths (told_by to.file) line.text.now (omega (arith, read.1.within, to.longest)) ∙ fault_found p bytes left so_far (said_by line.text.now) to) read.1.counted tells
+    refused_at p bytes left so_far line.text.now (lines next.bytes)
+    (fault_said so_far.problem.paths (told_of so_far) (said_by line.text.now)) line.number stop to
+    read.0.first.first
+    (short_fault p.paths (told_by to.file) line.text.now (omega (arith, read.1.within, to.longest))
+    ∙ fault_found p bytes left so_far (said_by line.text.now) to) read.1.counted tells
 
 -- a line is refused for its length
-pub read_long : (p : DesignProblem) (bytes : List ℕ) (left next : TextLeft) (so_far : SoFar) (long : LongLine) (stop : SetStop) → ReadTo p bytes left so_far → IsLongLine left next long → TellsReading (Some (fault_at long.number BadSetLine)) stop → TellsReading (set_fault p bytes) stop
+pub read_long : (p : DesignProblem) (bytes : List ℕ) (left next : TextLeft) (so_far : SoFar) (long : LongLine)
+    (stop : SetStop) → ReadTo p bytes left so_far → IsLongLine left next long →
+    TellsReading (Some (fault_at long.number BadSetLine)) stop → TellsReading (set_fault p bytes) stop
 read_long p bytes left next so_far long stop to (line, over, is_long) tells =
     refused_at p bytes left so_far line (lines next.bytes) (Some BadSetLine) long.number stop to over.first.first
-    (cond-false (nat_le (length line) 65536) (fault_said p.paths (told_by to.file) (said_by line)) (Some BadSetLine) (lt-leb (length line) 65536 (omega (arith, is_long.over, to.longest))))
+    (cond-false (nat_le (length line) 65536) (fault_said p.paths (told_by to.file) (said_by line)) (Some BadSetLine)
+    (lt-leb (length line) 65536 (omega (arith, is_long.over, to.longest))))
     is_long.counted tells
 
 -- at the end, the lines that were read are all lines, and none of them has a fault
@@ -139,24 +171,30 @@ record ReadAll (p : DesignProblem) (bytes : List ℕ) (read : ℕ) (so_far : SoF
   read_is : length (lines bytes) ≡ read
   fault : set_fault p bytes ≡ first_of (end_faults (lines bytes))
 
-read_all : (p : DesignProblem) (bytes : List ℕ) (left : TextLeft) (so_far : SoFar) → ReadTo p bytes left so_far → left.bytes ≡ [] → ReadAll p bytes left.read so_far
+read_all : (p : DesignProblem) (bytes : List ℕ) (left : TextLeft) (so_far : SoFar) → ReadTo p bytes left so_far →
+    left.bytes ≡ [] → ReadAll p bytes left.read so_far
 read_all p bytes left so_far to end =
     let all : lines bytes ≡ to.file = to.all ∙ ap (λ (b : List ℕ). to.file ++ lines b) end ∙ append-nil to.file in
     record {
       spoken = ap (λ (file : List (List ℕ)). (told_by file).spoken) all ∙ sym to.spoken;
       orders = rw all to.orders;
       read_is = ap length all ∙ sym to.read;
-      fault = ap (λ (faults : List FaultyLine). first_of (faults ++ end_faults (lines bytes))) (to.faults ∙ ap (λ (b : List ℕ). line_faults p.paths to.file (lines b)) end);
+      fault = ap (λ (faults : List FaultyLine). first_of (faults ++ end_faults (lines bytes)))
+          (to.faults ∙ ap (λ (b : List ℕ). line_faults p.paths to.file (lines b)) end);
     }
 
-pub read_made : (p : DesignProblem) (bytes : List ℕ) (left : TextLeft) (so_far : SoFar) (sets : List (List ℕ)) → ReadTo p bytes left so_far → left.bytes ≡ [] → so_far.spoken ≡ true → sets ≡ so_far.sets → (set_fault p bytes ≡ None) × AreSaid bytes sets
+pub read_made : (p : DesignProblem) (bytes : List ℕ) (left : TextLeft) (so_far : SoFar) (sets : List (List ℕ)) →
+    ReadTo p bytes left so_far → left.bytes ≡ [] → so_far.spoken ≡ true → sets ≡ so_far.sets →
+    (set_fault p bytes ≡ None) × AreSaid bytes sets
 read_made p bytes left so_far sets to end spoken is =
     let done = read_all p bytes left so_far to end in (
       done.fault ∙ ap first_of (cond-true (told_by (lines bytes)).spoken [] (fault_at (length (lines bytes) + 1) BadSetLine ∷ []) (done.spoken ∙ spoken)),
       subst (AreSaid bytes) (sym is) done.orders,
     )
 
-pub read_missing : (p : DesignProblem) (bytes : List ℕ) (left : TextLeft) (so_far : SoFar) (lines_read : ℕ) (stop : SetStop) → ReadTo p bytes left so_far → left.bytes ≡ [] → lines_read ≡ left.read → so_far.spoken ≡ false → TellsReading (Some (fault_at (lines_read + 1) BadSetLine)) stop → TellsReading (set_fault p bytes) stop
+pub read_missing : (p : DesignProblem) (bytes : List ℕ) (left : TextLeft) (so_far : SoFar) (lines_read : ℕ)
+    (stop : SetStop) → ReadTo p bytes left so_far → left.bytes ≡ [] → lines_read ≡ left.read → so_far.spoken ≡ false →
+    TellsReading (Some (fault_at (lines_read + 1) BadSetLine)) stop → TellsReading (set_fault p bytes) stop
 read_missing p bytes left so_far lines_read stop to end count none tells =
     let done = read_all p bytes left so_far to end in
     subst (λ (o : Option FaultyLine). TellsReading o stop)

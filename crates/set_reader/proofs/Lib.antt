@@ -1,4 +1,3 @@
-pub mod SetLineLaws
 pub mod MemberLaws
 pub mod SetLaws
 pub mod FileLaws

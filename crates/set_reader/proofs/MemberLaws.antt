@@ -38,7 +38,8 @@ same_false false false there back = refl
 -- a number's mark tells whether it stands in the numbers that are marked
 pub mark_tells : (earlier : List ℕ) (taken : List Bool) (n : ℕ) → AreMarks earlier taken → n < length taken → get_or taken n true ≡ stands_in n earlier
 mark_tells earlier taken n are within =
-    same_false (get_or taken n true) (stands_in n earlier) (λ clear. lacks_stands earlier n ((are n within).0 clear)) (λ none. (are n within).1 (stands_lacks earlier n none))
+    same_false (get_or taken n true) (stands_in n earlier) (λ clear. lacks_stands earlier n ((are n within).0 clear))
+    (λ none. (are n within).1 (stands_lacks earlier n none))
 
 -- The tests of a number, in the two orders in which they are made.
 
@@ -68,28 +69,39 @@ abbrev pub edges_at : List Request → ℕ → List ℕ
 edges_at requests member = (request_at requests member).path.edges
 
 -- a number that is out of place may not stand in a set
-pub out_is_wrong : (requests : List Request) (taken : List Bool) (earlier members : List ℕ) (n : ℕ) → length taken ≡ length requests → AreMarks earlier taken → is_out_of_place requests taken members n ≡ true → is_wrong_behind requests earlier members n ≡ true
+pub out_is_wrong : (requests : List Request) (taken : List Bool) (earlier members : List ℕ) (n : ℕ) →
+    length taken ≡ length requests → AreMarks earlier taken → is_out_of_place requests taken members n ≡ true →
+    is_wrong_behind requests earlier members n ≡ true
 out_is_wrong requests taken earlier members n count are out =
     any_out (not (ltb n (length requests))) (stands_in n earlier) (stands_in n members) (has_other_ends requests members (request_at requests n))
     (list_any (has_edges_of requests (request_at requests n)) members) (takes_away (request_at requests n)) (get_or taken n true)
     (λ known. mark_tells earlier taken n are (omega (arith, ltb-true n (length requests) (not-false (ltb n (length requests)) known), count))) out
 
 -- the members' edges, tested as a list
-edges_seen : (requests : List Request) (members : List ℕ) (edges : List (List ℕ)) (n : ℕ) → edges ≡ map (edges_at requests) members → list_any (same_bytes (edges_at requests n)) edges ≡ list_any (has_edges_of requests (request_at requests n)) members
-edges_seen requests members edges n are = ap (list_any (same_bytes (edges_at requests n))) are ∙ list_any-map (same_bytes (edges_at requests n)) (edges_at requests) members
+edges_seen : (requests : List Request) (members : List ℕ) (edges : List (List ℕ)) (n : ℕ) →
+    edges ≡ map (edges_at requests) members →
+    list_any (same_bytes (edges_at requests n)) edges ≡ list_any (has_edges_of requests (request_at requests n)) members
+edges_seen requests members edges n are = ap (list_any (same_bytes (edges_at requests n))) are
+    ∙ list_any-map (same_bytes (edges_at requests n)) (edges_at requests) members
 
 -- nor may one whose path has the edges of a member's
-pub seen_is_wrong : (requests : List Request) (earlier members : List ℕ) (edges : List (List ℕ)) (n : ℕ) → edges ≡ map (edges_at requests) members → list_any (same_bytes (edges_at requests n)) edges ≡ true → is_wrong_behind requests earlier members n ≡ true
+pub seen_is_wrong : (requests : List Request) (earlier members : List ℕ) (edges : List (List ℕ)) (n : ℕ) →
+    edges ≡ map (edges_at requests) members → list_any (same_bytes (edges_at requests n)) edges ≡ true →
+    is_wrong_behind requests earlier members n ≡ true
 seen_is_wrong requests earlier members edges n are seen =
     any_edges (not (ltb n (length requests)) || stands_in n earlier || stands_in n members || has_other_ends requests members (request_at requests n))
-    (list_any (has_edges_of requests (request_at requests n)) members) (takes_away (request_at requests n)) (sym (edges_seen requests members edges n are) ∙ seen)
+    (list_any (has_edges_of requests (request_at requests n)) members) (takes_away (request_at requests n))
+    (sym (edges_seen requests members edges n are) ∙ seen)
 
 -- a number that stands among the members has the edges of one
-stands_seen : (requests : List Request) (members : List ℕ) (n : ℕ) → stands_in n members ≡ true → list_any (has_edges_of requests (request_at requests n)) members ≡ true
+stands_seen : (requests : List Request) (members : List ℕ) (n : ℕ) → stands_in n members ≡ true →
+    list_any (has_edges_of requests (request_at requests n)) members ≡ true
 stands_seen requests [] n stands = absurd (false≢true stands)
 stands_seen requests (m ∷ members) n stands = cases (eqb n m) refl (stands_seen requests members n)
   where
-    cases : (b : Bool) → eqb n m ≡ b → (stands_in n members ≡ true → list_any (has_edges_of requests (request_at requests n)) members ≡ true) → list_any (has_edges_of requests (request_at requests n)) (m ∷ members) ≡ true
+    cases : (b : Bool) → eqb n m ≡ b →
+        (stands_in n members ≡ true → list_any (has_edges_of requests (request_at requests n)) members ≡ true) →
+        list_any (has_edges_of requests (request_at requests n)) (m ∷ members) ≡ true
     cases true same later =
         or_left (has_edges_of requests (request_at requests n) m) (list_any (has_edges_of requests (request_at requests n)) members)
         (ap (λ (k : ℕ). same_bytes (edges_at requests n) (edges_at requests k)) (sym (eqb-true n m same)) ∙ same_bytes-refl (edges_at requests n))
@@ -106,21 +118,38 @@ pub record MembersTo (requests : List Request) (taken : List Bool) (numbers : Li
   pub left : (earlier : List ℕ) → AreMarks earlier taken → is_wrong_set requests earlier numbers ≡ is_wrong_from requests earlier members (drop i numbers)
 
 -- the next number is wrong or right, and the others are left
-next_left : (requests : List Request) (taken : List Bool) (numbers : List ℕ) (i n : ℕ) (members : List ℕ) (edges : List (List ℕ)) (earlier : List ℕ) → MembersTo requests taken numbers i members edges → i < length numbers → n ≡ get_or numbers i 0 → AreMarks earlier taken → is_wrong_set requests earlier numbers ≡ (is_wrong_behind requests earlier members n || is_wrong_from requests earlier (members ++ n ∷ []) (drop (i + 1) numbers))
-next_left requests taken numbers i n members edges earlier to within is marks = to.left earlier marks ∙ ap (is_wrong_from requests earlier members) (drop_more numbers i 0 within ∙ ap (λ (m : ℕ). m ∷ drop (i + 1) numbers) (sym is))
+next_left : (requests : List Request) (taken : List Bool) (numbers : List ℕ) (i n : ℕ) (members : List ℕ)
+    (edges : List (List ℕ)) (earlier : List ℕ) → MembersTo requests taken numbers i members edges → i < length numbers →
+    n ≡ get_or numbers i 0 → AreMarks earlier taken →
+    is_wrong_set requests earlier numbers
+    ≡ (is_wrong_behind requests earlier members n
+    || is_wrong_from requests earlier (members ++ n ∷ []) (drop (i + 1) numbers))
+next_left requests taken numbers i n members edges earlier to within is marks = to.left earlier marks
+    ∙ ap (is_wrong_from requests earlier members) (drop_more numbers i 0 within
+    ∙ ap (λ (m : ℕ). m ∷ drop (i + 1) numbers) (sym is))
 
-pub members_wrong : (requests : List Request) (taken : List Bool) (numbers : List ℕ) (i n : ℕ) (members : List ℕ) (edges : List (List ℕ)) (earlier : List ℕ) → MembersTo requests taken numbers i members edges → i < length numbers → n ≡ get_or numbers i 0 → AreMarks earlier taken → is_wrong_behind requests earlier members n ≡ true → is_wrong_set requests earlier numbers ≡ true
+pub members_wrong : (requests : List Request) (taken : List Bool) (numbers : List ℕ) (i n : ℕ) (members : List ℕ)
+    (edges : List (List ℕ)) (earlier : List ℕ) → MembersTo requests taken numbers i members edges → i < length numbers →
+    n ≡ get_or numbers i 0 → AreMarks earlier taken → is_wrong_behind requests earlier members n ≡ true →
+    is_wrong_set requests earlier numbers ≡ true
 members_wrong requests taken numbers i n members edges earlier to within is marks wrong =
     next_left requests taken numbers i n members edges earlier to within is marks
     ∙ or_left (is_wrong_behind requests earlier members n) (is_wrong_from requests earlier (members ++ n ∷ []) (drop (i + 1) numbers)) wrong
 
-pub members_more : (requests : List Request) (taken : List Bool) (numbers : List ℕ) (i n : ℕ) (members : List ℕ) (edges : List (List ℕ)) → MembersTo requests taken numbers i members edges → length taken ≡ length requests → i < length numbers → n ≡ get_or numbers i 0 → is_out_of_place requests taken members n ≡ false → list_any (same_bytes (edges_at requests n)) edges ≡ false → MembersTo requests taken numbers (i + 1) (members ++ n ∷ []) (edges ++ edges_at requests n ∷ [])
+pub members_more : (requests : List Request) (taken : List Bool) (numbers : List ℕ) (i n : ℕ) (members : List ℕ)
+    (edges : List (List ℕ)) → MembersTo requests taken numbers i members edges → length taken ≡ length requests →
+    i < length numbers → n ≡ get_or numbers i 0 → is_out_of_place requests taken members n ≡ false →
+    list_any (same_bytes (edges_at requests n)) edges ≡ false →
+    MembersTo requests taken numbers (i + 1) (members ++ n ∷ []) (edges ++ edges_at requests n ∷ [])
 members_more requests taken numbers i n members edges to count within is inside unseen =
     let test = ltb n (length requests) in
-    let parts = or_parts (not test) (get_or taken n true || takes_away (request_at requests n) || has_other_ends requests members (request_at requests n)) inside in
+    let parts = or_parts (not test) (get_or taken n true || takes_away (request_at requests n)
+    || has_other_ends requests members (request_at requests n)) inside in
     let below : n < length requests = ltb-true n (length requests) (not-false test parts.0) in
     let no_edges : list_any (has_edges_of requests (request_at requests n)) members ≡ false = sym (edges_seen requests members edges n to.edges_are) ∙ unseen in
-    let apart : stands_in n members ≡ false = false_from_ne_true (stands_in n members) (λ stands. false≢true (sym no_edges ∙ stands_seen requests members n stands)) in
+    let apart : stands_in n members ≡ false =
+    false_from_ne_true (stands_in n members)
+    (λ stands. false≢true (sym no_edges ∙ stands_seen requests members n stands)) in
     record {
       are = ap (λ (ms : List ℕ). ms ++ n ∷ []) to.are ∙ ap (λ (m : ℕ). take i numbers ++ m ∷ []) is ∙ sym (take_more numbers i 0 within);
       known = All-push (λ member. member < length requests) members n to.known below;
@@ -134,7 +163,8 @@ members_more requests taken numbers i n members edges to count within is inside 
           (λ known. mark_tells earlier taken n marks (omega (arith, below, count))) inside apart no_edges);
     }
 
-pub members_begin : (requests : List Request) (taken : List Bool) (numbers members : List ℕ) (edges : List (List ℕ)) → members ≡ [] → edges ≡ [] → MembersTo requests taken numbers 0 members edges
+pub members_begin : (requests : List Request) (taken : List Bool) (numbers members : List ℕ) (edges : List (List ℕ)) →
+    members ≡ [] → edges ≡ [] → MembersTo requests taken numbers 0 members edges
 unfolding IsDistinct
 members_begin requests taken numbers members edges none no_edges = rw (none, no_edges) (record {
   are = refl;
@@ -145,7 +175,9 @@ members_begin requests taken numbers members edges none no_edges = rw (none, no_
 })
 
 -- all numbers were read
-pub members_done : (requests : List Request) (taken : List Bool) (numbers : List ℕ) (i : ℕ) (members : List ℕ) (edges : List (List ℕ)) → MembersTo requests taken numbers i members edges → length numbers ≤ i → (earlier : List ℕ) → AreMarks earlier taken → is_wrong_set requests earlier numbers ≡ false
+pub members_done : (requests : List Request) (taken : List Bool) (numbers : List ℕ) (i : ℕ) (members : List ℕ)
+    (edges : List (List ℕ)) → MembersTo requests taken numbers i members edges → length numbers ≤ i →
+    (earlier : List ℕ) → AreMarks earlier taken → is_wrong_set requests earlier numbers ≡ false
 members_done requests taken numbers i members edges to end earlier marks =
     to.left earlier marks ∙ ap (is_wrong_from requests earlier members) (drop_all numbers i end)
   where
@@ -154,7 +186,9 @@ members_done requests taken numbers i members edges to end earlier marks =
     drop_all (x ∷ xs) zero past = absurd (omega (arith, past))
     drop_all (x ∷ xs) (suc k) past = drop_all xs k (omega (arith, past))
 
-pub members_ordered : (requests : List Request) (taken : List Bool) (numbers : List ℕ) (i : ℕ) (members : List ℕ) (edges : List (List ℕ)) (sorted : List ℕ) → MembersTo requests taken numbers i members edges → length numbers ≤ i → IsPermutation members sorted → IsSorted nat_cmp sorted → IsInOrder numbers sorted
+pub members_ordered : (requests : List Request) (taken : List Bool) (numbers : List ℕ) (i : ℕ) (members : List ℕ)
+    (edges : List (List ℕ)) (sorted : List ℕ) → MembersTo requests taken numbers i members edges → length numbers ≤ i →
+    IsPermutation members sorted → IsSorted nat_cmp sorted → IsInOrder numbers sorted
 members_ordered requests taken numbers i members edges sorted to end same in_order =
     let all : members ≡ numbers = to.are ∙ take_all i numbers end in
     record {
@@ -164,5 +198,7 @@ members_ordered requests taken numbers i members edges sorted to end same in_ord
           (IsDistinct-IsPermutation eqb nat_eq_equiv.symm members sorted same to.once);
     }
 
-pub members_known : (requests : List Request) (taken : List Bool) (numbers : List ℕ) (i : ℕ) (members : List ℕ) (edges : List (List ℕ)) (sorted : List ℕ) → MembersTo requests taken numbers i members edges → IsPermutation members sorted → All (λ member. member < length requests) sorted
+pub members_known : (requests : List Request) (taken : List Bool) (numbers : List ℕ) (i : ℕ) (members : List ℕ)
+    (edges : List (List ℕ)) (sorted : List ℕ) → MembersTo requests taken numbers i members edges →
+    IsPermutation members sorted → All (λ member. member < length requests) sorted
 members_known requests taken numbers i members edges sorted to same = All-permutation (λ member. member < length requests) members sorted same to.known

@@ -12,7 +12,7 @@ use Rattle.std.proofs.lemmas.List.Sorted.{IsPermutation-refl, IsPermutation-sym,
 use Rattle.std.proofs.lemmas.Map.Views.{list_any-from_Contains}
 use Rattle.cost_base.proofs.ByteLemmas.{same_bytes-same}
 use Rattle.area_graph.specs.Distances.{AreMarks}
-use Rattle.area_graph.proofs.Marks.{no_marks}
+use Rattle.area_graph.proofs.GoneMarks.{no_marks}
 use Rattle.path_rows.specs.declared.problem.Request.{Request}
 use Rattle.path_rows.specs.Problems.{DesignProblem, request_at, ends_of}
 use Rattle.set_reader.specs.SpreadSets.{IsSetOf}
@@ -50,7 +50,8 @@ whole_ends a b a_whole b_whole same =
     cc (eqb-true a.path.start b.path.start parts.0, eqb-true a.end b.end parts.1, a_whole, b_whole)
 
 -- one more number that isn't wrong
-right_push : (requests : List Request) (earlier members : List ℕ) (n : ℕ) → AreRight requests earlier members → is_wrong_behind requests earlier members n ≡ false → AreRight requests earlier (members ++ n ∷ [])
+right_push : (requests : List Request) (earlier members : List ℕ) (n : ℕ) → AreRight requests earlier members →
+    is_wrong_behind requests earlier members n ≡ false → AreRight requests earlier (members ++ n ∷ [])
 right_push requests earlier members n right lawful =
     let request = request_at requests n in
     let outside = not (ltb n (length requests)) in
@@ -64,7 +65,8 @@ right_push requests earlier members n right lawful =
     let third = or_parts (outside || before) here fourth.0 in
     let second = or_parts outside before third.0 in
     let whole : request.gone ≡ [] = nil_from_length request.gone (omega (arith, ltb-false 0 (length request.gone) last.1)) in
-    let to_new : (i : ℕ) → Contains members i → ends_of (request_at requests i) ≡ ends_of request = λ i stands. new_ends members right.whole right.ends fourth.1 whole i stands in
+    let to_new : (i : ℕ) → Contains members i → ends_of (request_at requests i) ≡ ends_of request =
+    λ i stands. new_ends members right.whole right.ends fourth.1 whole i stands in
     let edges : (i : ℕ) → Contains members i → edges_at requests i ≢ edges_at requests n = λ i stands same. new_edges fifth.1 i stands same in
     record {
       known = All-push (λ i. i < length requests) members n right.known (ltb-true n (length requests) (not-false (ltb n (length requests)) second.0));
@@ -74,34 +76,49 @@ right_push requests earlier members n right lawful =
       different = λ i j one two apart. both_edges (Contains-push_cases members n i one) (Contains-push_cases members n j two) apart edges;
     }
   where
-    new_ends : (ms : List ℕ) → All (λ i. (request_at requests i).gone ≡ []) ms → ((i j : ℕ) → Contains ms i → Contains ms j → ends_of (request_at requests i) ≡ ends_of (request_at requests j)) → has_other_ends requests ms (request_at requests n) ≡ false → (request_at requests n).gone ≡ [] → (i : ℕ) → Contains ms i → ends_of (request_at requests i) ≡ ends_of (request_at requests n)
+    new_ends : (ms : List ℕ) → All (λ i. (request_at requests i).gone ≡ []) ms →
+        ((i j : ℕ) → Contains ms i → Contains ms j →
+        ends_of (request_at requests i) ≡ ends_of (request_at requests j)) →
+        has_other_ends requests ms (request_at requests n) ≡ false → (request_at requests n).gone ≡ [] → (i : ℕ) →
+        Contains ms i → ends_of (request_at requests i) ≡ ends_of (request_at requests n)
     new_ends [] all_whole ends same whole i stands = absurd (omega (arith, stands.1))
     new_ends (first ∷ more) all_whole ends same whole i stands =
         let begins : Contains (first ∷ more) first = Contains-get_or (first ∷ more) 0 first (omega arith) in
         ends i first stands begins
-        ∙ whole_ends (request_at requests first) (request_at requests n) (All-contains (λ m. (request_at requests m).gone ≡ []) (first ∷ more) first all_whole begins) whole
+        ∙ whole_ends (request_at requests first) (request_at requests n)
+        (All-contains (λ m. (request_at requests m).gone ≡ []) (first ∷ more) first all_whole begins) whole
         (not-false (same_ends (request_at requests first) (request_at requests n)) same)
 
-    at_member : list_any (has_edges_of requests (request_at requests n)) members ≡ false → (i k : ℕ) → k < length members → get_or members k i ≡ i → has_edges_of requests (request_at requests n) i ≡ false
-    at_member none i k within is = ap (has_edges_of requests (request_at requests n)) (sym is) ∙ none_passes (has_edges_of requests (request_at requests n)) members none k i within
+    at_member : list_any (has_edges_of requests (request_at requests n)) members ≡ false → (i k : ℕ) →
+        k < length members → get_or members k i ≡ i → has_edges_of requests (request_at requests n) i ≡ false
+    at_member none i k within is = ap (has_edges_of requests (request_at requests n)) (sym is)
+        ∙ none_passes (has_edges_of requests (request_at requests n)) members none k i within
 
-    new_edges : list_any (has_edges_of requests (request_at requests n)) members ≡ false → (i : ℕ) → Contains members i → edges_at requests i ≡ edges_at requests n → ⊥
-    new_edges none i stands same = false≢true (sym (at_member none i stands.0 stands.1 stands.2) ∙ same_bytes-same (edges_at requests n) (edges_at requests i) (sym same))
+    new_edges : list_any (has_edges_of requests (request_at requests n)) members ≡ false → (i : ℕ) →
+        Contains members i → edges_at requests i ≡ edges_at requests n → ⊥
+    new_edges none i stands same =
+        false≢true (sym (at_member none i stands.0 stands.1 stands.2)
+        ∙ same_bytes-same (edges_at requests n) (edges_at requests i) (sym same))
 
-    both_ends : {i j : ℕ} → Contains members i ⊎ (n ≡ i) → Contains members j ⊎ (n ≡ j) → ((k : ℕ) → Contains members k → ends_of (request_at requests k) ≡ ends_of (request_at requests n)) → ends_of (request_at requests i) ≡ ends_of (request_at requests j)
+    both_ends : {i j : ℕ} → Contains members i ⊎ (n ≡ i) → Contains members j ⊎ (n ≡ j) →
+        ((k : ℕ) → Contains members k → ends_of (request_at requests k) ≡ ends_of (request_at requests n)) →
+        ends_of (request_at requests i) ≡ ends_of (request_at requests j)
     both_ends {i} {j} (inl one) (inl two) to_new = to_new i one ∙ sym (to_new j two)
     both_ends {i} {j} (inl one) (inr two) to_new = to_new i one ∙ ap (λ (k : ℕ). ends_of (request_at requests k)) two
     both_ends {i} {j} (inr one) (inl two) to_new = ap (λ (k : ℕ). ends_of (request_at requests k)) (sym one) ∙ sym (to_new j two)
     both_ends {i} {j} (inr one) (inr two) to_new = ap (λ (k : ℕ). ends_of (request_at requests k)) (sym one ∙ two)
 
-    both_edges : {i j : ℕ} → Contains members i ⊎ (n ≡ i) → Contains members j ⊎ (n ≡ j) → i ≢ j → ((k : ℕ) → Contains members k → edges_at requests k ≢ edges_at requests n) → edges_at requests i ≢ edges_at requests j
+    both_edges : {i j : ℕ} → Contains members i ⊎ (n ≡ i) → Contains members j ⊎ (n ≡ j) → i ≢ j →
+        ((k : ℕ) → Contains members k → edges_at requests k ≢ edges_at requests n) →
+        edges_at requests i ≢ edges_at requests j
     both_edges {i} {j} (inl one) (inl two) apart edges = right.different i j one two apart
     both_edges {i} {j} (inl one) (inr two) apart edges = λ same. edges i one (same ∙ ap (edges_at requests) (sym two))
     both_edges {i} {j} (inr one) (inl two) apart edges = λ same. edges j two (sym same ∙ ap (edges_at requests) (sym one))
     both_edges {i} {j} (inr one) (inr two) apart edges = λ same. apart (sym one ∙ two)
 
 -- all of a line's numbers
-right_all : (requests : List Request) (earlier members more : List ℕ) → AreRight requests earlier members → is_wrong_from requests earlier members more ≡ false → AreRight requests earlier (members ++ more)
+right_all : (requests : List Request) (earlier members more : List ℕ) → AreRight requests earlier members →
+    is_wrong_from requests earlier members more ≡ false → AreRight requests earlier (members ++ more)
 right_all requests earlier members [] right lawful = subst (AreRight requests earlier) (sym (append-nil members)) right
 right_all requests earlier members (n ∷ more) right lawful =
     let parts = or_parts (is_wrong_behind requests earlier members n) (is_wrong_from requests earlier (members ++ n ∷ []) more) lawful in
@@ -127,7 +144,9 @@ stands_in_sets [] k d i within stands = absurd (omega (arith, within))
 stands_in_sets (set ∷ sets) zero d i within stands =
     list_any-append (eqb i) set (concat sets) ∙ or_left (stands_in i set) (stands_in i (concat sets)) (list_any-from_Contains nat_eq_equiv i set stands)
 stands_in_sets (set ∷ sets) (suc k) d i within stands =
-    list_any-append (eqb i) set (concat sets) ∙ or_right (stands_in i set) (stands_in i (concat sets)) (stands_in_sets sets k d i (omega (arith, within)) stands)
+    list_any-append (eqb i) set (concat sets)
+    ∙ or_right (stands_in i set) (stands_in i (concat sets))
+    (stands_in_sets sets k d i (omega (arith, within)) stands)
 
 pub sets_begin : (p : DesignProblem) (sets : List (List ℕ)) (taken : List Bool) → sets ≡ [] → taken ≡ replicate (length p.paths) false → KeepsSets p sets taken
 sets_begin p sets taken none clear = rw (none, clear) (record {
@@ -136,17 +155,23 @@ sets_begin p sets taken none clear = rw (none, clear) (record {
   lawful = record { each = All-nil (IsSetOf p); apart = λ i j d before within. absurd (omega (arith, within)) };
 })
 
-pub sets_more : (p : DesignProblem) (sets : List (List ℕ)) (numbers set : List ℕ) (taken after : List Bool) → KeepsSets p sets taken → 2 ≤ length numbers → is_wrong_set p.paths (concat sets) numbers ≡ false → IsInOrder numbers set → AreMarks (concat sets ++ set) after → length after ≡ length taken → KeepsSets p (sets ++ set ∷ []) after
+pub sets_more : (p : DesignProblem) (sets : List (List ℕ)) (numbers set : List ℕ) (taken after : List Bool) →
+    KeepsSets p sets taken → 2 ≤ length numbers → is_wrong_set p.paths (concat sets) numbers ≡ false →
+    IsInOrder numbers set → AreMarks (concat sets ++ set) after → length after ≡ length taken →
+    KeepsSets p (sets ++ set ∷ []) after
 sets_more p sets numbers set taken after kept several lawful order marks count =
     let right = right_all p.paths (concat sets) [] numbers (right_none p.paths (concat sets)) lawful in
     let back = IsPermutation-sym numbers set order.same in
     record {
       count = count ∙ kept.count;
-      marks = subst (λ (xs : List ℕ). AreMarks xs after) (ap (λ (xs : List ℕ). concat sets ++ xs) (sym (append-nil set)) ∙ sym (concat-append sets (set ∷ []))) marks;
+      marks = subst (λ (xs : List ℕ). AreMarks xs after) (ap (λ (xs : List ℕ). concat sets ++ xs) (sym (append-nil set))
+          ∙ sym (concat-append sets (set ∷ []))) marks;
       lawful = record {
         each = All-push (IsSetOf p) sets set kept.lawful.each (set_is p (concat sets) numbers set several right order);
         apart = all_pairs_push (λ a b. (i : ℕ) → Contains a i → Contains b i → ⊥) sets set kept.lawful.apart
-            (λ k d within i one two. false≢true (sym (All-contains (λ m. stands_in m (concat sets) ≡ false) numbers i right.new (Contains-permutation set numbers i back two)) ∙ stands_in_sets sets k d i within one));
+            (λ k d within i one two. false≢true
+            (sym (All-contains (λ m. stands_in m (concat sets) ≡ false) numbers i right.new
+            (Contains-permutation set numbers i back two)) ∙ stands_in_sets sets k d i within one));
       };
     }
 
@@ -158,12 +183,18 @@ sets_permuted [] (set ∷ sets) all = absurd all
 sets_permuted (numbers ∷ said) [] all = absurd all
 sets_permuted (numbers ∷ said) (set ∷ sets) all = IsPermutation-append numbers set (concat said) (concat sets) all.0.same (sets_permuted said sets all.1)
 
-same_wrong : (requests : List Request) (xs ys members more : List ℕ) → ((i : ℕ) → stands_in i xs ≡ stands_in i ys) → is_wrong_from requests xs members more ≡ is_wrong_from requests ys members more
+same_wrong : (requests : List Request) (xs ys members more : List ℕ) → ((i : ℕ) → stands_in i xs ≡ stands_in i ys) →
+    is_wrong_from requests xs members more ≡ is_wrong_from requests ys members more
 same_wrong requests xs ys members [] same = refl
 same_wrong requests xs ys members (n ∷ more) same =
-    ap (λ (b : Bool). (not (ltb n (length requests)) || b || stands_in n members || has_other_ends requests members (request_at requests n) || list_any (has_edges_of requests (request_at requests n)) members || takes_away (request_at requests n)) || is_wrong_from requests xs (members ++ n ∷ []) more) (same n)
+    ap (λ (b : Bool). (not (ltb n (length requests)) || b || stands_in n members
+    || has_other_ends requests members (request_at requests n)
+    || list_any (has_edges_of requests (request_at requests n)) members || takes_away (request_at requests n))
+    || is_wrong_from requests xs (members ++ n ∷ []) more) (same n)
     ∙ ap (λ (b : Bool). is_wrong_behind requests ys members n || b) (same_wrong requests xs ys (members ++ n ∷ []) more same)
 
-pub wrong_alike : (requests : List Request) (said sets : List (List ℕ)) (numbers : List ℕ) → AllZip IsInOrder said sets → is_wrong_set requests (concat said) numbers ≡ is_wrong_set requests (concat sets) numbers
+pub wrong_alike : (requests : List Request) (said sets : List (List ℕ)) (numbers : List ℕ) →
+    AllZip IsInOrder said sets →
+    is_wrong_set requests (concat said) numbers ≡ is_wrong_set requests (concat sets) numbers
 wrong_alike requests said sets numbers all =
     same_wrong requests (concat said) (concat sets) [] numbers (λ i. list_any-IsPermutation (eqb i) (concat said) (concat sets) (sets_permuted said sets all))

@@ -3,6 +3,7 @@ use Rattle.std.specs.Prelude.{ℕ, List, [], ◌∷◌, ◌&&◌, if◌then◌el
 use Rattle.cost_base.specs.Lists.{same_bytes}
 use Rattle.text_lines.specs.Lines.{words, starts_comment}
 use Rattle.text_lines.specs.Numbers.{number}
+use Rattle.text_lines.specs.WordLists.{all_said}
 use Rattle.set_reader.specs.declared.reading.statement.Statement.{Statement}
 use Rattle.set_reader.specs.declared.reading.statement.Statement.TheVariants.{Passed, Header, Numbers, Off}
 
@@ -11,14 +12,9 @@ abbrev pub header_line : List (List ℕ) → Statement
 header_line (spread ∷ version ∷ []) = if same_bytes spread (codes "spread") && same_bytes version (codes "1") then Header else Off
 header_line _ = Off
 
-abbrev pub with_number : Option ℕ → Option (List ℕ) → Option (List ℕ)
-with_number (Some n) (Some ns) = Some (n ∷ ns)
-with_number _ _ = None
-
 -- words that are all numbers, of at most ten digits each
 abbrev pub numbers_of : List (List ℕ) → Option (List ℕ)
-numbers_of [] = Some []
-numbers_of (word ∷ words) = with_number (number word 9999999999) (numbers_of words)
+numbers_of words = all_said (λ word. number word 9999999999) words
 
 abbrev pub several : Option (List ℕ) → Statement
 several (Some (i ∷ j ∷ more)) = Numbers (i ∷ j ∷ more)

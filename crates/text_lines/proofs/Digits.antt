@@ -1,6 +1,5 @@
 -- Decimal digits.
-use Rattle.std.proofs.Common.{◌≡◌, ℕ, zero, suc, ◌+◌, ◌-◌, ◌*◌, ◌/◌, ◌%◌, ◌^◌, ◌<◌, ◌≤◌, List, [], ◌∷◌, ◌++◌, length, map, get_or, take, drop, take-append-drop, set, eqb, leb, true, false, refl, sym, ap, ◌∙◌, arith, add-one, length-append}
-use Rattle.std.proofs.Math.Nat.{pow-suc}
+use Rattle.std.proofs.Common.{◌≡◌, ℕ, zero, suc, ◌+◌, ◌-◌, ◌*◌, ◌/◌, ◌%◌, ◌^◌, ◌<◌, ◌≤◌, List, [], ◌∷◌, ◌++◌, length, map, get_or, take, drop, take-append-drop, set, eqb, leb, true, false, refl, sym, ap, ◌∙◌, arith, length-append}
 use Rattle.std.proofs.lemmas.Bool.{ne_eqb, and_parts, leb-true}
 use Rattle.std.proofs.lemmas.List.{map-append, length-map, take_more, take_more_set}
 use Rattle.std.proofs.lemmas.List.Folds.{list_all-append}
@@ -16,7 +15,8 @@ decimal_value-more s i within =
     ∙ ap (number_from_digits 10) (map-append (λ c. c - 48) (take i s) (get_or s i 0 ∷ []))
     ∙ number_push 10 (map (λ c. c - 48) (take i s)) (get_or s i 0 - 48)
 
-pub digits-more : (s : List ℕ) (i : ℕ) → i < length s → list_all is_digit (take i s) ≡ true → is_digit (get_or s i 0) ≡ true → list_all is_digit (take (i + 1) s) ≡ true
+pub digits-more : (s : List ℕ) (i : ℕ) → i < length s → list_all is_digit (take i s) ≡ true →
+    is_digit (get_or s i 0) ≡ true → list_all is_digit (take (i + 1) s) ≡ true
 digits-more s i within before here =
     ap (list_all is_digit) (take_more s i 0 within) ∙ list_all-append is_digit (take i s) (get_or s i 0 ∷ []) ∙ rw (before, here)
 
@@ -46,15 +46,16 @@ decimal-small (suc m) small =
 pub length-decimal-le : (k n : ℕ) → 1 ≤ k → n < 10 ^ k → length (decimal n) ≤ k
 length-decimal-le k zero some small = some
 length-decimal-le k (suc m) some small =
-    omega (arith, ap length (decimal-positive (suc m) (omega arith)), length-map (digits_of 10 (suc m)) (λ d. d + 48), length-digits_of-le 10 k (suc m) (omega arith) small)
+    omega (
+      arith,
+      ap length (decimal-positive (suc m) (omega arith)),
+      length-map (digits_of 10 (suc m)) (λ d. d + 48),
+      length-digits_of-le 10 k (suc m) (omega arith) small,
+    )
 
 -- a number of more than one digit has one digit more than its tenth
 pub length-decimal-step : (n : ℕ) → 10 ≤ n → length (decimal n) ≡ length (decimal (n / 10)) + 1
 length-decimal-step n large = omega (arith, ap length (decimal-step n large), length-append (decimal (n / 10)) ((n % 10 + 48) ∷ []))
-
--- one more factor
-pub power-more : (i : ℕ) → 10 ^ (i + 1) ≡ 10 ^ i * 10
-power-more i = rw add-one (pow-suc 10 i)
 
 -- a digit that is put behind the digits before it
 pub digit_put : (room front : List ℕ) (i n : ℕ) → i < length room → take i room ≡ front → take (i + 1) (set room i (48 + n % 10)) ≡ front ++ (n % 10 + 48) ∷ []

@@ -1,5 +1,5 @@
 -- Lines of texts that are put together, and of texts that are read line by line.
-use Rattle.std.proofs.Common.{◌≡◌, ◌≢◌, ℕ, zero, suc, ◌+◌, ◌<◌, ◌≤◌, List, [], ◌∷◌, ◌++◌, All, length, map, get_or, take, drop, eqb, Bool, cond, true, false, refl, sym, ap, subst, ◌∙◌, arith, add-one, append_assoc, append-nil}
+use Rattle.std.proofs.Common.{◌≡◌, ◌≢◌, ℕ, zero, suc, ◌+◌, ◌<◌, ◌≤◌, List, [], ◌∷◌, ◌++◌, All, length, map, get_or, take, drop, eqb, Bool, cond, true, false, refl, sym, ap, subst, ◌∙◌, arith, add-one, append_assoc}
 use Rattle.std.proofs.lemmas.List.Elements.{All-nil, All-cons, All-head, All-tail}
 use Rattle.text_lines.specs.Lines.{lines, grow, with_ends, ended, ends_line, IsOneLine}
 
@@ -30,7 +30,8 @@ lines-some c cs e = cases (eqb c 10) (lines cs) e
     cases false (line ∷ rest) h = cc
 
 -- a byte before some lines, and further lines behind them
-before_lines : (c : ℕ) (b : Bool) (front back : List (List ℕ)) → front ≢ [] → cond b ([] ∷ (front ++ back)) (grow c (front ++ back)) ≡ cond b ([] ∷ front) (grow c front) ++ back
+before_lines : (c : ℕ) (b : Bool) (front back : List (List ℕ)) → front ≢ [] →
+    cond b ([] ∷ (front ++ back)) (grow c (front ++ back)) ≡ cond b ([] ∷ front) (grow c front) ++ back
 before_lines c true front back some = refl
 before_lines c false [] back some = absurd (some refl)
 before_lines c false (line ∷ front) back some = refl
@@ -50,10 +51,6 @@ lines-append-end (x ∷ []) b open_ended = rw open_ended
 lines-append-end (x ∷ y ∷ ys) b open_ended =
     ap (λ rest. cond (eqb x 10) ([] ∷ rest) (grow x rest)) (lines-append-end (y ∷ ys) b open_ended)
     ∙ before_lines x (eqb x 10) (lines (y ∷ ys)) (lines b) (lines-some y ys)
-
--- an LF at the end of a text without one adds no line
-pub lines-end : (a : List ℕ) → ends_line a ≡ false → lines (a ++ 10 ∷ []) ≡ lines a
-lines-end a open_ended = lines-append-end a [] open_ended ∙ append-nil (lines a)
 
 -- an LF ends a line
 pub ends_line-end : (a : List ℕ) → ends_line (a ++ 10 ∷ []) ≡ true

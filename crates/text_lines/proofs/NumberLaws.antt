@@ -23,7 +23,8 @@ number_within-decimal most greatest n some small bound =
     cond-true (leb 1 (length d) && leb (length d) most && list_all is_digit d && leb (decimal_value d) greatest) (Some (decimal_value d)) None
     (and_from (leb 1 (length d) && leb (length d) most && list_all is_digit d) (leb (decimal_value d) greatest)
     (and_from (leb 1 (length d) && leb (length d) most) (list_all is_digit d)
-    (and_from (leb 1 (length d)) (leb (length d) most) (le-leb 1 (length d) (length-decimal-some n)) (le-leb (length d) most (length-decimal-le most n some small)))
+    (and_from (leb 1 (length d)) (leb (length d) most) (le-leb 1 (length d) (length-decimal-some n))
+    (le-leb (length d) most (length-decimal-le most n some small)))
     (decimal-digits n))
     (le-leb (decimal_value d) greatest (omega (arith, decimal_value-decimal n))))
     ∙ ap Some (decimal_value-decimal n)
@@ -34,7 +35,9 @@ number-decimal n greatest bound small = number_within-decimal 10 greatest n (ome
 
 -- a number within bounds is at most the greatest
 pub number_within-le : (most greatest : ℕ) (text : List ℕ) (n : ℕ) → number_within most greatest text ≡ Some n → n ≤ greatest
-number_within-le most greatest text n is = cases (nat_le 1 (length text) && nat_le (length text) most && list_all is_digit text) (leb (decimal_value text) greatest) refl is
+number_within-le most greatest text n is =
+    cases (nat_le 1 (length text) && nat_le (length text) most && list_all is_digit text)
+    (leb (decimal_value text) greatest) refl is
   where
     cases : (a b : Bool) → leb (decimal_value text) greatest ≡ b → cond (a && b) (Some (decimal_value text)) None ≡ Some n → n ≤ greatest
     cases true true small h = let same : decimal_value text ≡ n = cc in omega (arith, leb-true (decimal_value text) greatest small)

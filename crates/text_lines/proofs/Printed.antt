@@ -19,7 +19,8 @@ unmoved (d ∷ ds) =
 pub decimal_value-decimal : (n : ℕ) → decimal_value (decimal n) ≡ n
 decimal_value-decimal zero = refl
 decimal_value-decimal (suc m) =
-    ap decimal_value (decimal-positive (suc m) (omega arith)) ∙ ap (number_from_digits 10) (unmoved (digits_of 10 (suc m))) ∙ number_digits_of 10 (suc m) (omega arith)
+    ap decimal_value (decimal-positive (suc m) (omega arith))
+    ∙ ap (number_from_digits 10) (unmoved (digits_of 10 (suc m))) ∙ number_digits_of 10 (suc m) (omega arith)
 
 -- different numbers have different digits
 pub decimal-same : (m n : ℕ) → decimal m ≡ decimal n → m ≡ n

@@ -14,10 +14,12 @@ joined_quad-long (Some a) (Some b) (Some c) (Some d) e es = refl
 joined_quad-more : (a b c d : List ℕ) (ps : List (List ℕ)) → ps ≢ [] → joined_quad (map (number_within 3 255) (a ∷ b ∷ c ∷ d ∷ ps)) ≡ None
 joined_quad-more a b c d [] some = absurd (some refl)
 joined_quad-more a b c d (p ∷ ps) some =
-    joined_quad-long (number_within 3 255 a) (number_within 3 255 b) (number_within 3 255 c) (number_within 3 255 d) (number_within 3 255 p) (map (number_within 3 255) ps)
+    joined_quad-long (number_within 3 255 a) (number_within 3 255 b) (number_within 3 255 c) (number_within 3 255 d)
+    (number_within 3 255 p) (map (number_within 3 255) ps)
 
 -- a text with four dots is no address
-pub quad-long : (text a b c d r s t e : List ℕ) → split 46 text ≡ a ∷ split 46 r → split 46 r ≡ b ∷ split 46 s → split 46 s ≡ c ∷ split 46 t → split 46 t ≡ d ∷ split 46 e → quad text ≡ None
+pub quad-long : (text a b c d r s t e : List ℕ) → split 46 text ≡ a ∷ split 46 r → split 46 r ≡ b ∷ split 46 s →
+    split 46 s ≡ c ∷ split 46 t → split 46 t ≡ d ∷ split 46 e → quad text ≡ None
 quad-long text a b c d r s t e first second third fourth =
     let pieces : split 46 text ≡ a ∷ b ∷ c ∷ d ∷ split 46 e =
     first ∙ ap (λ ps. a ∷ ps) (second ∙ ap (λ ps. b ∷ ps) (third ∙ ap (λ ps. c ∷ ps) fourth)) in

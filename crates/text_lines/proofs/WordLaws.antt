@@ -54,15 +54,24 @@ words-whole (c ∷ cs) one =
     cases (is_blank c) refl other (ends_word cs) (words cs) (words-whole cs (All-tail (λ x. eqb x 10 ≡ false) c cs one))
   where
     alone : is_blank c ≡ false → eqb c 10 ≡ false → IsOneWord (c ∷ [])
-    alone solid other = record { some = λ e. cc; whole = All-cons (λ x. ends_a_word x ≡ false) c [] (or_from (is_blank c) (eqb c 10) solid other) (All-nil (λ x. ends_a_word x ≡ false)) }
+    alone solid other = record {
+      some = λ e. cc;
+      whole = All-cons (λ x. ends_a_word x ≡ false) c [] (or_from (is_blank c) (eqb c 10) solid other)
+          (All-nil (λ x. ends_a_word x ≡ false));
+    }
 
-    cases : (b : Bool) → is_blank c ≡ b → eqb c 10 ≡ false → (e : Bool) (ws : List (List ℕ)) → All IsOneWord ws → All IsOneWord (cond b ws (cond e ((c ∷ []) ∷ ws) (grow c ws)))
+    cases : (b : Bool) → is_blank c ≡ b → eqb c 10 ≡ false → (e : Bool) (ws : List (List ℕ)) → All IsOneWord ws →
+        All IsOneWord (cond b ws (cond e ((c ∷ []) ∷ ws) (grow c ws)))
     cases true is other e ws ones = ones
     cases false is other true ws ones = All-cons IsOneWord (c ∷ []) ws (alone is other) ones
     cases false is other false [] ones = All-cons IsOneWord (c ∷ []) [] (alone is other) ones
     cases false is other false (w ∷ ws) ones =
         All-cons IsOneWord (c ∷ w) ws
-        (record { some = λ e. cc; whole = All-cons (λ x. ends_a_word x ≡ false) c w (or_from (is_blank c) (eqb c 10) is other) (All-head IsOneWord w ws ones).whole })
+        (record {
+          some = λ e. cc;
+          whole = All-cons (λ x. ends_a_word x ≡ false) c w
+              (or_from (is_blank c) (eqb c 10) is other) (All-head IsOneWord w ws ones).whole;
+        })
         (All-tail IsOneWord w ws ones)
 
 digits-whole : (ds : List ℕ) → list_all is_digit ds ≡ true → All (λ c. ends_a_word c ≡ false) ds

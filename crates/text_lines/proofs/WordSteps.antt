@@ -23,7 +23,8 @@ words-front (c ∷ d ∷ ds) rest some whole end =
     words-more c d (ds ++ rest) solid next ∙ ap (grow c) (words-front (d ∷ ds) rest (λ e. cc) more end)
 
 -- the first word of a text, cut at its end
-pub words-cut : (s : List ℕ) (n : ℕ) → ends_word s ≡ false → All (λ c. is_blank c ≡ false) (take n s) → ends_word (drop n s) ≡ true → words s ≡ take n s ∷ words (drop n s)
+pub words-cut : (s : List ℕ) (n : ℕ) → ends_word s ≡ false → All (λ c. is_blank c ≡ false) (take n s) →
+    ends_word (drop n s) ≡ true → words s ≡ take n s ∷ words (drop n s)
 words-cut s n begins whole end =
     ap words (sym (take-append-drop n s)) ∙ words-front (take n s) (drop n s) (not_empty n s begins end) whole end
   where

@@ -22,6 +22,10 @@ pub fn number_bytes(value: u128, room: &mut [u8; 40]) -> usize
 }
 
 /// Puts the decimal digits of a number, without leading zeros, by one `put`. A refusal has its cause in the sink.
+///
+/// # Errors
+///
+/// What the sink refused.
 pub fn put_number<K: Sink>(value: u128, out: &mut K) -> Result<(), PutFailed>
     ensures whole { OnOk result (GotWhole (K.got out.old) (K.got out.new) (decimal value)) }
     ensures part { OnErr result (GotPart (K.got out.old) (K.got out.new) (decimal value)) }

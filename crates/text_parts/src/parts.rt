@@ -2,7 +2,8 @@
 ghost use Rattle.std.specs.Prelude.{◌≡◌, ◌++◌, IfOk, OnOk};
 ghost use Rattle.std.specs.Option.{option_copied};
 ghost use Rattle.path_rows.specs.Text.{text, costs_lines, tree_lines};
-ghost use Rattle.evidence_text.specs.Lines.{text_of, AreShort};
+ghost use Rattle.text_lines.specs.Lines.{with_ends};
+ghost use Rattle.evidence_text.specs.Lines.{AreShort};
 ghost use Rattle.evidence_text.specs.Parts.{rows_lines, part_word};
 
 use crate::text_buffer::TextBuffer;
@@ -38,7 +39,7 @@ pub fn push_costs(
     costs: Option<&Costs>,
 ) -> Result<(), OutOfMemory>
     requires { AreShort (costs_lines (option_copied costs)) }
-    ensures { OnOk result (text.new.items ≡ text.old.items ++ text_of (costs_lines (option_copied costs.entry))) }
+    ensures { OnOk result (text.new.items ≡ text.old.items ++ with_ends (costs_lines (option_copied costs.entry))) }
 {
     let mut buffer = TextBuffer::from_bytes(replace(text, Vec::new(alloc)));
     match put_costs(costs, &mut buffer) {
@@ -57,7 +58,7 @@ pub fn push_costs(
 /// `OutOfMemory`.
 pub fn push_rows(alloc: Global, text: &mut Vec<u8>, rows: &[Row]) -> Result<(), OutOfMemory>
     requires { AreShort (rows_lines rows.now) }
-    ensures { OnOk result (text.new.items ≡ text.old.items ++ text_of (rows_lines rows.now)) }
+    ensures { OnOk result (text.new.items ≡ text.old.items ++ with_ends (rows_lines rows.now)) }
 {
     let mut buffer = TextBuffer::from_bytes(replace(text, Vec::new(alloc)));
     match put_rows(rows, &mut buffer) {
@@ -81,7 +82,7 @@ pub fn push_tree(
     tree: Option<&CapTree>,
 ) -> Result<(), OutOfMemory>
     requires { AreShort (tree_lines (part_word part) (option_copied tree)) }
-    ensures { OnOk result (text.new.items ≡ text.old.items ++ text_of (tree_lines (part_word part) (option_copied tree.entry))) }
+    ensures { OnOk result (text.new.items ≡ text.old.items ++ with_ends (tree_lines (part_word part) (option_copied tree.entry))) }
 {
     let mut buffer = TextBuffer::from_bytes(replace(text, Vec::new(alloc)));
     match put_tree(part, tree, &mut buffer) {

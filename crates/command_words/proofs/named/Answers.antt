@@ -1,7 +1,7 @@
 use Rattle.std.proofs.Common.{◌∙◌, ap}
 use Rattle.command_words.specs.Commands.{row_of_word}
 use Rattle.command_words.specs.Words.{texts}
-use Rattle.command_words.proofs.Steps.{named_row, no_words}
+use Rattle.command_words.proofs.JobSteps.{named_row, no_words}
 use Rattle.command_words.proofs.named.Goals as goal
 
 pub returns-in_err-first : goal.returns-in_err-first

@@ -67,7 +67,7 @@ fn line_of(alloc: Global, word: &[u8], rest: &[u8]) -> Result<Statement, OutOfMe
     }
 }
 
-/// The word of a text of one word; None exactly off that.
+/// The word of a text of one word; None exactly where it has another number of words.
 fn one_word(text: &[u8]) -> Option<&[u8]>
     ensures { MatchOption result ((length (words text.now) == 1) ≡ false) (λ word. words text.now ≡ word.now ∷ []) }
 {
@@ -78,7 +78,7 @@ fn one_word(text: &[u8]) -> Option<&[u8]>
     }
 }
 
-/// The words of a text of two words; None exactly off that.
+/// The words of a text of two words; None exactly where it has another number of words.
 fn two_words(text: &[u8]) -> Option<(&[u8], &[u8])>
     ensures { MatchOption result ((length (words text.now) == 2) ≡ false) (λ p. words text.now ≡ p.0.now ∷ p.1.now ∷ []) }
 {
@@ -87,7 +87,7 @@ fn two_words(text: &[u8]) -> Option<(&[u8], &[u8])>
     Some((first, second))
 }
 
-/// The words of a text of three words; None exactly off that.
+/// The words of a text of three words; None exactly where it has another number of words.
 fn three_words(text: &[u8]) -> Option<(&[u8], &[u8], &[u8])>
     ensures { MatchOption result ((length (words text.now) == 3) ≡ false) (λ p. words text.now ≡ p.0.now ∷ p.1.now ∷ p.2.now ∷ []) }
 {
@@ -96,7 +96,7 @@ fn three_words(text: &[u8]) -> Option<(&[u8], &[u8], &[u8])>
     Some((first, second, third))
 }
 
-/// The words of a text of four words; None exactly off that.
+/// The words of a text of four words; None exactly where it has another number of words.
 fn four_words(text: &[u8]) -> Option<(&[u8], &[u8], &[u8], &[u8])>
     ensures { MatchOption result ((length (words text.now) == 4) ≡ false) (λ p. words text.now ≡ p.0.now ∷ p.1.now ∷ p.2.now ∷ p.3.now ∷ []) }
 {
@@ -141,7 +141,7 @@ fn cost_line(rest: &[u8]) -> Statement
     }
 }
 
-/// A number of 1 to 9 digits; None exactly off that.
+/// A number of 1 to 9 digits; None exactly where the word is no such number.
 fn bound(text: &[u8]) -> Option<u64>
     ensures { result ≡ definition.bound text.now }
 {

@@ -42,7 +42,8 @@ fn next_before_without(text: &[u8]) -> Option<(&[u8], &[u8])>
     }
 }
 
-/// The route of a word and the words before `without`: words R:IF, and a last word R without `:`. None exactly off that.
+/// The route of a word and the words before `without`: words R:IF, and a last word R without `:`.
+/// None exactly where they have another form.
 fn read_route(alloc: Global, first: &[u8], text: &[u8]) -> Result<Option<Hops>, OutOfMemory>
     ensures { IfOk result (λ route. route ≡ route_of (first.now ∷ to_without (words text.now))) }
 {
@@ -81,7 +82,8 @@ fn add_hop(hops: &mut Vec<(Name, Name)>, hop: (Name, Name)) -> Result<(), OutOfM
     }
 }
 
-/// The router and the interface of a word R:IF, cut at its first `:`, of which neither is empty; None exactly off that.
+/// The router and the interface of a word R:IF, cut at its first `:`, of which neither is empty;
+/// None exactly where there is no `:` or one is empty.
 fn read_hop(alloc: Global, word: &[u8]) -> Result<Option<(Name, Name)>, OutOfMemory>
     ensures { IfOk result (λ hop. hop ≡ hop_of word.now) }
 {
@@ -110,7 +112,8 @@ fn behind_without(text: &[u8]) -> Option<&[u8]>
     None
 }
 
-/// What a path takes away: nothing without the word `without`, and else at least one part behind it. None exactly off that.
+/// What a path takes away: nothing without the word `without`, and else at least one part behind it.
+/// None exactly where none stands there or one has no such form.
 fn read_taken_away(alloc: Global, text: &[u8]) -> Result<Option<Listed<Part>>, OutOfMemory>
     ensures { IfOk result (λ parts. parts ≡ taken_away (behind_without (words text.now))) }
 {
@@ -149,7 +152,7 @@ fn add_part(parts: &mut Vec<Part>, part: Part) -> Result<(), OutOfMemory>
     }
 }
 
-/// A router of a word R, or an interface of a word R:IF; None exactly off both.
+/// A router of a word R, or an interface of a word R:IF; None exactly where the word is neither.
 fn read_part(alloc: Global, word: &[u8]) -> Result<Option<Part>, OutOfMemory>
     ensures { IfOk result (λ part. part ≡ definition.part_of word.now) }
 {

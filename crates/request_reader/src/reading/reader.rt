@@ -15,7 +15,8 @@ use std::marker::Model;
 /// The greatest count of wanted paths.
 const MOST_PATHS: u32 = 10_000;
 
-/// What the lines that were read say together: whether a header was among them, the area and the default cost so far, and what they ask for, of which `paths` are paths.
+/// What the lines that were read say together: whether a header was among them, the area and the default cost so far, and
+/// what they ask for, of which `paths` are paths.
 #[derive(Drop)]
 pub(crate) struct Reader {
     spoken: bool,

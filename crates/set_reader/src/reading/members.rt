@@ -1,5 +1,6 @@
 //! The members of a set.
-ghost use Rattle.std.specs.Prelude.{◌≡◌, ◌↔◌, ◌^◌, ◌<◌, ℕ, List, ◌++◌, ◌∷◌, ◌||◌, [], not, true, false, length, map, All, IsTrue, IfOk, IfErr, IfSome, OnOk, MatchOption, slice_index_or};
+ghost use Rattle.std.specs.Prelude.{◌≡◌, ◌↔◌, ◌^◌, ◌<◌, ℕ, List, ◌++◌, ◌∷◌, ◌||◌, [], not, true, false, length, map, All, IsTrue};
+ghost use Rattle.std.specs.Prelude.{IfOk, IfErr, IfSome, OnOk, MatchOption, slice_index_or};
 ghost use Rattle.std.specs.List.{list_any};
 ghost use Rattle.cost_base.specs.Lists.{same_bytes};
 ghost use Rattle.area_graph.specs.Distances.{AreMarks};
@@ -65,7 +66,8 @@ fn find_member<'a>(
 /// Adds the edges of a member's path to those seen; tells whether they are new.
 fn see<'a>(seen: &mut IndexSet<&'a [u32]>, member: &'a Request) -> Result<bool, OutOfMemory>
     ensures new { IfOk result (λ new. new ≡ not (list_any (same_bytes member.now.path.edges) (map (λ edges. edges.now) seen.old.keys))) }
-    ensures added { IfOk result (λ new. IsTrue new → map (λ edges. edges.now) seen.new.keys ≡ map (λ edges. edges.now) seen.old.keys ++ member.now.path.edges ∷ []) }
+    ensures added { IfOk result (λ new. IsTrue new →
+        map (λ edges. edges.now) seen.new.keys ≡ map (λ edges. edges.now) seen.old.keys ++ member.now.path.edges ∷ []) }
 {
     Ok(seen.insert(member.path.edges.as_slice())?)
 }
@@ -84,7 +86,8 @@ pub(crate) fn read_members(
     ensures made { IfOk result (λ members. IsInOrder numbers.now members.items) }
     ensures known { IfOk result (λ members. All (λ member. member < length requests.now) members.items) }
     ensures lawful { IfOk result (λ members. (earlier : List ℕ) → AreMarks earlier taken.now → is_wrong_set requests.now earlier numbers.now ≡ false) }
-    ensures refused { IfErr result (λ stop. (earlier : List ℕ) → AreMarks earlier taken.now → TellsReading (fault_in_line line (wrong_if (is_wrong_set requests.now earlier numbers.now))) stop) }
+    ensures refused { IfErr result (λ stop. (earlier : List ℕ) → AreMarks earlier taken.now →
+        TellsReading (fault_in_line line (wrong_if (is_wrong_set requests.now earlier numbers.now))) stop) }
 {
     let mut members = Vec::new(alloc);
     let mut seen = IndexSet::new(alloc);

@@ -73,7 +73,8 @@ impl<'a> Reader<'a> {
         requires spoken { self.old.spoken ≡ true }
         ensures taken { OnOk result (fault_behind_header self.old.problem.paths (told_of self.old) (NumbersSaid numbers.now) ≡ None) }
         ensures told { OnOk result (TakesLine self.old (NumbersSaid numbers.now) self.new) }
-        ensures refused { IfErr result (TellsReading (fault_in_line line (fault_behind_header self.old.problem.paths (told_of self.old) (NumbersSaid numbers.now)))) }
+        ensures refused { IfErr result (TellsReading
+            (fault_in_line line (fault_behind_header self.old.problem.paths (told_of self.old) (NumbersSaid numbers.now)))) }
     {
         let problem = self.problem;
         let requests = problem.paths.as_slice();

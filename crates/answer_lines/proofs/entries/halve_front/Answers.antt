@@ -1,6 +1,6 @@
 use Rattle.std.proofs.Common.{arith}
 use Rattle.answer_lines.specs.Words.{words_left}
-use Rattle.answer_lines.proofs.Chains.{rest-is}
+use Rattle.answer_lines.proofs.ListParts.{rest-is}
 use Rattle.answer_lines.proofs.entries.halve_front.Goals as goal
 
 pub returns-in_err-value : goal.returns-in_err-value

@@ -13,5 +13,6 @@ pub returns-then-is_done : goal.returns-then-is_done
 returns-then-is_done c =
     only_halve (words_left c.args.words)
     (λ v b wide bounds fits e.
-    let rest : words_left c.in-Some.rest ≡ members_words wide.basis = front-rest (words_left c.args.words) c.in-Some.front (front_of v b wide) _ _ c.in-Some.ensures.1 e in
+    let rest : words_left c.in-Some.rest ≡ members_words wide.basis =
+    front-rest (words_left c.args.words) c.in-Some.front (front_of v b wide) _ _ c.in-Some.ensures.1 e in
     members-some wide.basis fits.2 (sym rest ∙ c.is_done.ensures.0 c.if-is_done.true))

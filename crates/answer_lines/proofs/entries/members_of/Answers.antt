@@ -2,7 +2,7 @@ use Rattle.std.proofs.Common.{◌++◌, All, sym, ap, subst, ◌∙◌}
 use Rattle.path_rows.specs.Bounds.{BoundsMember}
 use Rattle.path_rows.specs.Text.{members_words}
 use Rattle.answer_lines.specs.Words.{words_left}
-use Rattle.answer_lines.proofs.Chains.{not-both}
+use Rattle.answer_lines.proofs.ListParts.{not-both}
 use Rattle.answer_lines.proofs.NumberWords.{All-more}
 use Rattle.answer_lines.proofs.EntryWords.{no_member_more, member_more}
 use Rattle.answer_lines.proofs.entries.members_of.Goals as goal
@@ -16,8 +16,11 @@ returns-in_default c =
 pub loop-left-preserved : goal.loop-left-preserved
 loop-left-preserved c = record {
   words =
-      member_more (words_left c.args.words) (words_left c.loop-left.left) (words_left c.in-Some.rest) c.loop-left.members.items c.in-Some.member c.loop-left.invariant.words c.in-Some.ensures.1
+      member_more (words_left c.args.words) (words_left c.loop-left.left) (words_left c.in-Some.rest)
+      c.loop-left.members.items c.in-Some.member c.loop-left.invariant.words c.in-Some.ensures.1
       ∙ ap (λ l. members_words l ++ words_left c.in-Some.rest) (sym c.in_ok-push.ensures.items);
   bounds =
-      subst (λ l. All BoundsMember l) (sym c.in_ok-push.ensures.items) (All-more BoundsMember c.loop-left.members.items c.in-Some.member c.loop-left.invariant.bounds c.in-Some.ensures.0);
+      subst (λ l. All BoundsMember l) (sym c.in_ok-push.ensures.items)
+      (All-more BoundsMember c.loop-left.members.items c.in-Some.member c.loop-left.invariant.bounds
+      c.in-Some.ensures.0);
 }

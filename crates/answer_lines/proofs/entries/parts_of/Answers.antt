@@ -3,7 +3,7 @@ use Rattle.std.proofs.lemmas.List.Quantifiers.{all_pairs_push}
 use Rattle.path_rows.specs.Bounds.{BoundsParts, IsRowNumber}
 use Rattle.path_rows.specs.Text.{part_words}
 use Rattle.answer_lines.specs.Words.{words_left}
-use Rattle.answer_lines.proofs.Chains.{not-both}
+use Rattle.answer_lines.proofs.ListParts.{not-both}
 use Rattle.answer_lines.proofs.NumberWords.{All-more}
 use Rattle.answer_lines.proofs.EntryWords.{no_part_more, not_rising, part_more}
 use Rattle.answer_lines.proofs.entries.parts_of.Goals as goal
@@ -19,7 +19,8 @@ returns-then-not-rises c =
     λ ps bounds small e.
     let fall = c.rises.ensures.fall c.if-not-rises.true in
     let within : fall.0 < length c.loop-left.parts.items = omega (arith, fall.1, c.as_slice.ensures.len, ap length c.as_slice.ensures.value) in
-    not_rising c.loop-left.parts.items ps (words_left c.loop-left.left) (words_left c.in-Some.rest) c.in-Some.part fall.0 bounds (sym e ∙ c.loop-left.invariant.words) c.in-Some.ensures.3 within
+    not_rising c.loop-left.parts.items ps (words_left c.loop-left.left) (words_left c.in-Some.rest) c.in-Some.part
+    fall.0 bounds (sym e ∙ c.loop-left.invariant.words) c.in-Some.ensures.3 within
     (λ d. subst (λ l. c.in-Some.part.0 ≤ (get_or l fall.0 d).0) c.as_slice.ensures.value (fall.2 d))
 
 pub loop-left-preserved : goal.loop-left-preserved
@@ -29,14 +30,18 @@ loop-left-preserved c =
     let rise = c.rises.ensures.rise c.if-not-rises.false in
     record {
       words =
-          part_more (words_left c.args.words) (words_left c.loop-left.left) (words_left c.in-Some.rest) items part c.loop-left.invariant.words c.in-Some.ensures.3
+          part_more (words_left c.args.words) (words_left c.loop-left.left) (words_left c.in-Some.rest) items part
+          c.loop-left.invariant.words c.in-Some.ensures.3
           ∙ ap (λ l. part_words l ++ words_left c.in-Some.rest) (sym c.in_ok-push.ensures.items);
       bounds =
           subst (λ l. BoundsParts l) (sym c.in_ok-push.ensures.items)
           (record {
             rows = All-more (λ p. IsRowNumber p.0) items part c.loop-left.invariant.bounds.rows c.in-Some.ensures.0;
-            rising = all_pairs_push (λ a b. a.0 < b.0) items part c.loop-left.invariant.bounds.rising (subst (λ l. (k : ℕ) (d : ℕ × ℕ) → k < length l → (get_or l k d).0 < part.0) c.as_slice.ensures.value rise);
+            rising = all_pairs_push (λ a b. a.0 < b.0) items part c.loop-left.invariant.bounds.rising
+                (subst (λ l. (k : ℕ) (d : ℕ × ℕ) → k < length l → (get_or l k d).0 < part.0)
+                c.as_slice.ensures.value rise);
             positive = All-more (λ p. 0 < p.1) items part c.loop-left.invariant.bounds.positive c.in-Some.ensures.1;
           });
-      small = subst (λ l. All (λ p. p.1 < 10 ^ 31) l) (sym c.in_ok-push.ensures.items) (All-more (λ p. p.1 < 10 ^ 31) items part c.loop-left.invariant.small c.in-Some.ensures.2);
+      small = subst (λ l. All (λ p. p.1 < 10 ^ 31) l) (sym c.in_ok-push.ensures.items)
+          (All-more (λ p. p.1 < 10 ^ 31) items part c.loop-left.invariant.small c.in-Some.ensures.2);
     }

@@ -9,7 +9,8 @@ returns-in_err-line c = rw c.from_residual.ensures (lacks-short AtFloor c.args.t
 pub returns-in_err-floor : goal.returns-in_err-floor
 returns-in_err-floor c =
     rw c.from_residual-in_err-floor.ensures
-    (lacks-first AtFloor c.args.text.left.now c.in_ok-line.line.now c.in_ok-line.rest.left.now c.in_ok-line.ensures.0 (λ next is. c.in_err-floor.ensures is.floor is.bounds is.is))
+    (lacks-first AtFloor c.args.text.left.now c.in_ok-line.line.now c.in_ok-line.rest.left.now c.in_ok-line.ensures.0
+    (λ next is. c.in_err-floor.ensures is.floor is.bounds is.is))
 
 pub returns : goal.returns
 returns c =

@@ -9,12 +9,14 @@ returns-in_err-line c = rw c.from_residual.ensures (lacks-short AtVerdict c.args
 pub returns-in_err-verdict : goal.returns-in_err-verdict
 returns-in_err-verdict c =
     rw c.from_residual-in_err-verdict.ensures
-    (lacks-first AtVerdict c.args.text.left.now c.in_ok-line.line.now c.in_ok-line.rest.left.now c.in_ok-line.ensures.0 (λ next is. c.in_err-verdict.ensures is.verdict is.bounds is.is))
+    (lacks-first AtVerdict c.args.text.left.now c.in_ok-line.line.now c.in_ok-line.rest.left.now c.in_ok-line.ensures.0
+    (λ next is. c.in_err-verdict.ensures is.verdict is.bounds is.is))
 
 pub returns : goal.returns
 returns c =
     let found = c.in_ok-verdict.ensures in (
       found.0,
-      read-one AtVerdict AtCosts c.args.text.read c.in_ok-line.rest.read c.args.text.left.now _ c.in_ok-line.rest.left.now (rw found.1 at c.in_ok-line.ensures.0)
+      read-one AtVerdict AtCosts c.args.text.read c.in_ok-line.rest.read c.args.text.left.now _
+          c.in_ok-line.rest.left.now (rw found.1 at c.in_ok-line.ensures.0)
           (record { verdict = c.in_ok-verdict.verdict; bounds = found.0; is = refl; leads = refl }) c.in_ok-line.ensures.1,
     )

@@ -17,4 +17,6 @@ none_said line first second third (Budget cap) bounds e = third cap (omega arith
 pub returns-in_err-cap : goal.returns-in_err-cap
 returns-in_err-cap c =
     rw c.from_residual.ensures
-    (none_said c.args.line.now (λ e. absurd (cc ((pointwise_decides Decides-eqb c.args.line.now c.as_slice.result.now).1 (e ∙ sym c.as_slice.ensures)))) c.in_default.ensures c.in_err-cap.ensures)
+    (none_said c.args.line.now (λ e.
+    absurd (cc ((pointwise_decides Decides-eqb c.args.line.now c.as_slice.result.now).1
+    (e ∙ sym c.as_slice.ensures)))) c.in_default.ensures c.in_err-cap.ensures)

@@ -20,9 +20,12 @@ returns-in_err-denominator c =
     rw c.from_residual-in_err-denominator.ensures
     (λ q printed e.
     c.in_err-denominator.ensures printed.fraction.denominator (omega (arith, printed.denominator))
-    ((same_slash c.args.word.now c.in_ok-above.above.now c.in_ok-above.below.now q c.in_ok-above.ensures.parts c.in_ok-above.ensures.pieces e).1 ∙ ap integer (printed-below q printed)))
+    ((same_slash c.args.word.now c.in_ok-above.above.now c.in_ok-above.below.now q c.in_ok-above.ensures.parts
+    c.in_ok-above.ensures.pieces e).1 ∙ ap integer (printed-below q printed)))
 
 pub returns : goal.returns
 returns c =
     ratio_found c.args.word.now c.in_ok-above.above.now c.in_ok-above.below.now c.in_ok-numerator.numerator c.in_ok-denominator.denominator c.lowest.result
-    c.in_ok-above.ensures.parts c.in_ok-above.ensures.pieces c.in_ok-numerator.ensures.1 c.in_ok-denominator.ensures.0 (rw (to_z-of_z w128 c.in_ok-numerator.numerator (fits_signed_from_abs w128 c.in_ok-numerator.numerator c.in_ok-numerator.ensures.0)) at c.lowest.ensures)
+    c.in_ok-above.ensures.parts c.in_ok-above.ensures.pieces c.in_ok-numerator.ensures.1 c.in_ok-denominator.ensures.0
+    (rw (to_z-of_z w128 c.in_ok-numerator.numerator
+    (fits_signed_from_abs w128 c.in_ok-numerator.numerator c.in_ok-numerator.ensures.0)) at c.lowest.ensures)

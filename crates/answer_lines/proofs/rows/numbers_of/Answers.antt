@@ -1,6 +1,6 @@
 use Rattle.std.proofs.Common.{◌∙◌, sym}
 use Rattle.answer_lines.specs.Words.{words_left}
-use Rattle.answer_lines.proofs.Chains.{not-both}
+use Rattle.answer_lines.proofs.ListParts.{not-both}
 use Rattle.answer_lines.proofs.NumberWords.{no_number}
 use Rattle.answer_lines.proofs.rows.numbers_of.Goals as goal
 

@@ -5,9 +5,11 @@ use Rattle.begun_lines.proofs.entries.becomes_leaf.Goals as goal
 
 pub returns-then-becomes_refute : goal.returns-then-becomes_refute
 returns-then-becomes_refute c =
-    first_holds {said = LeafWords} {first = RefuteWords} (λ ws is. inl is) c.args.line.text.now c.args.line.room c.becomes_refute.result c.if-becomes_refute.true c.becomes_refute.ensures
+    first_holds {said = LeafWords} {first = RefuteWords} (λ ws is. inl is) c.args.line.text.now c.args.line.room
+    c.becomes_refute.result c.if-becomes_refute.true c.becomes_refute.ensures
 
 pub returns-else-becomes_refute : goal.returns-else-becomes_refute
 returns-else-becomes_refute c =
-    first_fails {said = LeafWords} {first = RefuteWords} {second = OpenWords} (λ ws is. is) (λ ws is. inr is) c.args.line.text.now c.args.line.room c.becomes_refute.result c.last_name.result
+    first_fails {said = LeafWords} {first = RefuteWords} {second = OpenWords} (λ ws is. is)
+    (λ ws is. inr is) c.args.line.text.now c.args.line.room c.becomes_refute.result c.last_name.result
     c.if-becomes_refute.false c.becomes_refute.ensures c.last_name.ensures

@@ -9,4 +9,5 @@ returns-in-None c = stops (λ w. w ≡ codes "refute") (PartsWords 0) c.args.lin
 
 pub returns-in-Some : goal.returns-in-Some
 returns-in-Some c =
-    goes (λ w. w ≡ codes "refute") (PartsWords 0) c.args.line c.in-Some.at_parts c.in-Some.ensures (λ is. parts-some is.0 is.1 (sym is.3)) c.goes_on_with_parts.result c.goes_on_with_parts.ensures
+    goes (λ w. w ≡ codes "refute") (PartsWords 0) c.args.line c.in-Some.at_parts c.in-Some.ensures
+    (λ is. parts-some is.0 is.1 (sym is.3)) c.goes_on_with_parts.result c.goes_on_with_parts.ensures

@@ -11,4 +11,5 @@ returns-in_default-number c =
 pub returns : goal.returns
 returns c =
     goes (λ w. w ≡ codes "split") (Then (IsNumber vars) (Alone (IsNumber values))) c.args.line c.in-Some.at_var c.in-Some.ensures (λ x. x) c.last_number.result
-    (goes (IsNumber vars) (Alone (IsNumber values)) c.in-Some.at_var c.in-Some-number.at_value c.in-Some-number.ensures (λ x. x) c.last_number.result c.last_number.ensures)
+    (goes (IsNumber vars) (Alone (IsNumber values)) c.in-Some.at_var c.in-Some-number.at_value c.in-Some-number.ensures
+    (λ x. x) c.last_number.result c.last_number.ensures)

@@ -10,5 +10,7 @@ returns-in_default-number c =
 
 pub returns : goal.returns
 returns c =
-    goes (λ w. w ≡ codes "tighten") (Then (IsNumber vars) (Then IsSide BoundWords)) c.args.line c.in-Some.at_var c.in-Some.ensures (λ x. x) c.goes_on_with_sides.result
-    (goes (IsNumber vars) (Then IsSide BoundWords) c.in-Some.at_var c.in-Some-number.at_side c.in-Some-number.ensures (λ x. x) c.goes_on_with_sides.result c.goes_on_with_sides.ensures)
+    goes (λ w. w ≡ codes "tighten") (Then (IsNumber vars) (Then IsSide BoundWords)) c.args.line c.in-Some.at_var
+    c.in-Some.ensures (λ x. x) c.goes_on_with_sides.result
+    (goes (IsNumber vars) (Then IsSide BoundWords) c.in-Some.at_var c.in-Some-number.at_side c.in-Some-number.ensures
+    (λ x. x) c.goes_on_with_sides.result c.goes_on_with_sides.ensures)

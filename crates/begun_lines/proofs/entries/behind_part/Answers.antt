@@ -3,14 +3,15 @@ use Rattle.cost_base.specs.Decimal.{decimal}
 use Rattle.text_lines.specs.Numbers.{split}
 use Rattle.text_lines.proofs.Pieces.{split-some}
 use Rattle.whole_numbers.proofs.Divisors.{one-gcd}
-use Rattle.answer_lines.proofs.Chains.{tail-is}
+use Rattle.answer_lines.proofs.ListParts.{tail-is}
 use Rattle.begun_lines.proofs.entries.behind_part.Goals as goal
 
 pub returns-in_err-row : goal.returns-in_err-row
 returns-in_err-row c =
     rw c.from_residual.ensures
     (λ row m rest among positive e.
-    c.in_err-row.ensures row m (split 32 rest) (omega (arith, among.greatest)) (omega (arith, positive.least)) (omega (arith, positive.greatest)) (c.new.ensures ∙ e))
+    c.in_err-row.ensures row m (split 32 rest) (omega (arith, among.greatest)) (omega (arith, positive.least))
+    (omega (arith, positive.greatest)) (c.new.ensures ∙ e))
 
 pub returns-in_err-behind : goal.returns-in_err-behind
 returns-in_err-behind c =

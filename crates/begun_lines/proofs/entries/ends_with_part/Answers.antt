@@ -8,4 +8,5 @@ number-requires-clause-coprime c = one-gcd c.args.least
 
 pub returns-in-Some : goal.returns-in-Some
 returns-in-Some c =
-    goes (IsNumber (rows_from c.args.least)) (Alone (IsNumber multipliers)) c.args.line c.in-Some.at_multiplier c.in-Some.ensures (λ x. x) c.last_number.result c.last_number.ensures
+    goes (IsNumber (rows_from c.args.least)) (Alone (IsNumber multipliers)) c.args.line c.in-Some.at_multiplier
+    c.in-Some.ensures (λ x. x) c.last_number.result c.last_number.ensures

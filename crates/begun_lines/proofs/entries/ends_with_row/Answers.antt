@@ -4,4 +4,5 @@ use Rattle.begun_lines.proofs.BegunWords.{goes}
 use Rattle.begun_lines.proofs.entries.ends_with_row.Goals as goal
 
 pub returns-in-Some : goal.returns-in-Some
-returns-in-Some c = goes (λ w. w ≡ codes "row") (Alone (IsNumber (rows_from 0))) c.args.line c.in-Some.at_row c.in-Some.ensures (λ x. x) c.last_number.result c.last_number.ensures
+returns-in-Some c = goes (λ w. w ≡ codes "row") (Alone (IsNumber (rows_from 0))) c.args.line c.in-Some.at_row
+    c.in-Some.ensures (λ x. x) c.last_number.result c.last_number.ensures

@@ -17,5 +17,7 @@ returns c =
     λ k n extends among.
     elim (ltb k c.loop-digits.digits) as (λ b. ltb k c.loop-digits.digits ≡ b → ⊥) [
       | true ↦ λ few. c.loop-digits.invariant k n (ltb-true k c.loop-digits.digits few) extends among
-      | false ↦ λ many. too_many_digits c.args.begun k n c.requires.some (omega (arith, ltb-false k c.loop-digits.digits many)) (omega (arith, among.greatest, c.requires.fits)) extends
+      | false ↦ λ many. too_many_digits c.args.begun k n c.requires.some
+          (omega (arith, ltb-false k c.loop-digits.digits many))
+          (omega (arith, among.greatest, c.requires.fits)) extends
     ] refl

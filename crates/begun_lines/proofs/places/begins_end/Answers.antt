@@ -1,6 +1,6 @@
 use Rattle.std.proofs.Common.{codes, refl, arith}
 use Rattle.answer_lines.specs.Grammar.{AfterEnd, AtEnd}
-use Rattle.begun_lines.proofs.Either.{through}
+use Rattle.begun_lines.proofs.TruthLaws.{through}
 use Rattle.begun_lines.proofs.BegunPlaces.{wanted-begun}
 use Rattle.begun_lines.proofs.places.begins_end.Goals as goal
 

@@ -1,8 +1,10 @@
 use Rattle.std.proofs.Common.{Some, codes, refl, arith}
 use Rattle.answer_lines.specs.Grammar.{AtExit, AtSections}
-use Rattle.begun_lines.proofs.Either.{through}
+use Rattle.begun_lines.proofs.TruthLaws.{through}
 use Rattle.begun_lines.proofs.BegunPlaces.{wanted-begun}
 use Rattle.begun_lines.proofs.places.begins_exit.Goals as goal
 
 pub returns : goal.returns
-returns c = λ router. through c.begins_line.ensures (wanted-begun (AtExit router) (AtSections (Some router)) c.args.rest.now (codes "exit") (omega arith) (refl, refl) (λ l n is. is.0))
+returns c = λ router. through c.begins_line.ensures
+    (wanted-begun (AtExit router) (AtSections (Some router)) c.args.rest.now (codes "exit") (omega arith) (refl, refl)
+    (λ l n is. is.0))

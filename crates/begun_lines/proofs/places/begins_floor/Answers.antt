@@ -1,6 +1,6 @@
 use Rattle.std.proofs.Common.{◌↔◌, ◌⊎◌, IsTrue, codes, refl}
 use Rattle.begun_lines.specs.Begun.{IsFront}
-use Rattle.begun_lines.proofs.Either.{through, either-first, either-second}
+use Rattle.begun_lines.proofs.TruthLaws.{through, either-first, either-second}
 use Rattle.begun_lines.proofs.BegunPlaces.{floor-begun}
 use Rattle.begun_lines.proofs.places.begins_floor.Goals.{then-begins_line, else-begins_line}
 use Rattle.begun_lines.proofs.places.begins_floor.Goals as goal
@@ -11,6 +11,8 @@ returns-else-begins_line-2 c =
     elim c.if-begins_line.branch [
       | then-begins_line w ↦ either-first c.begins_line.result c.if-begins_line.value c.begins_line.ensures w.if-begins_line.true w.value-is
       | else-begins_line w ↦
-          either-second c.begins_line.result w.begins_line-else-begins_line.result c.if-begins_line.value c.begins_line.ensures w.begins_line-else-begins_line.ensures w.if-begins_line.false w.value-is
+          either-second c.begins_line.result w.begins_line-else-begins_line.result c.if-begins_line.value
+          c.begins_line.ensures w.begins_line-else-begins_line.ensures w.if-begins_line.false w.value-is
     ] in
-    through (either-second c.if-begins_line.value c.begins_number.result c.begins_number.result early c.begins_number.ensures c.if-begins_line-2.false refl) (floor-begun c.args.rest.now)
+    through (either-second c.if-begins_line.value c.begins_number.result c.begins_number.result early
+    c.begins_number.ensures c.if-begins_line-2.false refl) (floor-begun c.args.rest.now)

@@ -1,8 +1,10 @@
 use Rattle.std.proofs.Common.{codes, refl, arith}
 use Rattle.answer_lines.specs.Grammar.{AtHead, AtVerdict}
-use Rattle.begun_lines.proofs.Either.{through}
+use Rattle.begun_lines.proofs.TruthLaws.{through}
 use Rattle.begun_lines.proofs.BegunPlaces.{wanted-begun}
 use Rattle.begun_lines.proofs.places.begins_head.Goals as goal
 
 pub returns : goal.returns
-returns c = through c.begins_line.ensures (wanted-begun AtHead AtVerdict c.args.rest.now (codes "ospfcost answer 1") (omega arith) (refl, refl) (λ l n is. is.0))
+returns c = through c.begins_line.ensures
+    (wanted-begun AtHead AtVerdict c.args.rest.now (codes "ospfcost answer 1") (omega arith) (refl, refl)
+    (λ l n is. is.0))

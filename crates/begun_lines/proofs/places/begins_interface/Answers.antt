@@ -1,4 +1,4 @@
-use Rattle.begun_lines.proofs.Either.{through}
+use Rattle.begun_lines.proofs.TruthLaws.{through}
 use Rattle.begun_lines.proofs.BegunPlaces.{interface-begun}
 use Rattle.begun_lines.proofs.places.begins_interface.Goals as goal
 

@@ -1,12 +1,15 @@
 use Rattle.std.proofs.Common.{refl}
-use Rattle.begun_lines.proofs.Either.{through, either-first, either-second}
+use Rattle.begun_lines.proofs.TruthLaws.{through, either-first, either-second}
 use Rattle.begun_lines.proofs.BegunTrees.{proof-begun}
 use Rattle.begun_lines.proofs.places.begins_proof.Goals as goal
 
 pub returns-then-begins_line : goal.returns-then-begins_line
-returns-then-begins_line c = through (either-first c.begins_line.result c.begins_line.result c.begins_line.ensures c.if-begins_line.true refl) (proof-begun c.args.rest.now)
+returns-then-begins_line c = through
+    (either-first c.begins_line.result c.begins_line.result c.begins_line.ensures c.if-begins_line.true refl)
+    (proof-begun c.args.rest.now)
 
 pub returns-else-begins_line : goal.returns-else-begins_line
 returns-else-begins_line c =
-    through (either-second c.begins_line.result c.begins_tree.result c.begins_tree.result c.begins_line.ensures c.begins_tree.ensures c.if-begins_line.false refl)
+    through (either-second c.begins_line.result c.begins_tree.result c.begins_tree.result c.begins_line.ensures
+    c.begins_tree.ensures c.if-begins_line.false refl)
     (proof-begun c.args.rest.now)

@@ -3,7 +3,7 @@ use Rattle.std.specs.Prelude.{not}
 use Rattle.std.specs.Option.{option_copied}
 use Rattle.std.proofs.lemmas.Bool.{lt-ltb, not_from_false, false_from_ne_true}
 use Rattle.begun_lines.proofs.BegunNames.{router-open, router-full, router-same}
-use Rattle.answer_lines.proofs.Chains.{not-both}
+use Rattle.answer_lines.proofs.ListParts.{not-both}
 use Rattle.begun_lines.proofs.places.begins_router.Goals as goal
 
 pub returns-then-rest-lt-LONGEST : goal.returns-then-rest-lt-LONGEST

@@ -16,5 +16,7 @@ returns-in_ok-numerator-in-Some c =
     let numerator = c.in_ok-numerator-in-Some.numerator in
     let stands = c.in_ok-numerator-in-Some.ensures in
     let size = c.unsigned_abs.ensures.value ∙ ap nat_abs (to_z-of_z w128 numerator (fits_signed_from_abs w128 numerator stands.0)) in
-    missing_below c.args.word.now c.in-Some.above.now c.in-Some.below.now numerator c.denominators.result c.missing_digits.result c.in-Some.ensures.parts c.in-Some.ensures.pieces stands.0 stands.1
-    (subst (λ s. (n : ℕ) → (IsAmong c.denominators.result n ↔ ((0 < n) × (n < 2 ^ 127) × (gcd s n ≡ 1)))) size c.denominators.ensures.among) c.missing_digits.ensures
+    missing_below c.args.word.now c.in-Some.above.now c.in-Some.below.now numerator c.denominators.result
+    c.missing_digits.result c.in-Some.ensures.parts c.in-Some.ensures.pieces stands.0 stands.1
+    (subst (λ s. (n : ℕ) → (IsAmong c.denominators.result n ↔ ((0 < n) × (n < 2 ^ 127) × (gcd s n ≡ 1)))) size
+    c.denominators.ensures.among) c.missing_digits.ensures

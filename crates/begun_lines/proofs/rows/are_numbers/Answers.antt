@@ -1,6 +1,6 @@
 use Rattle.answer_lines.specs.Words.{words_left}
-use Rattle.begun_lines.proofs.Either.{through}
-use Rattle.answer_lines.proofs.Chains.{not-both}
+use Rattle.begun_lines.proofs.TruthLaws.{through}
+use Rattle.answer_lines.proofs.ListParts.{not-both}
 use Rattle.begun_lines.proofs.BegunRows.{numbers-off, numbers-on}
 use Rattle.begun_lines.proofs.rows.are_numbers.Goals as goal
 
@@ -13,4 +13,6 @@ returns-in_default c = (
 )
 
 pub loop-left-preserved : goal.loop-left-preserved
-loop-left-preserved c = through c.loop-left.invariant (numbers-on (words_left c.loop-left.left) (words_left c.in-Some.rest) c.in-Some.field-0-0 c.in-Some.ensures.0 c.in-Some.ensures.1)
+loop-left-preserved c = through c.loop-left.invariant
+    (numbers-on (words_left c.loop-left.left) (words_left c.in-Some.rest) c.in-Some.field-0-0 c.in-Some.ensures.0
+    c.in-Some.ensures.1)

@@ -7,7 +7,9 @@ use Rattle.begun_lines.proofs.rows.begins_edge.Goals as goal
 
 pub returns-in-Some : goal.returns-in-Some
 returns-in-Some c =
-    let cut : c.args.rest.now ≡ c.in-Some.line.now ++ c.as_slice.result.now = strip_suffix_is Decides-eqb c.args.rest.now c.as_slice.result.now (Some c.in-Some.line) c.in-Some.ensures.cases in
+    let cut : c.args.rest.now ≡ c.in-Some.line.now ++ c.as_slice.result.now =
+    strip_suffix_is Decides-eqb c.args.rest.now c.as_slice.result.now
+    (Some c.in-Some.line) c.in-Some.ensures.cases in
     let parts : c.args.rest.now ≡ c.in-Some.line.now ++ 32 ∷ [] = cut ∙ ap (λ bytes. c.in-Some.line.now ++ bytes) c.as_slice.ensures in (
       λ yes. (c.in-Some.line.now, c.is_row.ensures.0 yes, parts, c.if-rest-ge-LONGEST.false),
       λ edge. c.is_row.ensures.1 (subst IsRowLine (append_cancel_right edge.0 c.in-Some.line.now (32 ∷ []) (sym edge.2 ∙ parts)) edge.1),

@@ -2,7 +2,7 @@ use Rattle.std.proofs.Common.{◌≢◌, ◌↔◌, IsTrue, [], refl, sym, ap, �
 use Rattle.std.specs.Prelude.{not}
 use Rattle.std.proofs.lemmas.Bool.Decides.{Decides-not}
 use Rattle.answer_lines.specs.Words.{words_left}
-use Rattle.begun_lines.proofs.Either.{through, both-first, both-second}
+use Rattle.begun_lines.proofs.TruthLaws.{through, both-first, both-second}
 use Rattle.begun_lines.proofs.BegunRows.{row-said}
 use Rattle.begun_lines.proofs.rows.is_row.Goals as goal
 

@@ -1,6 +1,6 @@
 use Rattle.command_words.specs.Forms.{form_of}
 use Rattle.command_words.specs.Words.{texts}
-use Rattle.command_words.proofs.Steps.{refused_row, taken_row}
+use Rattle.command_words.proofs.JobSteps.{refused_row, taken_row}
 use Rattle.command_words.proofs.reading.read_row.Goals as goal
 
 pub returns-in_err-matches : goal.returns-in_err-matches

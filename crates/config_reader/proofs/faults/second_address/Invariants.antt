@@ -5,4 +5,5 @@ use Rattle.config_reader.proofs.faults.second_address.Given as goal
 
 -- what is left tells the first
 abbrev pub invariant-loop-line : goal.invariant-loop-line
-invariant-loop-line l = drafting.first_second l.drafts.drafts.items (map said_of (drop l.line-index l.said)) ≡ drafting.first_second l.drafts.drafts.items (map said_of l.said)
+invariant-loop-line l = drafting.first_second l.drafts.drafts.items (map said_of (drop l.line-index l.said))
+    ≡ drafting.first_second l.drafts.drafts.items (map said_of l.said)

@@ -1,6 +1,6 @@
 use Rattle.std.proofs.Common.{length, ◌≤◌}
 use Rattle.config_writer.specs.Rewriting.{costs_of}
-use Rattle.config_writer.proofs.Steps.{WrittenTo}
+use Rattle.config_writer.proofs.WrittenLines.{WrittenTo}
 use Rattle.config_writer.proofs.rewriting.write_lines.Given as goal
 
 -- what the lines so far ask for is written; no line that is left is longer than the text

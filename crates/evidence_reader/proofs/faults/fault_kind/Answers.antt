@@ -8,7 +8,8 @@ returns-in-Some c =
     λ place inside lacks begins.
     let line = c.in-Some.field-0.0.now in
     let more = c.in-Some.field-0.1.now in
-    bad_first place c.args.rest.now line more inside c.in-Some.ensures.parts (split-whole 10 c.args.rest.now line (split 10 more) c.in-Some.ensures.pieces) lacks
+    bad_first place c.args.rest.now line more inside c.in-Some.ensures.parts
+    (split-whole 10 c.args.rest.now line (split 10 more) c.in-Some.ensures.pieces) lacks
 
 pub returns-then-begins : goal.returns-then-begins
 returns-then-begins c =
@@ -20,4 +21,5 @@ pub returns-else-begins : goal.returns-else-begins
 returns-else-begins c =
     λ place inside lacks begins.
     let rest = c.args.rest.now in
-    bad_last place rest c.is_empty.result c.args.begins inside (split-whole 10 rest rest _ c.in-None.ensures.pieces) c.is_empty.ensures begins c.if-begins.false.0 c.if-begins.false.1
+    bad_last place rest c.is_empty.result c.args.begins inside (split-whole 10 rest rest _ c.in-None.ensures.pieces)
+    c.is_empty.ensures begins c.if-begins.false.0 c.if-begins.false.1

@@ -7,4 +7,5 @@ use Rattle.evidence_reader.proofs.faults.nothing_left.Goals as goal
 
 pub returns-else-is_empty : goal.returns-else-is_empty
 returns-else-is_empty c =
-    refused_here AfterEnd c.args.text.read c.args.text.left.now BehindEnd (after_end refl (some_by c.args.text.left.now c.is_empty.result c.is_empty.ensures c.if-is_empty.false))
+    refused_here AfterEnd c.args.text.read c.args.text.left.now BehindEnd
+    (after_end refl (some_by c.args.text.left.now c.is_empty.result c.is_empty.ensures c.if-is_empty.false))

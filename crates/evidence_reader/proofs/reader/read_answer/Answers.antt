@@ -7,7 +7,7 @@ use Rattle.answer_lines.specs.Lawful.{IsRead}
 use Rattle.answer_lines.specs.Going.{Goes}
 use Rattle.evidence_text.specs.Parts.{rows_lines}
 use Rattle.evidence_text.proofs.AnswerOrder.{ordered}
-use Rattle.evidence_reader.proofs.Going.{stop-then}
+use Rattle.evidence_reader.proofs.NextPlaces.{stop-then}
 use Rattle.evidence_reader.proofs.WholeText.{stop_at_start, parts_read, text_read, answer_kept}
 use Rattle.evidence_reader.proofs.reader.read_answer.Goals.{After-from_items}
 use Rattle.evidence_reader.proofs.reader.read_answer.Goals as goal
@@ -45,14 +45,20 @@ returns-in_err-unfinished-clause-stopped c =
     let p = err_from_is_err_and c.from_residual-in_err-unfinished.result c.from_residual-in_err-unfinished.ensures.1 in
     rw (p.1, p.2)
     (stop_at_start c.new-text.result.read c.new-text.result.left.now c.args.bytes.now _ c.new-text.ensures.read c.new-text.ensures.left
-    (stop-then _ c.in_ok-verdict.ensures (stop-then _ c.in_ok-priced.ensures.1 (stop-then _ c.in_ok-rows.ensures.0 (stop-then _ c.in_ok-proof.ensures.1 c.in_err-unfinished.ensures)))))
+    (stop-then _ c.in_ok-verdict.ensures
+    (stop-then _ c.in_ok-priced.ensures.1
+    (stop-then _ c.in_ok-rows.ensures.0 (stop-then _ c.in_ok-proof.ensures.1 c.in_err-unfinished.ensures)))))
 
 pub returns-in_err-read_end-clause-stopped : goal.returns-in_err-read_end-clause-stopped
 returns-in_err-read_end-clause-stopped c =
     let p = err_from_is_err_and c.from_residual-in_err-read_end.result c.from_residual-in_err-read_end.ensures.1 in
     rw (p.1, p.2)
     (stop_at_start c.new-text.result.read c.new-text.result.left.now c.args.bytes.now _ c.new-text.ensures.read c.new-text.ensures.left
-    (stop-then _ c.in_ok-verdict.ensures (stop-then _ c.in_ok-priced.ensures.1 (stop-then _ c.in_ok-rows.ensures.0 (stop-then _ c.in_ok-proof.ensures.1 (stop-then _ c.in_ok-unfinished.ensures.1 c.in_err-read_end.ensures))))))
+    (stop-then _ c.in_ok-verdict.ensures
+    (stop-then _ c.in_ok-priced.ensures.1
+    (stop-then _ c.in_ok-rows.ensures.0
+    (stop-then _ c.in_ok-proof.ensures.1
+    (stop-then _ c.in_ok-unfinished.ensures.1 c.in_err-read_end.ensures))))))
 
 -- the answer that the parts make
 abbrev answer_of : After-from_items → AnswerParts
@@ -67,11 +73,15 @@ answer_of c =
     }
 
 -- its lines were read
-all_read : (c : After-from_items) → IsRead AtHead c.new-text.result.read c.new-text.result.left.now (ordered (answer_of c)) AfterEnd c.in_ok-read_end.ensures.0 []
+all_read : (c : After-from_items) →
+    IsRead AtHead c.new-text.result.read c.new-text.result.left.now (ordered (answer_of c)) AfterEnd
+    c.in_ok-read_end.ensures.0 []
 all_read c =
     let rows =
-    subst (λ (l : List Row). Goes AtRows c.in_ok-priced.behind_costs (rows_lines l) (AtRow 0) c.in_ok-rows.behind_rows) (sym c.from_items.ensures) c.in_ok-rows.ensures.0 in
-    parts_read (answer_of c) c.in_ok-verdict.ensures c.in_ok-priced.ensures.1 rows c.in_ok-proof.ensures.1 c.in_ok-unfinished.ensures.1 c.in_ok-read_end.ensures.1
+    subst (λ (l : List Row). Goes AtRows c.in_ok-priced.behind_costs (rows_lines l) (AtRow 0) c.in_ok-rows.behind_rows)
+    (sym c.from_items.ensures) c.in_ok-rows.ensures.0 in
+    parts_read (answer_of c) c.in_ok-verdict.ensures c.in_ok-priced.ensures.1 rows c.in_ok-proof.ensures.1
+    c.in_ok-unfinished.ensures.1 c.in_ok-read_end.ensures.1
 
 pub returns-clause-read : goal.returns-clause-read
 returns-clause-read c =

@@ -5,7 +5,7 @@ use Rattle.path_rows.specs.Text.{costs_lines, FitsCosts}
 use Rattle.answer_lines.specs.Grammar.{AtCosts, AtRows}
 use Rattle.answer_lines.specs.Going.{Goes}
 use Rattle.evidence_text.specs.Parts.{floor_line}
-use Rattle.evidence_reader.proofs.Going.{go-then, stop-then}
+use Rattle.evidence_reader.proofs.NextPlaces.{go-then, stop-then}
 use Rattle.evidence_reader.proofs.stage_costs.read_costs.Goals as goal
 
 pub returns-in_err-head : goal.returns-in_err-head

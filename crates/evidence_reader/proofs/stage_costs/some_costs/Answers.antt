@@ -19,5 +19,7 @@ returns c =
       c.from_items.result,
       refl,
       subst (λ (l : List CostLine). All FitsCostLine l) (sym same) found.0,
-      subst (λ (l : List CostLine). Goes (AtSections None) c.args.text (cost_lines None l ++ floor_line c.in_ok-sections.sections.floor ∷ []) AtRows c.in_ok-sections.rest) (sym same) found.1,
+      subst (λ (l : List CostLine). Goes (AtSections None) c.args.text
+          (cost_lines None l ++ floor_line c.in_ok-sections.sections.floor ∷ []) AtRows c.in_ok-sections.rest)
+          (sym same) found.1,
     )

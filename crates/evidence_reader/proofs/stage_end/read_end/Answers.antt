@@ -4,7 +4,7 @@ use Rattle.answer_lines.specs.Grammar.{AtTree, AfterEnd}
 use Rattle.evidence_text.specs.Parts.{end_lines}
 use Rattle.answer_lines.specs.Lawful.{IsRead}
 use Rattle.evidence_text.specs.declared.TreePart.TheVariants.{Unfinished}
-use Rattle.evidence_reader.proofs.Going.{stop-then, go-then}
+use Rattle.evidence_reader.proofs.NextPlaces.{stop-then, go-then}
 use Rattle.evidence_reader.proofs.stage_end.read_end.Goals as goal
 
 pub returns-in_err-wide : goal.returns-in_err-wide
@@ -21,5 +21,9 @@ pub returns : goal.returns
 returns c =
     let both = go-then c.in_ok-wide.ensures c.in_ok-end.ensures in
     MatchResult-weaker c.nothing_left.result c.nothing_left.ensures
-    (λ _ none. (c.in_ok-end.end.read, subst (λ (left : List ℕ). IsRead (AtTree Unfinished 0 0) c.args.text.read c.args.text.left.now end_lines AfterEnd c.in_ok-end.end.read left) none both))
+    (λ _ none. (
+      c.in_ok-end.end.read,
+      subst (λ (left : List ℕ). IsRead (AtTree Unfinished 0 0) c.args.text.read c.args.text.left.now end_lines
+          AfterEnd c.in_ok-end.end.read left) none both,
+    ))
     (λ stop h. stop-then stop both h)

@@ -6,7 +6,8 @@ use Rattle.evidence_reader.proofs.stage_end.wide_line.Goals as goal
 
 pub returns-in-Some : goal.returns-in-Some
 returns-in-Some c =
-    read-one (AtTree Unfinished zero zero) AtEnd c.args.text.read _ c.args.text.left.now (codes "wide none") _ c.in-Some.ensures.0 (refl, refl) c.in-Some.ensures.1
+    read-one (AtTree Unfinished zero zero) AtEnd c.args.text.read _ c.args.text.left.now
+    (codes "wide none") _ c.in-Some.ensures.0 (refl, refl) c.in-Some.ensures.1
 
 pub returns-in-None : goal.returns-in-None
 returns-in-None c =

@@ -1,5 +1,5 @@
 use Rattle.std.proofs.lemmas.Result.{err_from_is_err_and, MatchResult-weaker}
-use Rattle.evidence_reader.proofs.Going.{stop-then, go-then}
+use Rattle.evidence_reader.proofs.NextPlaces.{stop-then, go-then}
 use Rattle.evidence_reader.proofs.stage_head.read_head.Goals as goal
 
 pub returns-in_err-behind : goal.returns-in_err-behind
@@ -9,4 +9,5 @@ returns-in_err-behind c =
 
 pub returns : goal.returns
 returns c =
-    MatchResult-weaker c.verdict_at.result c.verdict_at.ensures (λ r goes. go-then c.in_ok-behind.ensures goes) (λ stop h. stop-then stop c.in_ok-behind.ensures h)
+    MatchResult-weaker c.verdict_at.result c.verdict_at.ensures (λ r goes. go-then c.in_ok-behind.ensures goes)
+    (λ stop h. stop-then stop c.in_ok-behind.ensures h)

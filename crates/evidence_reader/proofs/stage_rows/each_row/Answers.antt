@@ -23,7 +23,8 @@ loop-preserved c =
     record {
       count_is = omega (arith, ap length grown, length-append rows (row ∷ []), c.loop.invariant.count_is);
       goes = row_more c.args.count i rows c.push.new.self.items row c.loop-test.true grown c.loop.invariant.goes read.0;
-      starts = subst (λ (l : List Row). All (λ r. r.rival.start ≡ 0) l) (sym grown) (All-more (λ (r : Row). r.rival.start ≡ 0) rows row c.loop.invariant.starts read.1);
+      starts = subst (λ (l : List Row). All (λ r. r.rival.start ≡ 0) l) (sym grown)
+          (All-more (λ (r : Row). r.rival.start ≡ 0) rows row c.loop.invariant.starts read.1);
     }
 
 pub returns-in_err-row : goal.returns-in_err-row

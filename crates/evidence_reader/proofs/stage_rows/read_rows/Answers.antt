@@ -1,5 +1,5 @@
 use Rattle.std.proofs.lemmas.Result.{MatchResult-weaker}
-use Rattle.evidence_reader.proofs.Going.{stop-then}
+use Rattle.evidence_reader.proofs.NextPlaces.{stop-then}
 use Rattle.evidence_reader.proofs.CountedLines.{rows_behind}
 use Rattle.evidence_reader.proofs.stage_rows.read_rows.Goals as goal
 

@@ -1,6 +1,6 @@
 use Rattle.std.proofs.Common.{refl}
 use Rattle.std.proofs.lemmas.Result.{err_from_is_err_and}
-use Rattle.evidence_reader.proofs.Going.{go-then, stop-then}
+use Rattle.evidence_reader.proofs.NextPlaces.{go-then, stop-then}
 use Rattle.evidence_reader.proofs.stage_sections.cost_of_interface.Goals as goal
 
 pub returns-in_err-cost : goal.returns-in_err-cost

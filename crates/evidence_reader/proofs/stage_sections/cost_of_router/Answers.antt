@@ -1,6 +1,6 @@
 use Rattle.std.proofs.Common.{refl}
 use Rattle.std.proofs.lemmas.Result.{err_from_is_err_and, MatchResult-weaker}
-use Rattle.evidence_reader.proofs.Going.{stop-then}
+use Rattle.evidence_reader.proofs.NextPlaces.{stop-then}
 use Rattle.evidence_reader.proofs.SectionLines.{words_read}
 use Rattle.evidence_text.specs.Parts.{interface_line}
 use Rattle.evidence_reader.proofs.stage_sections.cost_of_router.Goals as goal

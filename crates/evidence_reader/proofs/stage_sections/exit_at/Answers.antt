@@ -6,4 +6,6 @@ use Rattle.evidence_reader.proofs.stage_sections.exit_at.Goals as goal
 pub returns-in-None : goal.returns-in-None
 returns-in-None c =
     λ router.
-    c.fault_at.ensures (AtExit router) (λ e. cc) (lacks-wanted (AtExit router) c.args.text.left.now (codes "exit") (λ line next is. is.0) c.in-None.ensures) (c.begins_exit.ensures router)
+    c.fault_at.ensures (AtExit router) (λ e. cc)
+    (lacks-wanted (AtExit router) c.args.text.left.now (codes "exit") (λ line next is. is.0) c.in-None.ensures)
+    (c.begins_exit.ensures router)

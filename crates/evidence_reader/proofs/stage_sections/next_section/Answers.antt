@@ -1,6 +1,6 @@
 use Rattle.std.specs.Option.{option_copied}
 use Rattle.std.proofs.lemmas.Result.{err_from_is_err_and}
-use Rattle.evidence_reader.proofs.Going.{stop-then}
+use Rattle.evidence_reader.proofs.NextPlaces.{stop-then}
 use Rattle.evidence_reader.proofs.SectionLines.{router_section, interface_section}
 use Rattle.evidence_reader.proofs.stage_sections.next_section.Goals as goal
 
@@ -27,5 +27,6 @@ returns-in_ok-words-in-Interface c =
     let said = rw c.in-Interface.is at c.in_ok-line.ensures in
     let found = c.in_ok-words-in-Interface.ensures in (
       found.2,
-      interface_section (option_copied c.args.before) c.in-Interface.router.now c.in-Interface.interface.now said.0 c.in_ok-words-in-Interface.words said.1.0 said.1.2 found.0 found.1 said.2 found.3,
+      interface_section (option_copied c.args.before) c.in-Interface.router.now c.in-Interface.interface.now said.0
+          c.in_ok-words-in-Interface.words said.1.0 said.1.2 found.0 found.1 said.2 found.3,
     )

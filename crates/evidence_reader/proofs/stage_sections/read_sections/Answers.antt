@@ -8,14 +8,16 @@ use Rattle.evidence_reader.specs.Stages.{words_lines}
 use Rattle.answer_lines.specs.Grammar.{AtSections}
 use Rattle.answer_lines.specs.Going.{Goes}
 use Rattle.answer_lines.proofs.FirstLines.{read-none}
-use Rattle.evidence_reader.proofs.Going.{go-then, stop-then}
+use Rattle.evidence_reader.proofs.NextPlaces.{go-then, stop-then}
 use Rattle.answer_lines.proofs.NumberWords.{All-more}
 use Rattle.evidence_reader.proofs.SectionLines.{router_before, router_before-more, cost_more, read-shorter, some_lines}
 use Rattle.evidence_reader.proofs.stage_sections.read_sections.Goals as goal
 
 pub loop-lines-init : goal.loop-lines-init
 loop-lines-init c = record {
-  goes = subst (λ (l : List CostLine). Goes (AtSections None) c.args.text (cost_lines None l) (AtSections None) c.args.text) (sym c.new-lines.ensures.items) (read-none (AtSections None) c.args.text.read c.args.text.left.now);
+  goes = subst (λ (l : List CostLine). Goes (AtSections None) c.args.text (cost_lines None l)
+      (AtSections None) c.args.text) (sym c.new-lines.ensures.items)
+      (read-none (AtSections None) c.args.text.read c.args.text.left.now);
   fits = subst (λ (l : List CostLine). All FitsCostLine l) (sym c.new-lines.ensures.items) (All-nil FitsCostLine);
   last = ap (router_before None) (sym c.new-lines.ensures.items);
   word = tt;
@@ -42,7 +44,8 @@ loop-lines-preserved c =
     subst (λ (l : CostLine). FitsCostLine l) (sym is) (record { router = found.0.router; interface = found.0.interface; cost = found.0.cost }) in
     record {
       goes =
-          subst (λ (l : List (List ℕ)). Goes (AtSections None) c.args.text l (AtSections (Some words.router.now)) c.in_ok-section.rest) (cost_more before lines more line words c.loop-lines.invariant.last grown is)
+          subst (λ (l : List (List ℕ)). Goes (AtSections None) c.args.text l (AtSections (Some words.router.now))
+          c.in_ok-section.rest) (cost_more before lines more line words c.loop-lines.invariant.last grown is)
           (go-then c.loop-lines.invariant.goes found.1);
       fits = subst (λ (l : List CostLine). All FitsCostLine l) (sym grown) (All-more FitsCostLine lines line c.loop-lines.invariant.fits fits);
       last = sym (ap (router_before None) grown ∙ router_before-more None lines line ∙ ap (λ (l : CostLine). Some l.router) is);

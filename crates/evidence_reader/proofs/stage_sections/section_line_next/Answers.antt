@@ -11,7 +11,8 @@ returns-in_err-line c = rw c.from_residual.ensures (lacks-short (AtSections (opt
 pub returns-in_err-said : goal.returns-in_err-said
 returns-in_err-said c =
     rw c.from_residual-in_err-said.ensures
-    (lacks-first (AtSections (option_copied c.args.before)) c.args.text.left.now c.in_ok-line.line.now c.in_ok-line.rest.left.now c.in_ok-line.ensures.0 c.in_err-said.ensures)
+    (lacks-first (AtSections (option_copied c.args.before)) c.args.text.left.now c.in_ok-line.line.now
+    c.in_ok-line.rest.left.now c.in_ok-line.ensures.0 c.in_err-said.ensures)
 
 pub returns : goal.returns
 returns c =
@@ -20,6 +21,7 @@ returns c =
     let line = c.in_ok-line.line.now in (
       line,
       c.in_ok-said.ensures,
-      read-one (AtSections before) (behind_section_line said) c.args.text.read c.in_ok-line.rest.read c.args.text.left.now line c.in_ok-line.rest.left.now c.in_ok-line.ensures.0
+      read-one (AtSections before) (behind_section_line said) c.args.text.read c.in_ok-line.rest.read
+          c.args.text.left.now line c.in_ok-line.rest.left.now c.in_ok-line.ensures.0
           (section_says before line said c.in_ok-said.ensures) c.in_ok-line.ensures.1,
     )

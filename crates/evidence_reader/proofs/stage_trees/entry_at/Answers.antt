@@ -21,5 +21,10 @@ returns c =
     let text = c.args.text in
     let same : suc (places - 1) ≡ places = one_place places c.if-places-eq0.false in
     MatchResult-weaker c.entry_in_place.result (c.entry_in_place.ensures part (places - 1) left)
-    (λ r h. (omega (arith, c.if-places-eq0.false), h.0, subst (λ n. Goes (AtTree part n (suc left)) text (entry_line r.0 ∷ []) (AtTree part (subtree_count r.0 + (places - 1)) left) r.1) same h.1))
+    (λ r h. (
+      omega (arith, c.if-places-eq0.false),
+      h.0,
+      subst (λ n. Goes (AtTree part n (suc left)) text (entry_line r.0 ∷ [])
+          (AtTree part (subtree_count r.0 + (places - 1)) left) r.1) same h.1,
+    ))
     (λ stop h. subst (λ n. Stops (AtTree part n (suc left)) text stop) same h)

@@ -1,6 +1,6 @@
 use Rattle.std.proofs.Common.{◌<◌, ◌^◌, length, arith}
 use Rattle.std.proofs.lemmas.Result.{err_from_is_err_and}
-use Rattle.evidence_reader.proofs.Going.{stop-then}
+use Rattle.evidence_reader.proofs.NextPlaces.{stop-then}
 use Rattle.evidence_reader.proofs.TreeLines.{tree_read}
 use Rattle.evidence_reader.proofs.stage_trees.read_tree.Goals as goal
 

@@ -7,7 +7,7 @@ use Rattle.path_rows.specs.Trees.{subtree_count}
 use Rattle.answer_lines.specs.Grammar.{AtTree}
 use Rattle.answer_lines.specs.Going.{Goes}
 use Rattle.evidence_text.specs.declared.TreePart.TheVariants.{Proof}
-use Rattle.evidence_reader.proofs.Going.{stop-then}
+use Rattle.evidence_reader.proofs.NextPlaces.{stop-then}
 use Rattle.answer_lines.proofs.NumberWords.{All-more}
 use Rattle.evidence_reader.proofs.TreeLines.{shut_short, entries_begin, entry_more, entry_stop, entries_done, LeavesOpen, open_none, open_more, open_done}
 use Rattle.evidence_reader.proofs.stage_trees.tree_behind.Goals as goal
@@ -42,8 +42,10 @@ loop-preserved c =
       few = omega (arith, c.loop.invariant.few, c.subtree_count.ensures.few, read.0);
       goes =
           λ part.
-          subst (λ n. Goes (AtTree part 1 c.args.count) c.args.text (map entry_line c.push.new.self.items) (AtTree part n (c.args.count - (i + 1))) c.in_ok-entry.rest) next
-          (entry_more part c.args.count i places entries c.push.new.self.items entry c.loop-test.true grown (c.loop.invariant.goes part) (c.in_ok-entry.ensures part (c.args.count - (i + 1))).2);
+          subst (λ n. Goes (AtTree part 1 c.args.count) c.args.text (map entry_line c.push.new.self.items)
+          (AtTree part n (c.args.count - (i + 1))) c.in_ok-entry.rest) next
+          (entry_more part c.args.count i places entries c.push.new.self.items entry c.loop-test.true grown
+          (c.loop.invariant.goes part) (c.in_ok-entry.ensures part (c.args.count - (i + 1))).2);
       fits = subst (λ (l : List Entry). All FitsEntry l) (sym grown) (All-more FitsEntry entries entry c.loop.invariant.fits read.1);
       leaves = subst (λ n. LeavesOpen n c.push.new.self.items) next (open_more places entries c.push.new.self.items entry some grown c.loop.invariant.leaves);
     }
@@ -52,7 +54,8 @@ pub returns-in_err-entry : goal.returns-in_err-entry
 returns-in_err-entry c =
     let p = err_from_is_err_and c.from_residual.result c.from_residual.ensures.1 in
     let i = c.loop.counter in
-    rw (p.1, p.2) (λ part. entry_stop part c.args.count i c.loop.places c.loop.entries.items _ c.loop-test.true (c.loop.invariant.goes part) (c.in_err-entry.ensures part (c.args.count - (i + 1))))
+    rw (p.1, p.2) (λ part. entry_stop part c.args.count i c.loop.places c.loop.entries.items _ c.loop-test.true
+    (c.loop.invariant.goes part) (c.in_err-entry.ensures part (c.args.count - (i + 1))))
 
 pub from_items-requires : goal.from_items-requires
 from_items-requires c = open_done c.loop.places c.loop.entries.items c.if-places-eq0.true c.loop.invariant.leaves

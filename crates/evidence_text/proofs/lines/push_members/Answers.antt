@@ -10,4 +10,5 @@ push_member-requires c =
     let line = c.loop-member.line in
     let i = c.loop-member.member-index in
     let members = c.args.members.now in
-    room_left (with_words line (member_words (get_or members i (Low 0 0)))) _ (members_words (drop (i + 1) members)) (sym (members_turn line members i (Low 0 0) c.loop-member-test.true) ∙ c.loop-member.invariant) c.requires
+    room_left (with_words line (member_words (get_or members i (Low 0 0)))) _ (members_words (drop (i + 1) members))
+    (sym (members_turn line members i (Low 0 0) c.loop-member-test.true) ∙ c.loop-member.invariant) c.requires

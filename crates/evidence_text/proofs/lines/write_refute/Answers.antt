@@ -6,7 +6,8 @@ use Rattle.evidence_text.proofs.lines.write_refute.Goals as goal
 
 pub push_parts-requires : goal.push_parts-requires
 push_parts-requires c =
-    subst (λ (l : List ℕ). length l ≤ 65536) (spaced-with (codes "refute") (part_words c.args.parts.now) ∙ ap (λ (l : List ℕ). with_words l (part_words c.args.parts.now)) (sym c.start.ensures)) c.requires
+    subst (λ (l : List ℕ). length l ≤ 65536) (spaced-with (codes "refute") (part_words c.args.parts.now)
+    ∙ ap (λ (l : List ℕ). with_words l (part_words c.args.parts.now)) (sym c.start.ensures)) c.requires
 
 pub returns : goal.returns
 returns c =

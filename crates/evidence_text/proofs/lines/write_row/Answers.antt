@@ -6,7 +6,8 @@ use Rattle.evidence_text.proofs.WordLaws.{spaced-with}
 use Rattle.evidence_text.proofs.lines.write_row.Goals as goal
 
 -- the first two words of a row's line
-begun : (start new : List ℕ) (value request : ℕ) → start ≡ codes "row" → value ≡ request → new ≡ start ++ 32 ∷ decimal value → new ≡ codes "row" ++ 32 ∷ decimal request
+begun : (start new : List ℕ) (value request : ℕ) → start ≡ codes "row" → value ≡ request →
+    new ≡ start ++ 32 ∷ decimal value → new ≡ codes "row" ++ 32 ∷ decimal request
 begun start new value request a b h = h ∙ ap (λ (n : ℕ). start ++ 32 ∷ decimal n) b ∙ ap (λ (l : List ℕ). l ++ 32 ∷ decimal request) a
 
 pub push_numbers-requires : goal.push_numbers-requires

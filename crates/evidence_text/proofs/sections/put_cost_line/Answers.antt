@@ -1,8 +1,9 @@
 use Rattle.std.specs.Option.{option_copied}
 use Rattle.path_rows.specs.Text.{router_lines}
-use Rattle.evidence_text.specs.Lines.{text_of}
+use Rattle.text_lines.specs.Lines.{with_ends}
 use Rattle.evidence_text.specs.Parts.{interface_lines}
-use Rattle.evidence_text.proofs.TextLaws.{text_of-append, short_front, short_rest}
+use Rattle.text_lines.proofs.LineLaws.{with_ends-append}
+use Rattle.evidence_text.proofs.TextLaws.{short_front, short_rest}
 use Rattle.evidence_text.proofs.PutChains.{put-then, put-cut, put-as}
 use Rattle.evidence_text.proofs.sections.put_cost_line.Goals as goal
 
@@ -14,10 +15,10 @@ put_interface-requires g c = short_rest (router_lines (option_copied c.args.befo
 
 pub returns-in_err-put_router : goal.returns-in_err-put_router
 returns-in_err-put_router g c =
-    put-as (text_of-append (router_lines (option_copied c.args.before) c.args.cost.now.router) (interface_lines c.args.cost.now))
-    (put-cut (text_of (interface_lines c.args.cost.now)) c.from_residual.result c.from_residual.ensures.0 c.in_err-put_router.ensures)
+    put-as (with_ends-append (router_lines (option_copied c.args.before) c.args.cost.now.router) (interface_lines c.args.cost.now))
+    (put-cut (with_ends (interface_lines c.args.cost.now)) c.from_residual.result c.from_residual.ensures.0 c.in_err-put_router.ensures)
 
 pub returns : goal.returns
 returns g c =
-    put-as (text_of-append (router_lines (option_copied c.args.before) c.args.cost.now.router) (interface_lines c.args.cost.now))
+    put-as (with_ends-append (router_lines (option_copied c.args.before) c.args.cost.now.router) (interface_lines c.args.cost.now))
     (put-then _ c.in_ok-put_router.ensures c.put_interface.ensures)

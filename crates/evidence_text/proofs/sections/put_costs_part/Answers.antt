@@ -1,4 +1,4 @@
-use Rattle.evidence_text.proofs.Underway.{put_as}
+use Rattle.evidence_text.proofs.PutLines.{put_as}
 use Rattle.evidence_text.proofs.sections.put_costs_part.Goals as goal
 
 pub put_some_costs-requires : goal.put_some_costs-requires

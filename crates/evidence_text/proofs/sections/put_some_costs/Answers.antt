@@ -3,7 +3,7 @@ use Rattle.path_rows.specs.declared.answer.CostLine.{CostLine}
 use Rattle.path_rows.specs.Text.{cost_lines}
 use Rattle.evidence_text.specs.Lines.{AreShort}
 use Rattle.evidence_text.specs.Parts.{costs_line}
-use Rattle.evidence_text.proofs.Underway.{begin, turn, stop_at, last}
+use Rattle.evidence_text.proofs.PutLines.{begin, turn, stop_at, last}
 use Rattle.evidence_text.proofs.sections.put_some_costs.Goals as goal
 
 pub write_costs-requires : goal.write_costs-requires
@@ -12,16 +12,26 @@ write_costs-requires g c = c.requires 0 [] (omega arith)
 pub returns-in_err-put : goal.returns-in_err-put
 returns-in_err-put g c =
     let costs = c.args.costs.now in
-    stop_at c.from_residual.result c.from_residual.ensures.0 (c.write_costs.new.line ∷ []) (cost_lines None costs.lines) (ap (λ (l : List ℕ). l ∷ cost_lines None costs.lines) (sym c.write_costs.ensures)) (begin (g.K.Sink.got c.args.out.now) (g.K.Sink.faults c.args.out.now) (costs_line costs.greatest ∷ cost_lines None costs.lines) c.requires) c.in_err-put.ensures
+    stop_at c.from_residual.result c.from_residual.ensures.0 (c.write_costs.new.line ∷ []) (cost_lines None costs.lines)
+    (ap (λ (l : List ℕ). l ∷ cost_lines None costs.lines) (sym c.write_costs.ensures))
+    (begin (g.K.Sink.got c.args.out.now) (g.K.Sink.faults c.args.out.now)
+    (costs_line costs.greatest ∷ cost_lines None costs.lines) c.requires) c.in_err-put.ensures
 
 pub put_cost_lines-requires : goal.put_cost_lines-requires
 put_cost_lines-requires g c =
     let costs = c.args.costs.now in
-    let first = turn (c.write_costs.new.line ∷ []) (cost_lines None costs.lines) (ap (λ (l : List ℕ). l ∷ cost_lines None costs.lines) (sym c.write_costs.ensures)) (begin (g.K.Sink.got c.args.out.now) (g.K.Sink.faults c.args.out.now) (costs_line costs.greatest ∷ cost_lines None costs.lines) c.requires) c.in_ok-put.ensures in
+    let first = turn (c.write_costs.new.line ∷ []) (cost_lines None costs.lines)
+    (ap (λ (l : List ℕ). l ∷ cost_lines None costs.lines) (sym c.write_costs.ensures))
+    (begin (g.K.Sink.got c.args.out.now) (g.K.Sink.faults c.args.out.now)
+    (costs_line costs.greatest ∷ cost_lines None costs.lines) c.requires) c.in_ok-put.ensures in
     subst (λ (lines : List CostLine). AreShort (cost_lines None lines)) (sym c.as_slice.ensures) first.short
 
 pub returns : goal.returns
 returns g c =
     let costs = c.args.costs.now in
-    let first = turn (c.write_costs.new.line ∷ []) (cost_lines None costs.lines) (ap (λ (l : List ℕ). l ∷ cost_lines None costs.lines) (sym c.write_costs.ensures)) (begin (g.K.Sink.got c.args.out.now) (g.K.Sink.faults c.args.out.now) (costs_line costs.greatest ∷ cost_lines None costs.lines) c.requires) c.in_ok-put.ensures in
-    last c.put_cost_lines.result (cost_lines None c.as_slice.result.now) (ap (λ (lines : List CostLine). cost_lines None lines) (sym c.as_slice.ensures)) first c.put_cost_lines.ensures
+    let first = turn (c.write_costs.new.line ∷ []) (cost_lines None costs.lines)
+    (ap (λ (l : List ℕ). l ∷ cost_lines None costs.lines) (sym c.write_costs.ensures))
+    (begin (g.K.Sink.got c.args.out.now) (g.K.Sink.faults c.args.out.now)
+    (costs_line costs.greatest ∷ cost_lines None costs.lines) c.requires) c.in_ok-put.ensures in
+    last c.put_cost_lines.result (cost_lines None c.as_slice.result.now)
+    (ap (λ (lines : List CostLine). cost_lines None lines) (sym c.as_slice.ensures)) first c.put_cost_lines.ensures

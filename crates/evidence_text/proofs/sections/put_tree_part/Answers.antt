@@ -1,5 +1,5 @@
 use Rattle.std.proofs.Common.{◌∙◌}
-use Rattle.evidence_text.proofs.Underway.{put_as}
+use Rattle.evidence_text.proofs.PutLines.{put_as}
 use Rattle.evidence_text.proofs.sections.put_tree_part.Goals as goal
 
 pub start-requires : goal.start-requires

@@ -10,4 +10,5 @@ returns-in_err-end-clause-pieces c =
 pub returns-clause-pieces : goal.returns-clause-pieces
 returns-clause-pieces c =
     rw (take_rest c.args.text.now (c.in_ok-end.end + 1), add-one c.in_ok-end.end)
-    (split-at c.args.byte c.args.text.now c.in_ok-end.end (omega (arith, c.in_ok-end.ensures)) (λ j below e. c.in_ok-end.ensures.0.before j (omega arith) below e) c.in_ok-end.ensures.1)
+    (split-at c.args.byte c.args.text.now c.in_ok-end.end (omega (arith, c.in_ok-end.ensures))
+    (λ j below e. c.in_ok-end.ensures.0.before j (omega arith) below e) c.in_ok-end.ensures.1)

@@ -20,6 +20,9 @@ returns-clause-within t c =
 pub returns-clause-digits : goal.returns-clause-digits
 returns-clause-digits t c =
     elim c.if-value-lt10.branch [
-      | then-value-lt10 w ↦ digit_put c.if-value-lt10.room [] c.if-value-lt10.before c.args.value (omega arith) (ap (λ n. take n c.if-value-lt10.room) w.before-is) ∙ sym (decimal-small c.args.value w.if-value-lt10.true)
-      | else-value-lt10 w ↦ digit_put c.if-value-lt10.room (decimal (c.args.value / 10)) c.if-value-lt10.before c.args.value (omega arith) (rw (w.before-is, w.room-is) w.number_bytes-before.ensures.digits) ∙ sym (decimal-step c.args.value w.if-value-lt10.false)
+      | then-value-lt10 w ↦ digit_put c.if-value-lt10.room [] c.if-value-lt10.before c.args.value (omega arith)
+          (ap (λ n. take n c.if-value-lt10.room) w.before-is) ∙ sym (decimal-small c.args.value w.if-value-lt10.true)
+      | else-value-lt10 w ↦ digit_put c.if-value-lt10.room (decimal (c.args.value / 10)) c.if-value-lt10.before
+          c.args.value (omega arith) (rw (w.before-is, w.room-is) w.number_bytes-before.ensures.digits)
+          ∙ sym (decimal-step c.args.value w.if-value-lt10.false)
     ]

@@ -7,7 +7,12 @@ use Rattle.text_lines.proofs.word_reader.first_word.Goals as goal
 pub returns-clause-words : goal.returns-clause-words
 returns-clause-words c =
     let begins : ends_word c.skip_separators-start.result.now ≡ false =
-    false_from_ne_true (ends_word c.skip_separators-start.result.now) (λ e. cc (ap (λ s. length s == 0) (c.skip_separators-start.ensures.start e), c.is_empty.ensures, c.if-is_empty.false)) in
+    false_from_ne_true (ends_word c.skip_separators-start.result.now)
+    (λ e. cc (
+      ap (λ s. length s == 0) (c.skip_separators-start.ensures.start e),
+      c.is_empty.ensures,
+      c.if-is_empty.false,
+    )) in
     rw (c.split_at.ensures.front, c.split_at.ensures.back)
     (sym c.skip_separators-start.ensures.words
     ∙ words-cut c.skip_separators-start.result.now c.word_length-end.result begins c.word_length-end.ensures.whole c.word_length-end.ensures.end)

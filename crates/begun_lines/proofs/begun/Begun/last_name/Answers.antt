@@ -9,5 +9,7 @@ returns-in-None c =
 
 pub returns-in-Some : goal.returns-in-Some
 returns-in-Some c =
-    last_word (λ w. w ≡ c.args.wanted.now) (name-spaceless c.args.wanted.now c.requires) c.args.self.text.now c.first_word.result.now c.first_word.ensures.0 c.args.self.room (length c.in-Some.missing.now) c.first_word.ensures.1
+    last_word (λ w. w ≡ c.args.wanted.now) (name-spaceless c.args.wanted.now c.requires) c.args.self.text.now
+    c.first_word.result.now c.first_word.ensures.0 c.args.self.room (length c.in-Some.missing.now)
+    c.first_word.ensures.1
     (least_name c.args.wanted.now c.first_word.result.now c.in-Some.missing.now c.in-Some.ensures) c.ends.result c.ends.ensures

@@ -8,4 +8,5 @@ returns-in_err-missing c =
 
 pub returns : goal.returns
 returns c =
-    step_behind IsRatio ratio_word-spaceless c.args.self c.first_word.result.now c.first_word.ensures.0 c.in_ok-missing.missing c.in_ok-missing.ensures c.first_word.ensures.1 c.behind.result c.behind.ensures
+    step_behind IsRatio ratio_word-spaceless c.args.self c.first_word.result.now c.first_word.ensures.0
+    c.in_ok-missing.missing c.in_ok-missing.ensures c.first_word.ensures.1 c.behind.result c.behind.ensures

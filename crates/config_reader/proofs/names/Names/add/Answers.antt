@@ -2,11 +2,13 @@ use Rattle.std.proofs.Common.{◌≡◌, ◌∙◌, sym, ap, map, Bor, List, ℕ
 use Rattle.std.specs.Prelude.{position}
 use Rattle.std.specs.List.{list_any}
 use Rattle.cost_base.specs.Lists.{same_bytes}
-use Rattle.config_reader.proofs.Places.{any-map, map-unless}
+use Rattle.config_reader.proofs.LongerLists.{any-map, map-unless}
 use Rattle.config_reader.proofs.names.Names.add.Goals as goal
 
 pub returns-clause-new : goal.returns-clause-new
-returns-clause-new c = c.in_ok-new.ensures.added ∙ ap not (any-map (same_bytes c.args.name.now) (λ (k : Bor (List ℕ)). k.now) c.self.inside.names.keys ∙ ap (list_any (same_bytes c.args.name.now)) c.self.view_is)
+returns-clause-new c = c.in_ok-new.ensures.added
+    ∙ ap not (any-map (same_bytes c.args.name.now) (λ (k : Bor (List ℕ)). k.now) c.self.inside.names.keys
+    ∙ ap (list_any (same_bytes c.args.name.now)) c.self.view_is)
 
 pub returns-clause-names : goal.returns-clause-names
 returns-clause-names c =

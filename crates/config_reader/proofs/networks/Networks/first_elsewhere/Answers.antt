@@ -7,7 +7,8 @@ use Rattle.config_reader.proofs.networks.Networks.first_elsewhere.Goals as goal
 
 pub loop-length-init : goal.loop-length-init
 loop-length-init c =
-    sym (never 0 (λ w. covers_below 0 c.args.address.address w && is_elsewhere c.args.area w) c.args.self.now (λ w. ap (λ b. b && is_elsewhere c.args.area w) (covers_none c.args.address.address w)))
+    sym (never 0 (λ w. covers_below 0 c.args.address.address w && is_elsewhere c.args.area w) c.args.self.now
+    (λ w. ap (λ b. b && is_elsewhere c.args.area w) (covers_none c.args.address.address w)))
 
 pub loop-length-preserved : goal.loop-length-preserved
 loop-length-preserved c =
@@ -22,5 +23,7 @@ returns c =
     ∙ next_elsewhere c.args.address.length c.args.address.address c.args.area c.args.self.now c.loop-length.shorter c.other_of-longest.result
     (c.loop-length.invariant ∙ ap (λ n. first_at 0 (λ w. covers_below n c.args.address.address w && is_elsewhere c.args.area w) c.args.self.now) at_end)
     (c.other_of-longest.ensures ∙ ap (λ k. first_at 0 (λ w. names_prefix k w && is_elsewhere c.args.area w) c.args.self.now) c.prefix_at.ensures)
-    ∙ first_same 0 (λ w. covers_below (c.args.address.length + 1) c.args.address.address w && is_elsewhere c.args.area w) (λ w. covers (prefix_of c.args.address) w && is_elsewhere c.args.area w) c.args.self.now
+    ∙ first_same 0 (λ w. covers_below (c.args.address.length + 1) c.args.address.address w
+    && is_elsewhere c.args.area w) (λ w. covers (prefix_of c.args.address) w && is_elsewhere c.args.area w)
+    c.args.self.now
     (λ w. ap (λ b. b && is_elsewhere c.args.area w) (covers_all (prefix_of c.args.address) w))

@@ -14,6 +14,8 @@ invariant_of-result c =
     c.noted.ensures ∙ ap (λ n. noted n line c.copied-found.result) (c.len.ensures ∙ count_is)
     ∙ ap (noted (length lines) line) (c.copied-found.ensures ∙ c.get.ensures.value ∙ ap (get same_prefix c.self.inside.by_prefix) c.prefix_at-prefix.ensures) in
     let kept = lines_with (get same_prefix c.self.inside.by_prefix) (get same_prefix c.insert.new.self) lines line c.self.invariant
-    (λ k. c.in_ok-insert.ensures.updates.0 k ∙ ap (λ p. cond (same_prefix p k) (Some c.noted.result) (get same_prefix c.self.inside.by_prefix k)) c.prefix_at-prefix.ensures
+    (λ k. c.in_ok-insert.ensures.updates.0 k
+    ∙ ap (λ p. cond (same_prefix p k) (Some c.noted.result) (get same_prefix c.self.inside.by_prefix k))
+    c.prefix_at-prefix.ensures
     ∙ ap (λ v. cond (same_prefix own k) (Some v) (get same_prefix c.self.inside.by_prefix k)) value_is) in
     λ k. kept k ∙ ap (lines_of k) (sym c.in_ok-push.ensures.items)

@@ -17,10 +17,14 @@ loop-line-preserved c =
       costs = λ name.
           ap (cost_after left name) (c.in_ok-add.ensures.costs name)
           ∙ ap (λ bytes. cost_after left name (cond (same_bytes name bytes) (Some item.cost) (look_up name c.loop-line.costs))) c.as_bytes.ensures
-          ∙ ap (λ (line : CostLine). cost_after left name (cond (same_bytes name line.interface) (Some line.cost) (look_up name c.loop-line.costs))) c.line-item.is
+          ∙ ap (λ (line : CostLine). cost_after left name
+          (cond (same_bytes name line.interface) (Some line.cost) (look_up name c.loop-line.costs)))
+          c.line-item.is
           ∙ sym (ap (λ ls. cost_after (costs_of ls) name (look_up name c.loop-line.costs)) (drop_more c.args.lines.now at item c.loop-line-test.true))
           ∙ c.loop-line.invariant.costs name;
-      within = All-more (λ (line : CostLine). line.cost ≤ 65535) c.args.lines.now at item c.loop-line-test.true c.loop-line.invariant.within (subst (λ (line : CostLine). line.cost ≤ 65535) c.line-item.is c.in_ok-add.ensures.within);
+      within = All-more (λ (line : CostLine). line.cost ≤ 65535) c.args.lines.now at item c.loop-line-test.true
+          c.loop-line.invariant.within
+          (subst (λ (line : CostLine). line.cost ≤ 65535) c.line-item.is c.in_ok-add.ensures.within);
     }
 
 pub returns-clause-within : goal.returns-clause-within

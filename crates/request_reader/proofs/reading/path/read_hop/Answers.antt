@@ -19,5 +19,7 @@ returns-then-is_empty c =
 
 pub returns : goal.returns
 returns c =
-    sym (hop_read c.args.word.now c.in-Some.router.now c.in-Some.interface.now c.in_ok-router.router c.in_ok-interface.interface c.in-Some.ensures.parts c.in-Some.ensures.pieces
-    (sym c.is_empty.ensures ∙ c.if-is_empty.false) (sym c.is_empty-else-is_empty.ensures ∙ c.if-is_empty-2.false) c.in_ok-router.ensures c.in_ok-interface.ensures)
+    sym (hop_read c.args.word.now c.in-Some.router.now c.in-Some.interface.now c.in_ok-router.router
+    c.in_ok-interface.interface c.in-Some.ensures.parts c.in-Some.ensures.pieces
+    (sym c.is_empty.ensures ∙ c.if-is_empty.false) (sym c.is_empty-else-is_empty.ensures ∙ c.if-is_empty-2.false)
+    c.in_ok-router.ensures c.in_ok-interface.ensures)

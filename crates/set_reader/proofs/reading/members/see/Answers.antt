@@ -11,7 +11,8 @@ returns-clause-new c =
     let now : Bor (List ℕ) → List ℕ = λ n. n.now in
     let keys = c.args.seen.now.keys in
     c.in_ok-insert.ensures.added
-    ∙ ap not (ap (λ (edges : List ℕ). list_any (λ (key : Bor (List ℕ)). same_bytes edges key.now) keys) c.as_slice.ensures ∙ sym (list_any-map (same_bytes c.args.member.now.path.edges) now keys))
+    ∙ ap not (ap (λ (edges : List ℕ). list_any (λ (key : Bor (List ℕ)). same_bytes edges key.now) keys)
+    c.as_slice.ensures ∙ sym (list_any-map (same_bytes c.args.member.now.path.edges) now keys))
 
 pub returns-clause-added : goal.returns-clause-added
 returns-clause-added c = λ new.

@@ -13,7 +13,8 @@ pub mark_members-requires : goal.mark_members-requires
 mark_members-requires c =
     let members = c.in_ok-members.members.items in
     let taken = c.self.inside.taken.items in
-    let requests : c.as_slice-requests.result.now ≡ c.self.inside.problem.now.paths = c.as_slice-requests.ensures ∙ ap (λ (p : DesignProblem). p.paths) c.problem.view_is in
+    let requests : c.as_slice-requests.result.now ≡ c.self.inside.problem.now.paths = c.as_slice-requests.ensures
+    ∙ ap (λ (p : DesignProblem). p.paths) c.problem.view_is in
     let known : All (λ member. member < length taken) members =
     All-weaker (λ member. member < length c.as_slice-requests.result.now) (λ member. member < length taken)
     (λ member below. let count = ap length requests in omega (arith, below, count, c.self.invariant.count)) members c.in_ok-members.ensures.known in
@@ -25,13 +26,17 @@ invariant_of-self-2 c =
     let sets = c.self.inside.sets.items in
     let taken = c.self.inside.taken.items in
     let numbers = c.args.numbers.now in
-    let requests : c.as_slice-requests.result.now ≡ c.self.inside.problem.now.paths = c.as_slice-requests.ensures ∙ ap (λ (p : DesignProblem). p.paths) c.problem.view_is in
+    let requests : c.as_slice-requests.result.now ≡ c.self.inside.problem.now.paths = c.as_slice-requests.ensures
+    ∙ ap (λ (p : DesignProblem). p.paths) c.problem.view_is in
     let lawful : is_wrong_set c.self.inside.problem.now.paths (concat sets) numbers ≡ false =
     subst (λ (rs : List Request). is_wrong_set rs (concat sets) numbers ≡ false) requests
     (c.in_ok-members.ensures.lawful (concat sets) (subst (AreMarks (concat sets)) (sym c.as_slice.ensures.value) c.self.invariant.marks)) in
     let set : c.as_slice-2.result.now ≡ members = c.as_slice-2.ensures ∙ c.from_items-set.ensures in
     let marks = c.mark_members.ensures.marks (concat sets) c.self.invariant.marks in
     let after = subst (λ (ms : List ℕ). AreMarks (concat sets ++ ms) c.mark_members.new.taken.items) set marks in
-    let kept = sets_more c.self.inside.problem.now sets numbers members taken c.mark_members.new.taken.items c.self.invariant c.requires.several lawful c.in_ok-members.ensures.made after c.mark_members.ensures.count in
+    let kept = sets_more c.self.inside.problem.now sets numbers members taken c.mark_members.new.taken.items
+    c.self.invariant c.requires.several lawful c.in_ok-members.ensures.made after c.mark_members.ensures.count in
     subst (λ (ss : List (List ℕ)). KeepsSets c.self.inside.problem.now ss c.mark_members.new.taken.items)
-    (sym (c.push_reserved.ensures.items ∙ ap (λ (ss : List (List ℕ)). ss ++ c.from_items-set.result ∷ []) c.reserve.ensures.items ∙ ap (λ (s : List ℕ). sets ++ s ∷ []) c.from_items-set.ensures)) kept
+    (sym (c.push_reserved.ensures.items
+    ∙ ap (λ (ss : List (List ℕ)). ss ++ c.from_items-set.result ∷ []) c.reserve.ensures.items
+    ∙ ap (λ (s : List ℕ). sets ++ s ∷ []) c.from_items-set.ensures)) kept

@@ -2,8 +2,8 @@
 ghost use Rattle.std.specs.Prelude.{◌≡◌, ◌++◌, OnOk};
 ghost use Rattle.cost_base.specs.Decimal.{decimal};
 
+use crate::number_writer::number_bytes;
 use cost_base::OutOfMemory;
-use text_lines::number_bytes;
 
 /// Adds bytes at the end.
 ///

@@ -16,13 +16,16 @@ different : (name other : List ℕ) → other ≢ name → bytes_eq name other �
 different name other differs = grind (arith, bytes_eq-Decides name other, differs)
 
 -- a failed call whose name was noted is a fault of that name alone
-pub noted : {T : Type 0} (before now : List (List ℕ)) (name copy : List ℕ) → now ≡ before ++ copy ∷ [] → copy ≡ name → CountsFaults {T = T} (times before) (times now) name (Err Failed)
+pub noted : {T : Type 0} (before now : List (List ℕ)) (name copy : List ℕ) → now ≡ before ++ copy ∷ [] → copy ≡ name →
+    CountsFaults {T = T} (times before) (times now) name (Err Failed)
 noted before now name copy grown same = record {
   others = λ other differs.
       let e : bytes_eq copy other ≡ false = rw same (different name other differs) in
-      let k : times now other ≡ times before other + cond false 1 0 = rw grown (times_more before copy other ∙ ap (λ (b : Bool). times before other + cond b 1 0) e) in omega arith;
+      let k : times now other ≡ times before other + cond false 1 0 =
+      rw grown (times_more before copy other ∙ ap (λ (b : Bool). times before other + cond b 1 0) e) in omega arith;
   failed = λ _.
       let e : bytes_eq copy name ≡ true = rw same ((bytes_eq-Decides name name).1 refl) in
-      let k : times now name ≡ times before name + cond true 1 0 = rw grown (times_more before copy name ∙ ap (λ (b : Bool). times before name + cond b 1 0) e) in omega arith;
+      let k : times now name ≡ times before name + cond true 1 0 =
+      rw grown (times_more before copy name ∙ ap (λ (b : Bool). times before name + cond b 1 0) e) in omega arith;
   kept = λ not. absurd (not refl);
 }

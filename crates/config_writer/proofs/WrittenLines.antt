@@ -6,6 +6,7 @@ use Rattle.std.proofs.lemmas.Bool.{and_right}
 use Rattle.std.proofs.lemmas.List.{take_at, get_or_at, map-append}
 use Rattle.std.proofs.lemmas.List.Folds.{concat-append}
 use Rattle.cost_base.specs.Lists.{numbers_from, same_bytes}
+use Rattle.cost_base.proofs.ListLemmas.{numbers_from-more}
 use Rattle.text_lines.specs.Lines.{lines, words, kind_of, is_head_kind}
 use Rattle.text_lines.specs.Reading.{IsLineRead, line_end}
 use Rattle.text_lines.specs.TextLeft.{TextLeft}
@@ -16,7 +17,7 @@ use Rattle.config_reader.specs.Statements.{Block, OfInterface, OfRouter, OfOther
 use Rattle.config_reader.specs.Configs.{first_heads, with_line, name_opened}
 use Rattle.config_reader.specs.Reading.{open_block}
 use Rattle.config_reader.specs.Sections.{cost_after}
-use Rattle.config_reader.proofs.Places.{map-unless, numbers_from-more, position-map}
+use Rattle.config_reader.proofs.LongerLists.{map-unless, position-map}
 use Rattle.config_reader.proofs.SaidSteps.{opened_from}
 use Rattle.config_reader.proofs.HeadSteps.{first_heads-push, heads_with as first_heads_with, is_headed, unless_known}
 use Rattle.config_reader.proofs.BlockFacts.{open_block-push, block_with}
@@ -34,7 +35,8 @@ opened_by _ n block = None
 opened_kind : (i : ℕ) (line : List ℕ) → opened_from i line ≡ opened_by (kind_of line) (i + 1) (block_of (words line))
 opened_kind i line = cases (kind_of line)
   where
-    cases : (kind : LineKind) → cond (is_head_kind kind) (with_line (i + 1) (name_opened (block_of (words line)))) None ≡ opened_by kind (i + 1) (block_of (words line))
+    cases : (kind : LineKind) → cond (is_head_kind kind) (with_line (i + 1) (name_opened (block_of (words line)))) None
+        ≡ opened_by kind (i + 1) (block_of (words line))
     cases Blank = refl
     cases Comment = refl
     cases Head = refl
@@ -44,7 +46,8 @@ opened_kind i line = cases (kind_of line)
 names_with : (name : List ℕ) (n : ℕ) (heads : List (List ℕ × ℕ)) →
     map (λ head. head.0) (heads ++ unless_known (is_headed name heads) (name, n))
     ≡ cond (list_any (same_bytes name) (map (λ head. head.0) heads)) (map (λ head. head.0) heads) (map (λ head. head.0) heads ++ name ∷ [])
-names_with name n heads = ap (map (λ (head : List ℕ × ℕ). head.0)) (unless (is_headed name heads)) ∙ map-unless (same_bytes name) (λ (head : List ℕ × ℕ). head.0) heads (name, n)
+names_with name n heads = ap (map (λ (head : List ℕ × ℕ). head.0)) (unless (is_headed name heads))
+    ∙ map-unless (same_bytes name) (λ (head : List ℕ × ℕ). head.0) heads (name, n)
   where
     unless : (b : Bool) → heads ++ unless_known b (name, n) ≡ cond b heads (heads ++ (name, n) ∷ [])
     unless true = append-nil heads
@@ -73,24 +76,29 @@ module _ (costs known : List (List ℕ × ℕ)) (agree : (name : List ℕ) → l
 
   -- whether the open block has a new cost, with one more line
   pub named-push : (front : List (List ℕ)) (line : List ℕ) →
-      is_some (new_cost costs (open_block (front ++ line ∷ []))) ≡ named_after_line (kind_of line) known (is_some (new_cost costs (open_block front))) (block_of (words line))
+      is_some (new_cost costs (open_block (front ++ line ∷ []))) ≡ named_after_line (kind_of line) known
+      (is_some (new_cost costs (open_block front))) (block_of (words line))
   named-push front line = ap (λ block. is_some (new_cost costs block)) (open_block-push front line) ∙ cases (kind_of line)
     where
-      cases : (kind : LineKind) → is_some (new_cost costs (block_with (is_head_kind kind) line (open_block front))) ≡ named_after_line kind known (is_some (new_cost costs (open_block front))) (block_of (words line))
+      cases : (kind : LineKind) → is_some (new_cost costs (block_with (is_head_kind kind) line (open_block front)))
+          ≡ named_after_line kind known (is_some (new_cost costs (open_block front))) (block_of (words line))
       cases Head = ap is_some (sym (block_known (block_of (words line))))
       cases Blank = refl
       cases Comment = refl
       cases Indented = refl
 
   -- the cost behind a line, by the map
-  pub behind_known : (front : List (List ℕ)) (line : List ℕ) → cost_after_line (kind_of line) known (headed front) (block_of (words line)) ≡ cost_behind costs front line
+  pub behind_known : (front : List (List ℕ)) (line : List ℕ) →
+      cost_after_line (kind_of line) known (headed front) (block_of (words line)) ≡ cost_behind costs front line
   behind_known front line = cases (kind_of line) (block_of (words line))
     where
       first : (b : Bool) (name : List ℕ) → cond b None (look_up name known) ≡ cond (true && not b) (cost_after costs name None) None
       first true name = refl
       first false name = agree name
 
-      cases : (kind : LineKind) (block : Block) → cost_after_line kind known (headed front) block ≡ cond (is_head_kind kind && is_first_block front block) (new_cost costs block) None
+      cases : (kind : LineKind) (block : Block) →
+          cost_after_line kind known (headed front) block ≡ cond (is_head_kind kind && is_first_block front block)
+          (new_cost costs block) None
       cases Head (OfInterface name) = first (list_any (same_bytes name) (headed front)) name
       cases Head OfRouter = refl
       cases Head OfOther = refl
@@ -99,12 +107,15 @@ module _ (costs known : List (List ℕ × ℕ)) (agree : (name : List ℕ) → l
       cases Indented block = refl
 
 -- what is written for a line at its place
-pub written_here : (costs : List (List ℕ × ℕ)) (bytes : List ℕ) (front : List (List ℕ)) (line : List ℕ) (rest fronts : List (List ℕ)) (whole : List ℕ) (rests : List (List ℕ)) →
+pub written_here : (costs : List (List ℕ × ℕ)) (bytes : List ℕ) (front : List (List ℕ)) (line : List ℕ)
+    (rest fronts : List (List ℕ)) (whole : List ℕ) (rests : List (List ℕ)) →
     lines bytes ≡ front ++ line ∷ rest → whole_lines bytes ≡ fronts ++ whole ∷ rests → length fronts ≡ length front →
     written_at costs bytes (length front) ≡ written_for (is_replaced costs front line) (cost_behind costs front line) whole
 written_here costs bytes front line rest fronts whole rests split wholes same =
-    ap (λ before. at before (get_or (lines bytes) (length front) []) (get_or (whole_lines bytes) (length front) [])) (ap (take (length front)) split ∙ take_at front (line ∷ rest) (length front) refl)
-    ∙ ap (λ l. at front l (get_or (whole_lines bytes) (length front) [])) (ap (λ ls. get_or ls (length front) []) split ∙ get_or_at front line rest [] (length front) refl)
+    ap (λ before. at before (get_or (lines bytes) (length front) []) (get_or (whole_lines bytes) (length front) []))
+    (ap (take (length front)) split ∙ take_at front (line ∷ rest) (length front) refl)
+    ∙ ap (λ l. at front l (get_or (whole_lines bytes) (length front) [])) (ap (λ ls. get_or ls (length front) []) split
+    ∙ get_or_at front line rest [] (length front) refl)
     ∙ ap (at front line) (ap (λ ls. get_or ls (length front) []) wholes ∙ get_or_at fronts whole rests [] (length front) same)
   where
     at : List (List ℕ) → List ℕ → List ℕ → List ℕ
@@ -134,7 +145,8 @@ pub record WrittenTo (costs : List (List ℕ × ℕ)) (bytes : List ℕ) (left :
   pub out : writer.out.items ≡ concat (map (written_at costs bytes) (numbers_from 0 (length front)))
 
 pub written_none : (costs : List (List ℕ × ℕ)) (bytes : List ℕ) (left : TextLeft) (writer : Writer) → left.bytes ≡ bytes →
-    ((name : List ℕ) → look_up name writer.costs ≡ cost_after costs name None) → writer.heads ≡ [] → writer.in_named_block ≡ false → writer.out.items ≡ [] → WrittenTo costs bytes left writer
+    ((name : List ℕ) → look_up name writer.costs ≡ cost_after costs name None) → writer.heads ≡ [] →
+    writer.in_named_block ≡ false → writer.out.items ≡ [] → WrittenTo costs bytes left writer
 written_none costs bytes left writer whole agree heads named out = record {
   front = [];
   fronts = [];
@@ -161,7 +173,8 @@ written_step costs bytes old new writer next line so_far is_line step = record {
   same = length_more so_far.fronts (text ++ line_end new.ended) ∙ ap suc so_far.same ∙ sym (length_more so_far.front text);
   agree = λ name. ap (look_up name) step.costs ∙ so_far.agree name;
   heads = step.heads ∙ ap (λ heads. heads_after_line (kind_of text) heads (block_of (words text))) so_far.heads ∙ sym (headed-push so_far.front text);
-  named = step.named ∙ ap (λ named. named_after_line (kind_of text) writer.costs named (block_of (words text))) so_far.named ∙ sym (named-push costs writer.costs so_far.agree so_far.front text);
+  named = step.named ∙ ap (λ named. named_after_line (kind_of text) writer.costs named (block_of (words text)))
+      so_far.named ∙ sym (named-push costs writer.costs so_far.agree so_far.front text);
   out = out;
 }
   where
@@ -177,30 +190,43 @@ written_step costs bytes old new writer next line so_far is_line step = record {
     wholes : whole_lines bytes ≡ so_far.fronts ++ (text ++ line_end new.ended) ∷ whole_lines new.bytes
     wholes = so_far.wholes ∙ ap (λ ls. so_far.fronts ++ ls) (whole_first old.bytes text new.ended new.bytes cut)
 
-    put : put_for (writer.in_named_block && is_cost_line text) (cost_after_line (kind_of text) writer.costs writer.heads (block_of (words text))) text new.ended ≡ written_at costs bytes (length so_far.front)
+    put : put_for (writer.in_named_block && is_cost_line text)
+        (cost_after_line (kind_of text) writer.costs writer.heads (block_of (words text))) text new.ended
+        ≡ written_at costs bytes (length so_far.front)
     put =
-        put_written (writer.in_named_block && is_cost_line text) (cost_after_line (kind_of text) writer.costs writer.heads (block_of (words text))) old.bytes text new.ended new.bytes cut
-        ∙ ap (λ named. written_for (named && is_cost_line text) (cost_after_line (kind_of text) writer.costs writer.heads (block_of (words text))) (text ++ line_end new.ended)) so_far.named
+        put_written (writer.in_named_block && is_cost_line text)
+        (cost_after_line (kind_of text) writer.costs writer.heads (block_of (words text))) old.bytes text new.ended
+        new.bytes cut
+        ∙ ap (λ named. written_for (named && is_cost_line text)
+        (cost_after_line (kind_of text) writer.costs writer.heads (block_of (words text)))
+        (text ++ line_end new.ended)) so_far.named
         ∙ ap (λ behind. written_for (is_replaced costs so_far.front text) behind (text ++ line_end new.ended))
-        (ap (λ heads. cost_after_line (kind_of text) writer.costs heads (block_of (words text))) so_far.heads ∙ behind_known costs writer.costs so_far.agree so_far.front text)
-        ∙ sym (written_here costs bytes so_far.front text (lines new.bytes) so_far.fronts (text ++ line_end new.ended) (whole_lines new.bytes) split wholes so_far.same)
+        (ap (λ heads. cost_after_line (kind_of text) writer.costs heads (block_of (words text))) so_far.heads
+        ∙ behind_known costs writer.costs so_far.agree so_far.front text)
+        ∙ sym (written_here costs bytes so_far.front text (lines new.bytes) so_far.fronts (text ++ line_end new.ended)
+        (whole_lines new.bytes) split wholes so_far.same)
 
     out : next.out.items ≡ concat (map (written_at costs bytes) (numbers_from 0 (length (so_far.front ++ text ∷ []))))
     out =
         step.out
-        ∙ ap (λ items. items ++ put_for (writer.in_named_block && is_cost_line text) (cost_after_line (kind_of text) writer.costs writer.heads (block_of (words text))) text new.ended) so_far.out
+        ∙ ap (λ items. items ++ put_for (writer.in_named_block && is_cost_line text)
+        (cost_after_line (kind_of text) writer.costs writer.heads (block_of (words text))) text
+        new.ended) so_far.out
         ∙ ap (λ more. concat (map (written_at costs bytes) (numbers_from 0 (length so_far.front))) ++ more) put
         ∙ sym (written_more (written_at costs bytes) (length so_far.front))
         ∙ ap (λ n. concat (map (written_at costs bytes) (numbers_from 0 n))) (sym (length_more so_far.front text))
 
 -- a head is gone over: its block is opened, and it is put
-pub head_gone : (old opened next : Writer) (line : List ℕ) (end : Bool) (behind : Option ℕ) → kind_of line ≡ Head → Opens old opened (block_of (words line)) behind →
-    next.costs ≡ opened.costs → next.heads ≡ opened.heads → next.in_named_block ≡ opened.in_named_block → next.out.items ≡ opened.out.items ++ put_for false behind line end → GoesOverLine old next line end
+pub head_gone : (old opened next : Writer) (line : List ℕ) (end : Bool) (behind : Option ℕ) → kind_of line ≡ Head →
+    Opens old opened (block_of (words line)) behind →
+    next.costs ≡ opened.costs → next.heads ≡ opened.heads → next.in_named_block ≡ opened.in_named_block →
+    next.out.items ≡ opened.out.items ++ put_for false behind line end → GoesOverLine old next line end
 head_gone old opened next line end behind head opens costs heads named out = record {
   out =
       out
       ∙ ap (λ items. items ++ put_for false behind line end) opens.out
-      ∙ ap (λ b. old.out.items ++ put_for false b line end) (opens.behind_is ∙ ap (λ kind. cost_after_line kind old.costs old.heads (block_of (words line))) (sym head))
+      ∙ ap (λ b. old.out.items ++ put_for false b line end) (opens.behind_is
+      ∙ ap (λ kind. cost_after_line kind old.costs old.heads (block_of (words line))) (sym head))
       ∙ ap (λ replaced. old.out.items ++ put_for replaced (cost_after_line (kind_of line) old.costs old.heads (block_of (words line))) line end) (sym kept);
   heads = heads ∙ opens.heads ∙ ap (λ kind. heads_after_line kind old.heads (block_of (words line))) (sym head);
   named = named ∙ opens.named ∙ ap (λ kind. named_after_line kind old.costs old.in_named_block (block_of (words line))) (sym head);

@@ -1,6 +1,6 @@
 -- Facts that hold exactly where others do.
 use Rattle.std.proofs.Common.{◌≡◌, Bool, true, false, IsTrue, ◌↔◌, ◌⊎◌, inl, inr, sym, ◌∙◌}
-use Rattle.answer_lines.proofs.Chains.{not-both}
+use Rattle.answer_lines.proofs.ListParts.{not-both}
 
 pub through : {A B C : Type 0} → A ↔ B → B ↔ C → A ↔ C
 through f g = (λ a. g.0 (f.0 a), λ c. f.1 (g.1 c))

@@ -27,7 +27,7 @@ use Rattle.config_reader.specs.Hearing.{Heard, heard, sets, own_fault, named_by}
 use Rattle.config_reader.specs.Drafting.{network_line, network_lines, covers, area_among, clash, whole_address, area_for, finished, at_place, find_draft, is_second, second_in, second_of, first_second, twice_at, clash_for, clash_of, earliest, first_clash, id_in, id_after, name_from, name_fault}
 use Rattle.config_reader.proofs.FirstFaults.{firsts_at, firsts_suc, bound, merge, agree, never, met_at, earliest_assoc, earliest_none, past_all, first_flat, first_five, first_front, first_filtered, filter_map-map}
 use Rattle.config_reader.proofs.DraftLaws.{draft_of, plain, plain_by, any_matched}
-use Rattle.config_reader.proofs.Places.{same_bytes-true, any-map}
+use Rattle.config_reader.proofs.LongerLists.{any-map}
 use Rattle.config_reader.proofs.BlockFacts.{about-unheaded, head_names}
 use Rattle.config_reader.proofs.HeadSteps.{is_headed}
 
@@ -41,7 +41,9 @@ nets_law [] = refl
 nets_law (s ∷ all) = by s.block s.statement (nets_law all)
   where
     by : (b : Block) (st : Statement) → networks all ≡ map net_of (network_lines all) →
-        filter_map network_said (map (λ (t : Said). t.statement) (cond (is_of_router b) (record { number = s.number; block = b; statement = st } ∷ filter (λ (t : Said). is_of_router t.block) all) (filter (λ (t : Said). is_of_router t.block) all)))
+        filter_map network_said (map (λ (t : Said). t.statement)
+        (cond (is_of_router b) (record { number = s.number; block = b; statement = st }
+        ∷ filter (λ (t : Said). is_of_router t.block) all) (filter (λ (t : Said). is_of_router t.block) all)))
         ≡ map net_of (cons_option (network_line s.number b st) (network_lines all))
     by (OfInterface name) st more = more
     by OfOther st more = more
@@ -74,7 +76,8 @@ abbrev pub by_net : List Network → Option NetworkLine → Option Prefix → Op
 by_net earlier None address = None
 by_net earlier (Some w) address = cond (is_other_area earlier (net_of w) address) (Some AreaTwice) None
 
-twice_by_net : (n : ℕ) (earlier : List Network) (b : Block) (s : Statement) (address : Option Prefix) → twice_one earlier b s address ≡ by_net earlier (network_line n b s) address
+twice_by_net : (n : ℕ) (earlier : List Network) (b : Block) (s : Statement) (address : Option Prefix) →
+    twice_one earlier b s address ≡ by_net earlier (network_line n b s) address
 twice_by_net n earlier OfRouter (NetworkIs w) address = refl
 twice_by_net n earlier _ _ address = refl
 
@@ -104,12 +107,16 @@ module _ (p : Prefix) where
       let parts = or_parts (matches p m) (list_any (matches p) ms) none in
       rw parts.0 (none_and q ms parts.1)
 
-  some_other : (a b : ℕ) (earlier : List Network) → eqb b a ≡ false → list_any (λ m. matches p m && (m.area == a)) earlier ≡ true → list_any (λ m. matches p m && not (m.area == b)) earlier ≡ true
+  some_other : (a b : ℕ) (earlier : List Network) → eqb b a ≡ false →
+      list_any (λ m. matches p m && (m.area == a)) earlier ≡ true →
+      list_any (λ m. matches p m && not (m.area == b)) earlier ≡ true
   some_other a b [] other some = absurd (cc)
   some_other a b (m ∷ ms) other some = cases (matches p m) (eqb m.area a) refl refl some (λ h. some_other a b ms other h)
     where
       cases : (x y : Bool) → matches p m ≡ x → eqb m.area a ≡ y → ((x && y) || list_any (λ m. matches p m && (m.area == a)) ms) ≡ true →
-          (list_any (λ m. matches p m && (m.area == a)) ms ≡ true → list_any (λ m. matches p m && not (m.area == b)) ms ≡ true) → ((matches p m && not (m.area == b)) || list_any (λ m. matches p m && not (m.area == b)) ms) ≡ true
+          (list_any (λ m. matches p m && (m.area == a)) ms ≡ true →
+          list_any (λ m. matches p m && not (m.area == b)) ms ≡ true) →
+          ((matches p m && not (m.area == b)) || list_any (λ m. matches p m && not (m.area == b)) ms) ≡ true
       cases true true e f h more =
           let same : m.area ≡ a = eqb-true m.area a f in
           let differs_b : eqb m.area b ≡ false = ne_eqb m.area b (λ g. false≢true (sym other ∙ eq-eqb b a (sym g ∙ same))) in
@@ -122,19 +129,27 @@ module _ (p : Prefix) where
   passed earlier w None no_match known = any-last (matches p) earlier w ∙ rw (known, no_match)
   passed earlier w (Some a) no_match known = (
     any-last (λ m. matches p m && not (m.area == a)) earlier w ∙ rw (known.0, no_match),
-    any-last (λ m. matches p m && (m.area == a)) earlier w ∙ or_left (list_any (λ m. matches p m && (m.area == a)) earlier) ((matches p w && (w.area == a)) || false) known.1,
+    any-last (λ m. matches p m && (m.area == a)) earlier w
+        ∙ or_left (list_any (λ m. matches p m && (m.area == a)) earlier)
+        ((matches p w && (w.area == a)) || false) known.1,
   )
 
   first_match : (earlier : List Network) (w : Network) → matches p w ≡ true → OneArea earlier None → OneArea (earlier ++ w ∷ []) (Some w.area)
   first_match earlier w match known = (
-    any-last (λ m. matches p m && not (m.area == w.area)) earlier w ∙ (let none = none_and (λ m. not (m.area == w.area)) earlier known in let same = eq-eqb w.area w.area refl in rw (none, match, same)),
-    any-last (λ m. matches p m && (m.area == w.area)) earlier w ∙ or_right (list_any (λ m. matches p m && (m.area == w.area)) earlier) ((matches p w && (w.area == w.area)) || false) (let same = eq-eqb w.area w.area refl in rw (match, same)),
+    any-last (λ m. matches p m && not (m.area == w.area)) earlier w
+        ∙ (let none = none_and (λ m. not (m.area == w.area)) earlier known in let same = eq-eqb w.area w.area refl in
+        rw (none, match, same)),
+    any-last (λ m. matches p m && (m.area == w.area)) earlier w
+        ∙ or_right (list_any (λ m. matches p m && (m.area == w.area)) earlier)
+        ((matches p w && (w.area == w.area)) || false) (let same = eq-eqb w.area w.area refl in rw (match, same)),
   )
 
   again : (earlier : List Network) (w : Network) (a : ℕ) → eqb w.area a ≡ true → OneArea earlier (Some a) → OneArea (earlier ++ w ∷ []) (Some a)
   again earlier w a same known = (
     any-last (λ m. matches p m && not (m.area == a)) earlier w ∙ rw (known.0, same) (none (matches p w)),
-    any-last (λ m. matches p m && (m.area == a)) earlier w ∙ or_left (list_any (λ m. matches p m && (m.area == a)) earlier) ((matches p w && (w.area == a)) || false) known.1,
+    any-last (λ m. matches p m && (m.area == a)) earlier w
+        ∙ or_left (list_any (λ m. matches p m && (m.area == a)) earlier)
+        ((matches p w && (w.area == a)) || false) known.1,
   )
     where
       none : (b : Bool) → ((b && false) || false) ≡ false
@@ -142,17 +157,27 @@ module _ (p : Prefix) where
       none false = refl
 
   -- one more line: it is a second area, or what is known stays known
-  more_line : (n : ℕ) (earlier : List Network) (o : Option NetworkLine) (first : Option ℕ) (rest : List NetworkLine) (later : Option Fault) → ((w : NetworkLine) → o ≡ Some w → w.line ≡ n) → OneArea earlier first →
+  more_line : (n : ℕ) (earlier : List Network) (o : Option NetworkLine) (first : Option ℕ) (rest : List NetworkLine)
+      (later : Option Fault) → ((w : NetworkLine) → o ≡ Some w → w.line ≡ n) → OneArea earlier first →
       ((next : Option ℕ) → OneArea (earlier ++ map net_of (cons_option o [])) next → later ≡ twice_at (clash p next rest)) →
       option_or (at_line n (by_net earlier o (Some p))) later ≡ twice_at (clash p first (cons_option o rest))
   more_line n earlier None first rest later numbered known go = go first (subst (λ e. OneArea e first) (sym (append-nil earlier)) known)
   more_line n earlier (Some w) first rest later numbered known go = cases (matches p (net_of w)) refl first known
     where
-      cases : (m : Bool) → matches p (net_of w) ≡ m → (f : Option ℕ) → OneArea earlier f → option_or (at_line n (by_net earlier (Some w) (Some p))) later ≡ twice_at (clash p f (w ∷ rest))
-      cases false e None k = ap (λ b. option_or (at_line n (cond (b && list_any (λ m. matches p m && not (m.area == w.area)) earlier) (Some AreaTwice) None)) later) e ∙ go None (passed earlier (net_of w) None e k) ∙ ap (λ b. twice_at (cond b (clash p (Some w.area) rest) (clash p None rest))) (sym e)
-      cases false e (Some a) k = ap (λ b. option_or (at_line n (cond (b && list_any (λ m. matches p m && not (m.area == w.area)) earlier) (Some AreaTwice) None)) later) e ∙ go (Some a) (passed earlier (net_of w) (Some a) e k) ∙ ap (λ b. twice_at (cond (b && not (w.area == a)) (Some w.line) (clash p (Some a) rest))) (sym e)
+      cases : (m : Bool) → matches p (net_of w) ≡ m → (f : Option ℕ) → OneArea earlier f →
+          option_or (at_line n (by_net earlier (Some w) (Some p))) later ≡ twice_at (clash p f (w ∷ rest))
+      cases false e None k = ap (λ b.
+          option_or (at_line n (cond (b && list_any (λ m. matches p m && not (m.area == w.area)) earlier)
+          (Some AreaTwice) None)) later) e ∙ go None (passed earlier (net_of w) None e k)
+          ∙ ap (λ b. twice_at (cond b (clash p (Some w.area) rest) (clash p None rest))) (sym e)
+      cases false e (Some a) k = ap (λ b.
+          option_or (at_line n (cond (b && list_any (λ m. matches p m && not (m.area == w.area)) earlier)
+          (Some AreaTwice) None)) later) e ∙ go (Some a) (passed earlier (net_of w) (Some a) e k)
+          ∙ ap (λ b. twice_at (cond (b && not (w.area == a)) (Some w.line) (clash p (Some a) rest))) (sym e)
       cases true e None k =
-          ap (λ b. option_or (at_line n (cond b (Some AreaTwice) None)) later) (and_right (matches p (net_of w)) (list_any (λ m. matches p m && not (m.area == w.area)) earlier) (none_and (λ m. not (m.area == w.area)) earlier k))
+          ap (λ b. option_or (at_line n (cond b (Some AreaTwice) None)) later)
+          (and_right (matches p (net_of w)) (list_any (λ m. matches p m && not (m.area == w.area)) earlier)
+          (none_and (λ m. not (m.area == w.area)) earlier k))
           ∙ go (Some w.area) (first_match earlier (net_of w) e k)
           ∙ ap (λ b. twice_at (cond b (clash p (Some w.area) rest) (clash p None rest))) (sym e)
       cases true e (Some a) k = areas (eqb w.area a) refl
@@ -160,7 +185,9 @@ module _ (p : Prefix) where
           areas : (c : Bool) → eqb w.area a ≡ c → option_or (at_line n (by_net earlier (Some w) (Some p))) later ≡ twice_at (clash p (Some a) (w ∷ rest))
           areas true same =
               let eq : w.area ≡ a = eqb-true w.area a same in
-              ap (λ b. option_or (at_line n (cond b (Some AreaTwice) None)) later) (and_right (matches p (net_of w)) (list_any (λ m. matches p m && not (m.area == w.area)) earlier) (ap (λ x. list_any (λ m. matches p m && not (m.area == x)) earlier) eq ∙ k.0))
+              ap (λ b. option_or (at_line n (cond b (Some AreaTwice) None)) later)
+              (and_right (matches p (net_of w)) (list_any (λ m. matches p m && not (m.area == w.area)) earlier)
+              (ap (λ x. list_any (λ m. matches p m && not (m.area == x)) earlier) eq ∙ k.0))
               ∙ go (Some a) (again earlier (net_of w) a same k)
               ∙ ap (λ b. twice_at (cond b (Some w.line) (clash p (Some a) rest))) (sym (and_right (matches p (net_of w)) (not (w.area == a)) (ap not same)))
           areas false other =
@@ -168,7 +195,8 @@ module _ (p : Prefix) where
               ap (λ b. option_or (at_line n (cond (b && list_any (λ m. matches p m && not (m.area == w.area)) earlier) (Some AreaTwice) None)) later) e
               ∙ ap (λ b. option_or (at_line n (cond b (Some AreaTwice) None)) later) found
               ∙ ap (λ l. Some (record { line = l; fault = AreaTwice })) (sym (numbered w refl))
-              ∙ sym (ap (λ b. twice_at (cond (b && not (w.area == a)) (Some w.line) (clash p (Some a) rest))) e ∙ ap (λ b. twice_at (cond (not b) (Some w.line) (clash p (Some a) rest))) other)
+              ∙ sym (ap (λ b. twice_at (cond (b && not (w.area == a)) (Some w.line) (clash p (Some a) rest))) e
+              ∙ ap (λ b. twice_at (cond (not b) (Some w.line) (clash p (Some a) rest))) other)
 
 -- lines have their numbers
 abbrev pub Numbered : ℕ → List Said → Type 0
@@ -188,7 +216,8 @@ scan p before [] (Some a) known numbered = refl
 scan p before (s ∷ rest) first known numbered =
     firsts_suc (twice_rule (before ++ s ∷ rest) (Some p)) (length before) (length rest)
     ∙ ap (λ o. option_or (at_line (length before + 1) o) later) here
-    ∙ more_line p (length before + 1) (networks before) (network_line s.number s.block s.statement) first (network_lines rest) later (λ w e. line_of_net s.number s.block s.statement w e ∙ numbered.0) known
+    ∙ more_line p (length before + 1) (networks before) (network_line s.number s.block s.statement) first
+    (network_lines rest) later (λ w e. line_of_net s.number s.block s.statement w e ∙ numbered.0) known
     (go (λ next k counted. scan p (before ++ s ∷ []) rest next k counted))
   where
     later : Option Fault
@@ -196,15 +225,20 @@ scan p before (s ∷ rest) first known numbered =
 
     here : twice_rule (before ++ s ∷ rest) (Some p) (length before) ≡ by_net (networks before) (network_line s.number s.block s.statement) (Some p)
     here =
-        ap (λ (t : Said). twice_one (networks (take (length before) (before ++ s ∷ rest))) t.block t.statement (Some p)) (get_or_at before s rest no_said (length before) refl)
+        ap (λ (t : Said). twice_one (networks (take (length before) (before ++ s ∷ rest))) t.block t.statement (Some p))
+        (get_or_at before s rest no_said (length before) refl)
         ∙ ap (λ (e : List Said). twice_one (networks e) s.block s.statement (Some p)) (take_at before (s ∷ rest) (length before) refl)
         ∙ twice_by_net s.number (networks before) s.block s.statement (Some p)
 
     length_next : length (before ++ s ∷ []) ≡ length before + 1
     length_next = omega (arith, length-append before (s ∷ []))
 
-    go : ((next : Option ℕ) → OneArea p (networks (before ++ s ∷ [])) next → Numbered (length (before ++ s ∷ [])) rest → firsts_at (twice_rule ((before ++ s ∷ []) ++ rest) (Some p)) (length (before ++ s ∷ [])) (length rest) ≡ twice_at (clash p next (network_lines rest))) →
-        (next : Option ℕ) → OneArea p (networks before ++ map net_of (cons_option (network_line s.number s.block s.statement) [])) next → later ≡ twice_at (clash p next (network_lines rest))
+    go : ((next : Option ℕ) → OneArea p (networks (before ++ s ∷ [])) next → Numbered (length (before ++ s ∷ [])) rest →
+        firsts_at (twice_rule ((before ++ s ∷ []) ++ rest) (Some p)) (length (before ++ s ∷ [])) (length rest)
+        ≡ twice_at (clash p next (network_lines rest))) →
+        (next : Option ℕ) → OneArea p (networks before
+        ++ map net_of (cons_option (network_line s.number s.block s.statement) [])) next →
+        later ≡ twice_at (clash p next (network_lines rest))
     go more next k =
         ap (λ n. firsts_at (twice_rule (before ++ s ∷ rest) (Some p)) n (length rest)) (sym length_next)
         ∙ ap (λ all. firsts_at (twice_rule all (Some p)) (length (before ++ s ∷ [])) (length rest)) (sym (append_assoc before (s ∷ []) rest))
@@ -214,10 +248,15 @@ scan p before (s ∷ rest) first known numbered =
 abbrev pub address_for : List Said → List ℕ × ℕ → Option Prefix
 address_for all head = address_by_networks (setting area_said (about all head.0)) (address_of all head.0)
 
-twice_more : (all : List Said) (h : List ℕ × ℕ) (hs : List (List ℕ × ℕ)) (earlier : List Network) (b : Block) (s : Statement) → area_twice all (h ∷ hs) earlier b s ≡ option_or (twice_one earlier b s (address_for all h)) (area_twice all hs earlier b s)
-twice_more all h hs earlier OfRouter (NetworkIs w) = cases (is_other_area earlier w (address_for all h)) (list_any (λ head. is_other_area earlier w (address_for all head)) hs)
+twice_more : (all : List Said) (h : List ℕ × ℕ) (hs : List (List ℕ × ℕ)) (earlier : List Network) (b : Block)
+    (s : Statement) → area_twice all (h ∷ hs) earlier b s ≡ option_or (twice_one earlier b s (address_for all h))
+    (area_twice all hs earlier b s)
+twice_more all h hs earlier OfRouter (NetworkIs w) =
+    cases (is_other_area earlier w (address_for all h))
+    (list_any (λ head. is_other_area earlier w (address_for all head)) hs)
   where
-    cases : (x y : Bool) → ◌≡◌ {A = Option ConfigFault} (cond (x || y) (Some AreaTwice) None) (option_or (cond x (Some AreaTwice) None) (cond y (Some AreaTwice) None))
+    cases : (x y : Bool) → ◌≡◌ {A = Option ConfigFault} (cond (x || y) (Some AreaTwice) None)
+        (option_or (cond x (Some AreaTwice) None) (cond y (Some AreaTwice) None))
     cases true y = refl
     cases false y = refl
 twice_more all h hs earlier _ _ = refl
@@ -238,39 +277,54 @@ whole_parts None = refl
 whole_parts (Some p) = refl
 
 -- the clash of a draft is the second area of its interface
-clash_law : (all : List Said) (head : List ℕ × ℕ) → Numbered 0 all → clash_of (network_lines all) (draft_of (network_lines all) all head) ≡ firsts_at (twice_rule all (address_for all head)) 0 (length all)
+clash_law : (all : List Said) (head : List ℕ × ℕ) → Numbered 0 all →
+    clash_of (network_lines all) (draft_of (network_lines all) all head)
+    ≡ firsts_at (twice_rule all (address_for all head)) 0 (length all)
 unfolding plain plain_by
 clash_law all head numbered =
     ap (clash_for (network_lines all) (setting area_said (about all head.0))) (whole_parts (address_of all head.0))
     ∙ cases (setting area_said (about all head.0)) (address_of all head.0)
   where
-    cases : (own : Option ℕ) (address : Option Prefix) → clash_for (network_lines all) own address ≡ firsts_at (twice_rule all (address_by_networks own address)) 0 (length all)
-    cases (Some a) address = sym (never (twice_rule all None) 0 (length all) (λ i. one_none (networks (take i all)) (get_or all i no_said).block (get_or all i no_said).statement))
-    cases None None = sym (never (twice_rule all None) 0 (length all) (λ i. one_none (networks (take i all)) (get_or all i no_said).block (get_or all i no_said).statement))
+    cases : (own : Option ℕ) (address : Option Prefix) →
+        clash_for (network_lines all) own address ≡ firsts_at (twice_rule all (address_by_networks own address)) 0
+        (length all)
+    cases (Some a) address = sym (never (twice_rule all None) 0 (length all)
+        (λ i. one_none (networks (take i all)) (get_or all i no_said).block (get_or all i no_said).statement))
+    cases None None = sym (never (twice_rule all None) 0 (length all)
+        (λ i. one_none (networks (take i all)) (get_or all i no_said).block (get_or all i no_said).statement))
     cases None (Some p) = sym (scan p [] all None refl numbered)
 
-pub clashes_law : (all : List Said) (found : Option Fault) (heads : List (List ℕ × ℕ)) → Numbered 0 all → first_clash (network_lines all) found (map (draft_of (network_lines all) all) heads) ≡ earliest found (firsts_at (areas_rule all heads) 0 (length all))
+pub clashes_law : (all : List Said) (found : Option Fault) (heads : List (List ℕ × ℕ)) → Numbered 0 all →
+    first_clash (network_lines all) found (map (draft_of (network_lines all) all) heads)
+    ≡ earliest found (firsts_at (areas_rule all heads) 0 (length all))
 clashes_law all found [] numbered =
-    sym (ap (earliest found) (never (areas_rule all []) 0 (length all) (λ i. twice_none all (networks (take i all)) (get_or all i no_said).block (get_or all i no_said).statement)) ∙ earliest_none found)
+    sym (ap (earliest found) (never (areas_rule all []) 0 (length all)
+    (λ i. twice_none all (networks (take i all)) (get_or all i no_said).block (get_or all i no_said).statement))
+    ∙ earliest_none found)
 clashes_law all found (h ∷ hs) numbered =
     clashes_law all (earliest found (clash_of (network_lines all) (draft_of (network_lines all) all h))) hs numbered
     ∙ earliest_assoc found (clash_of (network_lines all) (draft_of (network_lines all) all h)) (firsts_at (areas_rule all hs) 0 (length all))
     ∙ ap (earliest found)
     (ap (λ o. earliest o (firsts_at (areas_rule all hs) 0 (length all))) (clash_law all h numbered)
     ∙ sym (merge (twice_rule all (address_for all h)) (areas_rule all hs) 0 (length all))
-    ∙ sym (agree (areas_rule all (h ∷ hs)) (λ i. option_or (twice_rule all (address_for all h) i) (areas_rule all hs i)) 0 (length all) (λ i above below. twice_more all h hs (networks (take i all)) (get_or all i no_said).block (get_or all i no_said).statement)))
+    ∙ sym (agree (areas_rule all (h ∷ hs)) (λ i. option_or (twice_rule all (address_for all h) i) (areas_rule all hs i))
+    0 (length all) (λ i above below. twice_more all h hs (networks (take i all)) (get_or all i no_said).block
+    (get_or all i no_said).statement)))
 
 -- a name's place, or none
 any_place : (q : List ℕ → Bool) (xs : List (List ℕ)) → list_any q xs ≡ true → position_or_len q xs < length xs
 any_place q [] some = absurd (false≢true some)
 any_place q (x ∷ xs) some = cases (q x) some (λ h. any_place q xs h)
   where
-    cases : (b : Bool) → (b || list_any q xs) ≡ true → (list_any q xs ≡ true → position_or_len q xs < length xs) → cond (not b) (1 + position_or_len q xs) 0 < suc (length xs)
+    cases : (b : Bool) → (b || list_any q xs) ≡ true → (list_any q xs ≡ true → position_or_len q xs < length xs) →
+        cond (not b) (1 + position_or_len q xs) 0 < suc (length xs)
     cases true h more = omega arith
     cases false h more = let k = more h in omega arith
 
 pub no_place : (q : List ℕ → Bool) (xs : List (List ℕ)) → position q xs ≡ None → list_any q xs ≡ false
-no_place q xs none = false_from_ne_true (list_any q xs) (λ some. apart (ap (λ b. cond b (Some (position_or_len q xs)) None) (lt-ltb (position_or_len q xs) (length xs) (any_place q xs some))))
+no_place q xs none = false_from_ne_true (list_any q xs)
+    (λ some. apart (ap (λ b. cond b (Some (position_or_len q xs)) None)
+    (lt-ltb (position_or_len q xs) (length xs) (any_place q xs some))))
   where
     apart : position q xs ≡ Some (position_or_len q xs) → ⊥
     apart e = let h : Some (position_or_len q xs) ≡ None = sym e ∙ none in absurd (cc)
