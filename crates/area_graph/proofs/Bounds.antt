@@ -16,7 +16,8 @@ use Rattle.area_graph.proofs.Walks.{Member}
 use Rattle.area_graph.proofs.Deviations.{lacks_not}
 
 -- a list with one element that passes no more counts one less
-pub count_less : (vs : List Vertex) (i : ℕ) (v : Vertex) → i < length vs → is_router (get_or vs i (Router 0)) ≡ true → is_router v ≡ false → count_by is_router (set vs i v) + 1 ≡ count_by is_router vs
+pub count_less : (vs : List Vertex) (i : ℕ) (v : Vertex) → i < length vs → is_router (get_or vs i (Router 0)) ≡ true →
+    is_router v ≡ false → count_by is_router (set vs i v) + 1 ≡ count_by is_router vs
 count_less vs i v within was now =
     let step = sum_by-set (λ x. cond (is_router x) 1 0) vs i v (Router 0) within in
     let counted : Bool → ℕ = λ b. cond b 1 0 in
@@ -40,7 +41,11 @@ one_more : (price rest count most : ℕ) → price ≤ most → rest ≤ count *
 one_more price rest count most first later = omega arith
 
 -- the first edge of a path and the rest of it
-step-le : (g : Area) (p : Point) (vs : List Vertex) (s e : ℕ) (es : List ℕ) → FitsGraph g → HasMetrics g → FitsPoint g p → length vs ≡ length g.vertices → get_or vs s (Router 0) ≡ vertex_at g s → e < length g.edges → (edge_at g e).from ≡ s → cost g p es ≤ count_by is_router vs * (65535 * p.scale) → cost g p es ≤ count_by is_router (set vs s (Subnet 0)) * (65535 * p.scale) → cost g p (e ∷ es) ≤ count_by is_router vs * (65535 * p.scale)
+step-le : (g : Area) (p : Point) (vs : List Vertex) (s e : ℕ) (es : List ℕ) → FitsGraph g → HasMetrics g →
+    FitsPoint g p → length vs ≡ length g.vertices → get_or vs s (Router 0) ≡ vertex_at g s → e < length g.edges →
+    (edge_at g e).from ≡ s → cost g p es ≤ count_by is_router vs * (65535 * p.scale) →
+    cost g p es ≤ count_by is_router (set vs s (Subnet 0)) * (65535 * p.scale) →
+    cost g p (e ∷ es) ≤ count_by is_router vs * (65535 * p.scale)
 step-le g p vs s e es graph metrics fits same mark known from after_subnet after_router = by_source (vertex_at g s) refl
   where
     edge : FitsEdge g (edge_at g e)
@@ -57,26 +62,34 @@ step-le g p vs s e es graph metrics fits same mark known from after_subnet after
         let first = price-le g p (edge_at g e).price fits (metrics e no_edge known) (fits.priced e no_edge known) in
         let less = count_less vs s (Subnet 0) within (ap is_router (mark ∙ is)) refl in
         let both = one_more (price_at p (edge_at g e).price) (cost g p es) (count_by is_router (set vs s (Subnet 0))) (65535 * p.scale) first after_router in
-        subst (λ (n : ℕ). cost g p (e ∷ es) ≤ n * (65535 * p.scale)) less (subst (λ (c : ℕ). c ≤ (count_by is_router (set vs s (Subnet 0)) + 1) * (65535 * p.scale)) (sym longer) both)
+        subst (λ (n : ℕ). cost g p (e ∷ es) ≤ n * (65535 * p.scale)) less
+        (subst (λ (c : ℕ). c ≤ (count_by is_router (set vs s (Subnet 0)) + 1) * (65535 * p.scale))
+        (sym longer) both)
     by_source (Subnet n) is =
         let none = free_out p (edge_at g e).price n (subst (λ (v : Vertex). FitsSource v (edge_at g e).price) (ap (vertex_at g) from ∙ is) edge.price) in
         let whole : cost g p (e ∷ es) ≡ cost g p es = omega (arith, longer, none) in
         subst (λ (c : ℕ). c ≤ count_by is_router vs * (65535 * p.scale)) (sym whole) after_subnet
 
 -- a path with no vertex twice costs at most the greatest interface cost for each router that it can leave
-pub cost-le_routers : (g : Area) (p : Point) (vs : List Vertex) (s : ℕ) (es : List ℕ) (t : ℕ) → FitsGraph g → HasMetrics g → FitsPoint g p → length vs ≡ length g.vertices → Joins g s es t → NoneTwice (visited g s es) → ((v : ℕ) → Member (visited g s es) v → get_or vs v (Router 0) ≡ vertex_at g v) → cost g p es ≤ count_by is_router vs * (65535 * p.scale)
+pub cost-le_routers : (g : Area) (p : Point) (vs : List Vertex) (s : ℕ) (es : List ℕ) (t : ℕ) → FitsGraph g →
+    HasMetrics g → FitsPoint g p → length vs ≡ length g.vertices → Joins g s es t → NoneTwice (visited g s es) →
+    ((v : ℕ) → Member (visited g s es) v → get_or vs v (Router 0) ≡ vertex_at g v) →
+    cost g p es ≤ count_by is_router vs * (65535 * p.scale)
 cost-le_routers g p vs s [] t graph metrics fits same joins once marks = omega arith
 cost-le_routers g p vs s (e ∷ es) t graph metrics fits same joins once marks =
     step-le g p vs s e es graph metrics fits same (marks s (inl refl)) joins.0 joins.1
     (cost-le_routers g p vs (edge_at g e).to es t graph metrics fits same joins.2 once.1 (λ v has. marks v (inr has)))
     (cost-le_routers g p (set vs s (Subnet 0)) (edge_at g e).to es t graph metrics fits (length-set vs s (Subnet 0) ∙ same) joins.2 once.1
-    (λ v has. get_or-set_other vs s v (Subnet 0) (Router 0) (λ back. lacks_not (visited g (edge_at g e).to es) s once.0 (subst (λ (x : ℕ). Member (visited g (edge_at g e).to es) x) back has)) ∙ marks v (inr has)))
+    (λ v has. get_or-set_other vs s v (Subnet 0) (Router 0)
+    (λ back. lacks_not (visited g (edge_at g e).to es) s once.0
+    (subst (λ (x : ℕ). Member (visited g (edge_at g e).to es) x) back has)) ∙ marks v (inr has)))
 
 thousand : (count scale total : ℕ) → count ≤ 1000 → 1 ≤ scale → total ≤ count * (65535 * scale) → total < 2 ^ 26 * scale
 thousand count scale total few above within = let most = mul-le-mul_right (65535 * scale) few in omega (arith, most)
 
 -- a path with no vertex twice costs less than 2^26 times the scale
-pub cost_below : (g : Area) (p : Point) (s : ℕ) (es : List ℕ) (t : ℕ) → FitsGraph g → HasMetrics g → FitsPoint g p → Joins g s es t → NoneTwice (visited g s es) → cost g p es < 2 ^ 26 * p.scale
+pub cost_below : (g : Area) (p : Point) (s : ℕ) (es : List ℕ) (t : ℕ) → FitsGraph g → HasMetrics g → FitsPoint g p →
+    Joins g s es t → NoneTwice (visited g s es) → cost g p es < 2 ^ 26 * p.scale
 cost_below g p s es t graph metrics fits joins once =
     thousand (count_by is_router g.vertices) p.scale (cost g p es) graph.routers fits.scale
     (cost-le_routers g p g.vertices s es t graph metrics fits refl joins once (λ v has. refl))

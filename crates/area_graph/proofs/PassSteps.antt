@@ -34,7 +34,9 @@ passed_none g p gone d bounded = record {
     clash h = cc
 
 -- an edge that is gone, or leads to no smaller number
-pub passed_stays : (g : Area) (p : Point) (gone : List ℕ) (n : ℕ) (old d new : List ℕ) (lowered : Bool) → Passed g p gone n old d lowered → new ≡ d → (Lacks gone n → StaysBy p (edge_at g n) d new) → Passed g p gone (n + 1) old new lowered
+pub passed_stays : (g : Area) (p : Point) (gone : List ℕ) (n : ℕ) (old d new : List ℕ) (lowered : Bool) →
+    Passed g p gone n old d lowered → new ≡ d → (Lacks gone n → StaysBy p (edge_at g n) d new) →
+    Passed g p gone (n + 1) old new lowered
 passed_stays g p gone n old d new lowered passed same stays =
     subst (λ (xs : List ℕ). Passed g p gone (n + 1) old xs lowered) (sym same)
     (record {
@@ -43,11 +45,14 @@ passed_stays g p gone n old d new lowered passed same stays =
       reached = passed.reached;
       lower = passed.lower;
       same = passed.same;
-      settled = λ h. below_more (λ (e : ℕ). Lacks gone e → get_or d (edge_at g e).from 0 ≤ through p (edge_at g e) d) n (passed.settled h) (λ lacks. (stays lacks).least);
+      settled = λ h. below_more (λ (e : ℕ). Lacks gone e → get_or d (edge_at g e).from 0 ≤ through p (edge_at g e) d) n
+          (passed.settled h) (λ lacks. (stays lacks).least);
     })
 
 -- a walk from an edge's start, by the edge and then by a walk from its end
-walk_more : (g : Area) (p : Point) (gone : List ℕ) (n t : ℕ) (d : List ℕ) → n < length g.edges → Lacks gone n → WalkWithin g p gone (edge_at g n).to t (get_or d (edge_at g n).to 0) → WalkWithin g p gone (edge_at g n).from t (through p (edge_at g n) d)
+walk_more : (g : Area) (p : Point) (gone : List ℕ) (n t : ℕ) (d : List ℕ) → n < length g.edges → Lacks gone n →
+    WalkWithin g p gone (edge_at g n).to t (get_or d (edge_at g n).to 0) →
+    WalkWithin g p gone (edge_at g n).from t (through p (edge_at g n) d)
 walk_more g p gone n t d known lacks walk =
     let longer = sum_by-cons (λ i. price_at p (edge_at g i).price) n walk.edges in
     record {
@@ -58,7 +63,9 @@ walk_more g p gone n t d known lacks walk =
     }
 
 -- a number that is lowered to what a walk costs
-pub reached_by_walk : (g : Area) (p : Point) (gone : List ℕ) (t limit v x : ℕ) (d : List ℕ) → v < length d → x < get_or d v 0 → (x < limit → WalkWithin g p gone v t x) → AreReached g p gone t limit d → AreReached g p gone t limit (set d v x)
+pub reached_by_walk : (g : Area) (p : Point) (gone : List ℕ) (t limit v x : ℕ) (d : List ℕ) → v < length d →
+    x < get_or d v 0 → (x < limit → WalkWithin g p gone v t x) → AreReached g p gone t limit d →
+    AreReached g p gone t limit (set d v x)
 reached_by_walk g p gone t limit v x d within less walk are = record {
   target = elim (ℕ_discrete t v) [
     | yes same ↦ let nothing = ap (λ (i : ℕ). get_or d i 0) same in let target = are.target in absurd (omega arith)
@@ -67,16 +74,23 @@ reached_by_walk g p gone t limit v x d within less walk are = record {
   reached = λ u inside near. elim (ℕ_discrete u v) [
     | yes same ↦
         let value : get_or (set d v x) u 0 ≡ x = ap (λ (i : ℕ). get_or (set d v x) i 0) same ∙ get_or-set_same d v x 0 within in
-        subst (λ (y : ℕ). WalkWithin g p gone u t y) (sym value) (subst (λ (i : ℕ). WalkWithin g p gone i t x) (sym same) (walk (subst (λ (y : ℕ). y < limit) value near)))
+        subst (λ (y : ℕ). WalkWithin g p gone u t y) (sym value)
+        (subst (λ (i : ℕ). WalkWithin g p gone i t x) (sym same) (walk (subst (λ (y : ℕ). y < limit) value near)))
     | no other ↦
         let value : get_or (set d v x) u 0 ≡ get_or d u 0 = get_or-set_other d v u x 0 other in
-        subst (λ (y : ℕ). WalkWithin g p gone u t y) (sym value) (are.reached u (subst (λ (n : ℕ). u < n) (length-set d v x) inside) (subst (λ (y : ℕ). y < limit) value near))
+        subst (λ (y : ℕ). WalkWithin g p gone u t y) (sym value)
+        (are.reached u (subst (λ (n : ℕ). u < n) (length-set d v x) inside)
+        (subst (λ (y : ℕ). y < limit) value near))
   ];
 }
 
 -- the numbers after one was lowered are still what walks cost at most
-reached_lower : (g : Area) (p : Point) (gone : List ℕ) (n t limit : ℕ) (d : List ℕ) → FitsEdge g (edge_at g n) → length d ≡ length g.vertices → n < length g.edges → Lacks gone n → through p (edge_at g n) d < get_or d (edge_at g n).from 0 → AreReached g p gone t limit d → AreReached g p gone t limit (set d (edge_at g n).from (through p (edge_at g n) d))
-reached_lower g p gone n t limit d edge count known lacks less are = reached_by_walk g p gone t limit (edge_at g n).from (through p (edge_at g n) d) d from_within less walk are
+reached_lower : (g : Area) (p : Point) (gone : List ℕ) (n t limit : ℕ) (d : List ℕ) → FitsEdge g (edge_at g n) →
+    length d ≡ length g.vertices → n < length g.edges → Lacks gone n →
+    through p (edge_at g n) d < get_or d (edge_at g n).from 0 → AreReached g p gone t limit d →
+    AreReached g p gone t limit (set d (edge_at g n).from (through p (edge_at g n) d))
+reached_lower g p gone n t limit d edge count known lacks less are =
+    reached_by_walk g p gone t limit (edge_at g n).from (through p (edge_at g n) d) d from_within less walk are
   where
     from_within : (edge_at g n).from < length d
     from_within = omega (arith, edge.from, count)
@@ -88,7 +102,9 @@ reached_lower g p gone n t limit d edge count known lacks less are = reached_by_
     walk near = walk_more g p gone n t d known lacks (are.reached (edge_at g n).to to_within (omega arith))
 
 -- an edge that led to a smaller number
-pub passed_lower : (g : Area) (p : Point) (gone : List ℕ) (n : ℕ) (old d new : List ℕ) (lowered : Bool) → FitsGraph g → length old ≡ length g.vertices → Passed g p gone n old d lowered → n < length g.edges → Lacks gone n → ShorterBy p (edge_at g n) d new → Passed g p gone (n + 1) old new true
+pub passed_lower : (g : Area) (p : Point) (gone : List ℕ) (n : ℕ) (old d new : List ℕ) (lowered : Bool) → FitsGraph g →
+    length old ≡ length g.vertices → Passed g p gone n old d lowered → n < length g.edges → Lacks gone n →
+    ShorterBy p (edge_at g n) d new → Passed g p gone (n + 1) old new true
 passed_lower g p gone n old d new lowered graph count passed known lacks shorter =
     subst (λ (xs : List ℕ). Passed g p gone (n + 1) old xs true) (sym shorter.set)
     (record {
@@ -130,12 +146,17 @@ pub reached_none : (g : Area) (p : Point) (gone : List ℕ) (t limit n : ℕ) �
 reached_none g p gone t limit n within = record {
   target = get_or-set_same (replicate n limit) t 0 0 (let size = length-replicate n limit in omega (arith, size, within));
   reached = λ v inside near. elim (ℕ_discrete v t) [
-    | yes same ↦ let value : get_or (set (replicate n limit) t 0) v 0 ≡ 0 = ap (λ (i : ℕ). get_or (set (replicate n limit) t 0) i 0) same ∙ get_or-set_same (replicate n limit) t 0 0 (let size = length-replicate n limit in omega (arith, size, within)) in
+    | yes same ↦ let value : get_or (set (replicate n limit) t 0) v 0 ≡ 0 =
+        ap (λ (i : ℕ). get_or (set (replicate n limit) t 0) i 0) same
+        ∙ get_or-set_same (replicate n limit) t 0 0 (let size = length-replicate n limit in
+        omega (arith, size, within)) in
         record { edges = []; joins = same; kept = tt; within = omega (arith, value) }
     | no other ↦
         let size = length-replicate n limit in
         let kept = length-set (replicate n limit) t 0 in
-        let value : get_or (set (replicate n limit) t 0) v 0 ≡ limit = get_or-set_other (replicate n limit) t v 0 0 other ∙ get_or-replicate n v limit 0 (omega (arith, size, kept, inside)) in
+        let value : get_or (set (replicate n limit) t 0) v 0 ≡ limit =
+        get_or-set_other (replicate n limit) t v 0 0 other
+        ∙ get_or-replicate n v limit 0 (omega (arith, size, kept, inside)) in
         absurd (omega (arith, value, near))
   ];
 }

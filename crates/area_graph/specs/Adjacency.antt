@@ -1,4 +1,4 @@
--- The edges at a vertex, on one side of it.
+-- The edges at a vertex, on one side of it. No public clause cites it.
 use Rattle.std.specs.Prelude.{ℕ, ◌==◌, List, filter}
 use Rattle.cost_base.specs.Lists.{numbers_from}
 use Rattle.area_graph.specs.declared.Edge.{Edge}

@@ -11,7 +11,9 @@ use std::marker::Model;
 /// them (`mark_gone` sets the marks). Contracts see the list of their numbers.
 #[derive(Drop)]
 pub struct Removal<'a> {
+    /// The numbers of the edges that are taken away.
     pub gone: &'a [u32],
+    /// For each edge of the graph, whether it is one of them.
     pub marks: &'a [bool],
 }
 

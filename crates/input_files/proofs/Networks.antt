@@ -28,7 +28,8 @@ record IsFaultless (base read : Database) (fault : Option FaultyPlace) : Type 0 
   none : fault ≡ None
   same : read ≡ base
 
-faultless : (names : InputFiles) (base read : Database) (fault : Option FaultyPlace) → EndsAs (if_faultless names base fault) [] (Says read) → IsFaultless base read fault
+faultless : (names : InputFiles) (base read : Database) (fault : Option FaultyPlace) →
+    EndsAs (if_faultless names base fault) [] (Says read) → IsFaultless base read fault
 faultless names base read None ends = record { none = refl; same = one_said read base ends }
 faultless names base read (Some place) ends = absurd (said_faulty read _ ends)
 
@@ -39,32 +40,43 @@ pub record AreParts (network : Network) (asked : Asked) (routers : List Router) 
   pub lsdb : network.lsdb ≡ d
   pub problem : network.problem ≡ p
 
-pub network_is : (First Later Both : List Taken → Type 0) (view : View) (names : InputFiles) (network : Network) (requests : Asked) (routers : List Router) (d : Database) (p : DesignProblem) → ((xs ys : List Taken) → First xs → Later ys → Both (xs ++ ys)) → IsDatabase d → IsLawful requests →
+pub network_is : (First Later Both : List Taken → Type 0) (view : View) (names : InputFiles) (network : Network)
+    (requests : Asked) (routers : List Router) (d : Database) (p : DesignProblem) →
+    ((xs ys : List Taken) → First xs → Later ys → Both (xs ++ ys)) → IsDatabase d → IsLawful requests →
     AreParts network requests routers d p →
-    Gave First (λ came. IsReady (request_read names.request) came IsAsked requests) → Gave Later (λ came. IsReady (configs_read names.configs) came AreRouters routers) →
-    IsReady (topology_read names requests.area routers) [] (λ made read. made ≡ read) d → IsReady (problem_read view names requests d) [] (λ made read. made ≡ read) p →
+    Gave First (λ came. IsReady (request_read names.request) came IsAsked requests) →
+    Gave Later (λ came. IsReady (configs_read names.configs) came AreRouters routers) →
+    IsReady (topology_read names requests.area routers) [] (λ made read. made ≡ read) d →
+    IsReady (problem_read view names requests d) [] (λ made read. made ≡ read) p →
     Gave Both (λ came. IsReady (outcome view names) came (IsNetworkOf view names) network)
 network_is First Later Both view names network requests routers d p more base lawful parts a b made solved =
     gave_then First Later Both (request_read names.request) (after_request view names) IsAsked (IsNetworkOf view names) requests (Ok network) more a
     (λ asked same. gave_made Later (configs_read names.configs) (after_configs view names asked) AreRouters (IsNetworkOf view names) routers (Ok network) b
-    (λ files are. read_then (topology_read names asked.area (routers_of files)) (after_topology view names asked files) [] [] (λ m read. m ≡ read) (IsNetworkOf view names) d (Ok network)
+    (λ files are. read_then (topology_read names asked.area (routers_of files)) (after_topology view names asked files)
+    [] [] (λ m read. m ≡ read) (IsNetworkOf view names) d (Ok network)
     (moved asked files same are) (λ read is. said asked files read same are is)))
   where
-    moved : (asked : Asked) (files : List ConfigFile) → requests ≡ asked → routers ≡ routers_of files → IsReady (topology_read names asked.area (routers_of files)) [] (λ m read. m ≡ read) d
+    moved : (asked : Asked) (files : List ConfigFile) → requests ≡ asked → routers ≡ routers_of files →
+        IsReady (topology_read names asked.area (routers_of files)) [] (λ m read. m ≡ read) d
     moved asked files same are =
         subst (λ (x : Asked). IsReady (topology_read names x.area (routers_of files)) [] (λ m read. m ≡ read) d) same
         (subst (λ (rs : List Router). IsReady (topology_read names requests.area rs) [] (λ m read. m ≡ read) d) are made)
 
-    said : (asked : Asked) (files : List ConfigFile) (read : Database) → requests ≡ asked → routers ≡ routers_of files → d ≡ read → IsReady (after_topology view names asked files read) [] (IsNetworkOf view names) network
+    said : (asked : Asked) (files : List ConfigFile) (read : Database) → requests ≡ asked → routers ≡ routers_of files →
+        d ≡ read → IsReady (after_topology view names asked files read) [] (IsNetworkOf view names) network
     said asked files read same are is =
         let x : Input = record { asked = asked; files = files; database = read; problem = solved.said } in
         let ends : EndsAs (problem_read view names asked read) [] (Says solved.said) =
-        subst (λ (q : Asked). EndsAs (problem_read view names q read) [] (Says solved.said)) same (subst (λ (e : Database). EndsAs (problem_read view names requests e) [] (Says solved.said)) is solved.ends) in
+        subst (λ (q : Asked). EndsAs (problem_read view names q read) [] (Says solved.said)) same
+        (subst (λ (e : Database). EndsAs (problem_read view names requests e) [] (Says solved.said)) is
+        solved.ends) in
         let built = moved asked files same are in
         let whole = faultless names (database_of asked.area (routers_of files)) built.said (topology_fault asked.area (routers_of files)) built.ends in
         record {
           said = x;
-          ends = ends_then (problem_read view names asked read) (λ q. Ready (record { asked = asked; files = files; database = read; problem = q })) [] [] solved.said (Says x) ends refl;
+          ends = ends_then (problem_read view names asked read)
+              (λ q. Ready (record { asked = asked; files = files; database = read; problem = q })) [] [] solved.said
+              (Says x) ends refl;
           fits = record {
             requests = parts.requests ∙ same;
             configs = parts.configs ∙ are;
@@ -79,6 +91,8 @@ network_is First Later Both view names network requests routers d p more base la
         }
 
 -- its problem is that of the input
-pub problem_in : (Given : List Taken → Type 0) (view : View) (names : InputFiles) (network : Network) → Gave Given (λ came. IsReady (outcome view names) came (IsNetworkOf view names) network) → Gave Given (λ came. IsReady (outcome view names) came IsProblemOf network.problem)
+pub problem_in : (Given : List Taken → Type 0) (view : View) (names : InputFiles) (network : Network) →
+    Gave Given (λ came. IsReady (outcome view names) came (IsNetworkOf view names) network) →
+    Gave Given (λ came. IsReady (outcome view names) came IsProblemOf network.problem)
 problem_in Given view names network a =
     record { came = a.came; given = a.given; so = record { said = a.so.said; ends = a.so.ends; fits = (sym a.so.fits.problem, a.so.fits.base) } }

@@ -57,14 +57,16 @@ failed_of : {A B : Type 0} (f h : List ℕ) → failed A f ≡ Failed h → fail
 failed_of f h same = ap (λ t. Failed t) (ap (λ e. file_as f e) same)
 
 -- what came of a file, in other words
-on_came : (came : Result (List ℕ) ShelfStop) (P Q : List ℕ → Type 0) (L M F G : Type 0) → ((bytes : List ℕ) → P bytes → Q bytes) → (L → M) → (F → G) → OnCame came P L F → OnCame came Q M G
+on_came : (came : Result (List ℕ) ShelfStop) (P Q : List ℕ → Type 0) (L M F G : Type 0) →
+    ((bytes : List ℕ) → P bytes → Q bytes) → (L → M) → (F → G) → OnCame came P L F → OnCame came Q M G
 on_came (Ok bytes) P Q L M F G read long fault h = read bytes h
 on_came (Err stop.TooLong) P Q L M F G read long fault h = long h
 on_came (Err stop.Failed) P Q L M F G read long fault h = fault h
 on_came (Err stop.OutOfMemory) P Q L M F G read long fault h = absurd h
 
 -- where the one reading says this, and the other that follows from it ends so, both end so
-pub ends_then : {A B : Type 0} (m : Reading A) (f : A → Reading B) (xs ys : List Taken) (x : A) (end : End B) → EndsAs m xs (Says x) → EndsAs (f x) ys end → EndsAs (m >>= f) (xs ++ ys) end
+pub ends_then : {A B : Type 0} (m : Reading A) (f : A → Reading B) (xs ys : List Taken) (x : A) (end : End B) →
+    EndsAs m xs (Says x) → EndsAs (f x) ys end → EndsAs (m >>= f) (xs ++ ys) end
 ends_then (Ready y) f [] ys x end first second = subst (λ z. EndsAs (f z) ys end) (one_said x y first) second
 ends_then (Ready y) f (taken ∷ xs) ys x end first second = absurd first
 ends_then (Refused r) f [] ys x end first second = absurd (said_faulty x r first)
@@ -102,7 +104,8 @@ ends_faulty {A} {B} (Take name most next) f (taken ∷ xs) r first = (
 )
 
 -- a file that fails the one reading fails both
-pub ends_failed : {A B : Type 0} (m : Reading A) (f : A → Reading B) (xs : List Taken) (file : List ℕ) → EndsAs m xs (Failed file) → EndsAs (m >>= f) xs (Failed file)
+pub ends_failed : {A B : Type 0} (m : Reading A) (f : A → Reading B) (xs : List Taken) (file : List ℕ) →
+    EndsAs m xs (Failed file) → EndsAs (m >>= f) xs (Failed file)
 ends_failed (Ready y) f [] file first = absurd (said_failed y file (sym first))
 ends_failed (Ready y) f (taken ∷ xs) file first = absurd first
 ends_failed {A} {B} (Refused s) f [] file first = absurd (faulty_failed {A = A} s file (sym first))
@@ -155,7 +158,9 @@ was_came name most next f taken more y rest named within (Ok bytes) is h =
       said = (
         named,
         within,
-        subst (λ (c : Result (List ℕ) ShelfStop). OnCame c (λ b. EndsAs (next b) w.first (Says w.value)) ((w.first ≡ []) × (Says w.value ≡ Faulty (too_long name))) ((w.first ≡ []) × (Says w.value ≡ Failed name))) (sym is) w.said,
+        subst (λ (c : Result (List ℕ) ShelfStop). OnCame c (λ b. EndsAs (next b) w.first (Says w.value))
+            ((w.first ≡ []) × (Says w.value ≡ Faulty (too_long name)))
+            ((w.first ≡ []) × (Says w.value ≡ Failed name))) (sym is) w.said,
       );
       then_said = w.then_said;
     }
@@ -171,7 +176,8 @@ was_read (Take name most next) f [] y h = absurd h
 was_read (Take name most next) f (taken ∷ more) y h =
     was_came name most next f taken more y (λ bytes k. was_read (next bytes) f more y k) h.0 h.1 taken.came refl h.2
 
-both_came : {R : Type 0} (came : Result (List ℕ) ShelfStop) (P Q : List ℕ → Type 0) (L M F G : Type 0) → ((bytes : List ℕ) → P bytes → Q bytes → R) → (L → M → R) → (F → G → R) → OnCame came P L F → OnCame came Q M G → R
+both_came : {R : Type 0} (came : Result (List ℕ) ShelfStop) (P Q : List ℕ → Type 0) (L M F G : Type 0) →
+    ((bytes : List ℕ) → P bytes → Q bytes → R) → (L → M → R) → (F → G → R) → OnCame came P L F → OnCame came Q M G → R
 both_came (Ok bytes) P Q L M F G read long fault h k = read bytes h k
 both_came (Err stop.TooLong) P Q L M F G read long fault h k = long h k
 both_came (Err stop.Failed) P Q L M F G read long fault h k = fault h k

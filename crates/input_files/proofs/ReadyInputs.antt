@@ -19,13 +19,15 @@ pub record IsReadyInput (d : Input) : Type 0 where
   pub database_is : d.database ≡ database_of d.asked.area (routers_of d.files)
   pub problem_is : d.problem ≡ problem_of d.asked d.database
 
-topology_ready : (names : InputFiles) (made d : Database) (o : Option FaultyPlace) (came : List Taken) → EndsAs (if_faultless names made o) came (Says d) → d ≡ made
+topology_ready : (names : InputFiles) (made d : Database) (o : Option FaultyPlace) (came : List Taken) →
+    EndsAs (if_faultless names made o) came (Says d) → d ≡ made
 topology_ready names made d (Some fault) [] is = absurd (said_faulty d _ is)
 topology_ready names made d (Some fault) (taken ∷ more) is = absurd is
 topology_ready names made d None [] is = one_said d made is
 topology_ready names made d None (taken ∷ more) is = absurd is
 
-problem_ready : (names : InputFiles) (d : Database) (made p : DesignProblem) (o : Option ResolutionFault) (came : List Taken) → EndsAs (if_resolved names d made o) came (Says p) → p ≡ made
+problem_ready : (names : InputFiles) (d : Database) (made p : DesignProblem) (o : Option ResolutionFault)
+    (came : List Taken) → EndsAs (if_resolved names d made o) came (Says p) → p ≡ made
 problem_ready names d made p (Some fault) [] is = absurd (said_faulty p _ is)
 problem_ready names d made p (Some fault) (taken ∷ more) is = absurd is
 problem_ready names d made p None [] is = one_said p made is
@@ -53,10 +55,14 @@ pub ready_is : (names : InputFiles) (d : Input) (came : List Taken) → EndsAs (
 ready_is names d came is =
     let asked = was_read (request_read names.request) (after_request names) came d is in
     let files = was_read (configs_read names.configs) (after_configs names asked.value) asked.later d asked.then_said in
-    let base = was_read (topology_read names asked.value.area (routers_of files.value)) (after_topology names asked.value files.value) files.later d files.then_said in
-    let problem = was_read (problem_read AsRequested names asked.value base.value) (after_problem asked.value files.value base.value) base.later d base.then_said in
+    let base = was_read (topology_read names asked.value.area (routers_of files.value))
+    (after_topology names asked.value files.value) files.later d files.then_said in
+    let problem = was_read (problem_read AsRequested names asked.value base.value)
+    (after_problem asked.value files.value base.value) base.later d base.then_said in
     input_ready (record { asked = asked.value; files = files.value; database = base.value; problem = problem.value }) d problem.later problem.then_said
     (record {
-      database_is = topology_ready names (database_of asked.value.area (routers_of files.value)) base.value (topology_fault asked.value.area (routers_of files.value)) base.first base.said;
-      problem_is = problem_ready names base.value (problem_of asked.value base.value) problem.value (resolution_fault asked.value base.value) problem.first problem.said;
+      database_is = topology_ready names (database_of asked.value.area (routers_of files.value)) base.value
+          (topology_fault asked.value.area (routers_of files.value)) base.first base.said;
+      problem_is = problem_ready names base.value (problem_of asked.value base.value) problem.value
+          (resolution_fault asked.value base.value) problem.first problem.said;
     })

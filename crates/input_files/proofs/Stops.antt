@@ -18,33 +18,42 @@ stops_first m f xs (stops.ReadFault file) h = ends_failed m f xs file.now h
 stops_first m f xs stops.OutOfMemory h = tt
 
 -- what stops the other reading stops both, where the one says this
-pub stops_then : {A B : Type 0} (m : Reading A) (f : A → Reading B) (xs ys : List Taken) (x : A) (stop : Stop) → EndsAs m xs (Says x) → StopsAs (f x) ys stop → StopsAs (m >>= f) (xs ++ ys) stop
+pub stops_then : {A B : Type 0} (m : Reading A) (f : A → Reading B) (xs ys : List Taken) (x : A) (stop : Stop) →
+    EndsAs m xs (Says x) → StopsAs (f x) ys stop → StopsAs (m >>= f) (xs ++ ys) stop
 stops_then m f xs ys x (stops.Refused number file line) first h = ends_then m f xs ys x (Faulty (refusal_in number file line)) first h
 stops_then m f xs ys x (stops.ReadFault file) first h = ends_then m f xs ys x (Failed file.now) first h
 stops_then m f xs ys x stops.OutOfMemory first h = tt
 
 -- what was read of both readings is what both say
-pub read_then : {A B T U : Type 0} (m : Reading A) (f : A → Reading B) (xs ys : List Taken) (Fits : T → A → Type 0) (Suits : U → B → Type 0) (made : T) (result : Result U Stop) → IsReady m xs Fits made → ((x : A) → Fits made x → IsReadAs (f x) ys Suits result) → IsReadAs (m >>= f) (xs ++ ys) Suits result
+pub read_then : {A B T U : Type 0} (m : Reading A) (f : A → Reading B) (xs ys : List Taken) (Fits : T → A → Type 0)
+    (Suits : U → B → Type 0) (made : T) (result : Result U Stop) → IsReady m xs Fits made →
+    ((x : A) → Fits made x → IsReadAs (f x) ys Suits result) → IsReadAs (m >>= f) (xs ++ ys) Suits result
 read_then m f xs ys Fits Suits made (Ok other) ready h =
     let then_ready = h ready.said ready.fits in
     record { said = then_ready.said; ends = ends_then m f xs ys ready.said (Says then_ready.said) ready.ends then_ready.ends; fits = then_ready.fits }
 read_then m f xs ys Fits Suits made (Err stop) ready h = stops_then m f xs ys ready.said stop ready.ends (h ready.said ready.fits)
 
 -- of files that were asked for one after another
-pub gave_then : {A B T U : Type 0} (First Later Both : List Taken → Type 0) (m : Reading A) (f : A → Reading B) (Fits : T → A → Type 0) (Suits : U → B → Type 0) (made : T) (result : Result U Stop) →
-    ((xs ys : List Taken) → First xs → Later ys → Both (xs ++ ys)) → Gave First (λ came. IsReady m came Fits made) → ((x : A) → Fits made x → Gave Later (λ came. IsReadAs (f x) came Suits result)) →
+pub gave_then : {A B T U : Type 0} (First Later Both : List Taken → Type 0) (m : Reading A) (f : A → Reading B)
+    (Fits : T → A → Type 0) (Suits : U → B → Type 0) (made : T) (result : Result U Stop) →
+    ((xs ys : List Taken) → First xs → Later ys → Both (xs ++ ys)) → Gave First (λ came. IsReady m came Fits made) →
+    ((x : A) → Fits made x → Gave Later (λ came. IsReadAs (f x) came Suits result)) →
     Gave Both (λ came. IsReadAs (m >>= f) came Suits result)
 gave_then First Later Both m f Fits Suits made result more a h =
     let b = h a.so.said a.so.fits in
     record { came = a.came ++ b.came; given = more a.came b.came a.given b.given; so = read_both m f a.came b.came Suits result a.so.said a.so.ends b.so }
   where
-    read_both : {A B U : Type 0} (m : Reading A) (f : A → Reading B) (xs ys : List Taken) (Suits : U → B → Type 0) (result : Result U Stop) (x : A) → EndsAs m xs (Says x) → IsReadAs (f x) ys Suits result → IsReadAs (m >>= f) (xs ++ ys) Suits result
+    read_both : {A B U : Type 0} (m : Reading A) (f : A → Reading B) (xs ys : List Taken) (Suits : U → B → Type 0)
+        (result : Result U Stop) (x : A) → EndsAs m xs (Says x) → IsReadAs (f x) ys Suits result →
+        IsReadAs (m >>= f) (xs ++ ys) Suits result
     read_both m f xs ys Suits (Ok other) x ends h = record { said = h.said; ends = ends_then m f xs ys x (Says h.said) ends h.ends; fits = h.fits }
     read_both m f xs ys Suits (Err stop) x ends h = stops_then m f xs ys x stop ends h
 
 -- of files, and then of what they say alone
-pub gave_made : {A B T U : Type 0} (Given : List Taken → Type 0) (m : Reading A) (f : A → Reading B) (Fits : T → A → Type 0) (Suits : U → B → Type 0) (made : T) (result : Result U Stop) →
-    Gave Given (λ came. IsReady m came Fits made) → ((x : A) → Fits made x → IsReadAs (f x) [] Suits result) → Gave Given (λ came. IsReadAs (m >>= f) came Suits result)
+pub gave_made : {A B T U : Type 0} (Given : List Taken → Type 0) (m : Reading A) (f : A → Reading B) (Fits : T → A →
+    Type 0) (Suits : U → B → Type 0) (made : T) (result : Result U Stop) →
+    Gave Given (λ came. IsReady m came Fits made) → ((x : A) → Fits made x → IsReadAs (f x) [] Suits result) →
+    Gave Given (λ came. IsReadAs (m >>= f) came Suits result)
 gave_made Given m f Fits Suits made result a h =
     record {
       came = a.came;
@@ -53,11 +62,14 @@ gave_made Given m f Fits Suits made result a h =
     }
 
 -- what stopped the one reading stopped both
-pub gave_stop : {A B : Type 0} (Given : List Taken → Type 0) (m : Reading A) (f : A → Reading B) (stop : Stop) → Gave Given (λ came. StopsAs m came stop) → Gave Given (λ came. StopsAs (m >>= f) came stop)
+pub gave_stop : {A B : Type 0} (Given : List Taken → Type 0) (m : Reading A) (f : A → Reading B) (stop : Stop) →
+    Gave Given (λ came. StopsAs m came stop) → Gave Given (λ came. StopsAs (m >>= f) came stop)
 gave_stop Given m f stop a = record { came = a.came; given = a.given; so = stops_first m f a.came stop a.so }
 
 -- a file that wasn't read
-pub file_stops : (most : ℕ) (why : ShelfStop) (file : Bor (List ℕ)) → StopsAs (file_read most file.now) (record { name = file.now; most = most; came = Err why } ∷ []) (file_stop why file)
+pub file_stops : (most : ℕ) (why : ShelfStop) (file : Bor (List ℕ)) →
+    StopsAs (file_read most file.now) (record { name = file.now; most = most; came = Err why } ∷ [])
+    (file_stop why file)
 file_stops most shelf.Failed file = (refl, refl, (refl, refl))
 file_stops most shelf.TooLong file = (refl, refl, (refl, refl))
 file_stops most shelf.OutOfMemory file = tt

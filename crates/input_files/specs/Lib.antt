@@ -1,3 +1,4 @@
+pub mod FaultNumbers
 pub mod Inputs
 pub mod Readings
 pub mod Outcomes

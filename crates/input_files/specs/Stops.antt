@@ -13,6 +13,8 @@ use Rattle.request_reader.specs.declared.stop.RequestStop.{RequestStop}
 use Rattle.request_reader.specs.declared.stop.RequestStop.TheVariants.{Refused as RequestRefused, OutOfMemory as NoMemoryForRequest}
 use Rattle.wanted_paths.specs.declared.stop.ResolutionStop.{ResolutionStop}
 use Rattle.wanted_paths.specs.declared.stop.ResolutionStop.TheVariants.{Refused as ResolutionRefused, OutOfMemory as NoMemoryForResolution}
+use Rattle.input_files.specs.declared.stop.FileFault.TheVariants.{TooLong as FileTooLong}
+use Rattle.input_files.specs.FaultNumbers.{number_of as number_of_file}
 use Rattle.config_reader.specs.FaultNumbers.{number_of as number_of_config}
 use Rattle.lsdb_build.specs.FaultNumbers.{number_of as number_of_topology}
 use Rattle.request_reader.specs.FaultNumbers.{number_of as number_of_request}
@@ -51,7 +53,7 @@ IsReadAs reading came Fits (Err stop) = StopsAs reading came stop
 -- the stop of a file that wasn't read
 abbrev pub file_stop : ShelfStop → Bor (List ℕ) → Stop
 file_stop NotRead file = ReadFault file
-file_stop TooLong file = Refused 9 file 0
+file_stop TooLong file = Refused (number_of_file FileTooLong) file 0
 file_stop NoMemory file = OutOfMemory
 
 -- the stop of a request that is refused by itself
@@ -72,7 +74,8 @@ IsRefusal r OutOfMemory = ⊥
 
 -- the stop of a topology that is refused
 abbrev pub topology_stop : TopologyStop → InputFiles → Stop → Type 0
-topology_stop (TopologyRefused fault config line) names stop = IsRefusal (record { number = number_of_topology fault; file = file_of names config; line = line }) stop
+topology_stop (TopologyRefused fault config line) names stop =
+    IsRefusal (record { number = number_of_topology fault; file = file_of names config; line = line }) stop
 topology_stop NoMemoryForTopology names stop = stop ≡ OutOfMemory
 
 -- the stop of requests that aren't resolved

@@ -9,4 +9,4 @@ mod stop;
 pub use network::{Network, read_network};
 pub use problem::{View, file_of, read_problem};
 pub use reading::{ConfigText, FileWords, read_answer_file, read_config_text, read_file};
-pub use stop::Stop;
+pub use stop::{FileFault, Stop};

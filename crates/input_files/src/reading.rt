@@ -6,7 +6,7 @@ ghost use Rattle.input_files.specs.Readings.{Gave};
 ghost use Rattle.input_files.specs.Outcomes.{longest_answer, file_read, request_read, configs_read, config_read, routers_of};
 ghost use Rattle.input_files.specs.Stops.{IsReadAs, file_stop, request_stop, config_stop};
 
-use crate::stop::Stop;
+use crate::stop::{FileFault, Stop};
 use config_reader::ConfigStop;
 use cost_base::{Shelf, ShelfStop};
 use interface_model::RouterConfig;
@@ -36,7 +36,7 @@ fn stop_of_file(stop: ShelfStop, file: &str) -> Stop<'_>
     match stop {
         ShelfStop::Failed => Stop::ReadFault { file },
         ShelfStop::TooLong => Stop::Refused {
-            number: 9,
+            number: FileFault::TooLong.number(),
             file,
             line: 0,
         },

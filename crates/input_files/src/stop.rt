@@ -1,6 +1,26 @@
 //! What ends the reading of files.
+ghost use Rattle.std.specs.Prelude.{◌≡◌};
+ghost use Rattle.input_files.specs.FaultNumbers.{number_of};
 
 use cost_base::OutOfMemory;
+
+/// Why a file is refused whose bytes nobody reads.
+#[derive(Clone, Copy, Debug, PartialEq, Eq)]
+pub enum FileFault {
+    /// It is longer than files of its kind may be.
+    TooLong,
+}
+
+impl FileFault {
+    /// The number by which the fault is written.
+    pub fn number(self) -> u8
+        ensures { result ≡ number_of self }
+    {
+        match self {
+            FileFault::TooLong => 9,
+        }
+    }
+}
 
 /// Why files weren't read to their end.
 #[derive(Clone, Copy)]

@@ -26,15 +26,20 @@ map-numbers_from-push f n =
 abbrev pub with_front : List LsaLink → Option (List LsaLink) → Option (List LsaLink)
 with_front front found = option_map (λ more. front ++ more) found
 
-regroup : (front : List LsaLink) (link : LsaLink) (found : Option (List LsaLink)) → with_front front (option_map (λ links. link ∷ links) found) ≡ with_front (front ++ link ∷ []) found
+regroup : (front : List LsaLink) (link : LsaLink) (found : Option (List LsaLink)) →
+    with_front front (option_map (λ links. link ∷ links) found) ≡ with_front (front ++ link ∷ []) found
 regroup front link None = refl
 regroup front link (Some more) = ap Some (sym (append_assoc front (link ∷ []) more))
 
-links_step : (b : Bool) (n : ℕ) (bytes : List ℕ) → starts_link bytes ≡ b → links_of (suc n) bytes ≡ cond b (option_map (λ links. link_at bytes ∷ links) (links_of n (drop (link_length bytes) bytes))) None
-links_step b n bytes is = ap (λ (starts : Bool). cond starts (option_map (λ links. link_at bytes ∷ links) (links_of n (drop (link_length bytes) bytes))) None) is
+links_step : (b : Bool) (n : ℕ) (bytes : List ℕ) → starts_link bytes ≡ b →
+    links_of (suc n) bytes ≡ cond b
+    (option_map (λ links. link_at bytes ∷ links) (links_of n (drop (link_length bytes) bytes))) None
+links_step b n bytes is = ap (λ (starts : Bool).
+    cond starts (option_map (λ links. link_at bytes ∷ links) (links_of n (drop (link_length bytes) bytes))) None) is
 
 pub goes_on : (front : List LsaLink) (count i : ℕ) (bytes : List ℕ) (total : Option (List LsaLink)) → i < count → starts_link bytes ≡ true
-    → with_front front (links_of (count - i) bytes) ≡ total → with_front (front ++ link_at bytes ∷ []) (links_of (count - (i + 1)) (drop (link_length bytes) bytes)) ≡ total
+    → with_front front (links_of (count - i) bytes) ≡ total →
+    with_front (front ++ link_at bytes ∷ []) (links_of (count - (i + 1)) (drop (link_length bytes) bytes)) ≡ total
 goes_on front count i bytes total more starts so_far =
     let next : count - i ≡ suc (count - (i + 1)) = omega arith in
     sym (regroup front (link_at bytes) (links_of (count - (i + 1)) (drop (link_length bytes) bytes)))
@@ -96,7 +101,9 @@ pub record FitsIn (lsa : List ℕ) (body : Body) : Type 0 where
 router_fits : (lsa : List ℕ) → MatchOption (option_map Links (links_in lsa)) (Unit {0}) (FitsIn lsa)
 router_fits lsa = by_test (nat_lt (length lsa) 24) refl (links_of (number_16 lsa 22) (drop 24 lsa)) (links_from (number_16 lsa 22) (drop 24 lsa))
   where
-    by_test : (b : Bool) → nat_lt (length lsa) 24 ≡ b → (found : Option (List LsaLink)) → MatchOption found (Unit {0}) (AreFrom (drop 24 lsa)) → MatchOption (option_map Links (cond b None found)) (Unit {0}) (FitsIn lsa)
+    by_test : (b : Bool) → nat_lt (length lsa) 24 ≡ b → (found : Option (List LsaLink)) →
+        MatchOption found (Unit {0}) (AreFrom (drop 24 lsa)) →
+        MatchOption (option_map Links (cond b None found)) (Unit {0}) (FitsIn lsa)
     by_test true is found from = tt
     by_test false is None from = tt
     by_test false is (Some links) from = record {
@@ -108,7 +115,10 @@ network_fits : (lsa : List ℕ) → MatchOption (option_map Attached (attached_i
 network_fits lsa = by_test (nat_lt (length lsa - 24) 4 || not (nat_eq ((length lsa - 24) % 4) 0)) refl
   where
     by_test : (b : Bool) → (nat_lt (length lsa - 24) 4 || not (nat_eq ((length lsa - 24) % 4) 0)) ≡ b
-        → MatchOption (option_map Attached (cond b None (Some (map (λ i. number_32 lsa (24 + 4 * i)) (numbers_from 0 ((length lsa - 24) / 4)))))) (Unit {0}) (FitsIn lsa)
+        →
+        MatchOption (option_map Attached
+        (cond b None (Some (map (λ i. number_32 lsa (24 + 4 * i)) (numbers_from 0 ((length lsa - 24) / 4))))))
+        (Unit {0}) (FitsIn lsa)
     by_test true is = tt
     by_test false is =
         let long = ltb-false (length lsa - 24) 4 (or_parts (nat_lt (length lsa - 24) 4) (not (nat_eq ((length lsa - 24) % 4) 0)) is).0 in
@@ -120,7 +130,9 @@ network_fits lsa = by_test (nat_lt (length lsa - 24) 4 || not (nat_eq ((length l
 body_fits : (lsa : List ℕ) → MatchOption (body_of lsa) (Unit {0}) (FitsIn lsa)
 body_fits lsa = by_tests (nat_eq (type_of lsa) 1) (nat_eq (type_of lsa) 2)
   where
-    by_tests : (a b : Bool) → MatchOption (cond a (option_map Links (links_in lsa)) (cond b (option_map Attached (attached_in lsa)) None)) (Unit {0}) (FitsIn lsa)
+    by_tests : (a b : Bool) → MatchOption
+        (cond a (option_map Links (links_in lsa)) (cond b (option_map Attached (attached_in lsa)) None)) (Unit {0})
+        (FitsIn lsa)
     by_tests true b = router_fits lsa
     by_tests false true = network_fits lsa
     by_tests false false = tt
@@ -129,7 +141,9 @@ body_fits lsa = by_tests (nat_eq (type_of lsa) 1) (nat_eq (type_of lsa) 2)
 pub said_fits : (bytes : List ℕ) (lsa : Lsa) → lsa ∷ [] ≡ said_by bytes → FitsIn bytes lsa.body
 said_fits bytes lsa said = by_body (body_of bytes) (body_fits bytes) said
   where
-    by_age : (b : Bool) (body : Body) → FitsIn bytes body → lsa ∷ [] ≡ cond b [] (record { id = number_32 bytes 4; router = number_32 bytes 8; body = body } ∷ []) → FitsIn bytes lsa.body
+    by_age : (b : Bool) (body : Body) → FitsIn bytes body →
+        lsa ∷ [] ≡ cond b [] (record { id = number_32 bytes 4; router = number_32 bytes 8; body = body } ∷ []) →
+        FitsIn bytes lsa.body
     by_age true body fits none = absurd (cc)
     by_age false body fits is =
         let same : lsa ≡ record { id = number_32 bytes 4; router = number_32 bytes 8; body = body } = cc in
@@ -143,7 +157,9 @@ said_fits bytes lsa said = by_body (body_of bytes) (body_fits bytes) said
 pub said_small : (bytes : List ℕ) → 4 * sum_by size_of (said_by bytes) ≤ length bytes
 said_small bytes = by_body (body_of bytes) (body_fits bytes)
   where
-    by_age : (b : Bool) (body : Body) → FitsIn bytes body → 4 * sum_by size_of (cond b [] (record { id = number_32 bytes 4; router = number_32 bytes 8; body = body } ∷ [])) ≤ length bytes
+    by_age : (b : Bool) (body : Body) → FitsIn bytes body →
+        4 * sum_by size_of (cond b [] (record { id = number_32 bytes 4; router = number_32 bytes 8; body = body } ∷ []))
+        ≤ length bytes
     by_age true body fits = omega arith
     by_age false body fits = omega (arith, fits.size)
 

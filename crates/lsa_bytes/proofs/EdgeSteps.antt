@@ -10,7 +10,8 @@ use Rattle.lsa_bytes.specs.Vertices.{is_kind}
 -- the edges out of the vertices of a kind from one place on
 pub edges_step : (all : List Lsa) (kind : Kind) (vertex i : ℕ) (lsas : List Lsa) (lsa : Lsa) → i < length lsas → lsa ≡ get_or lsas i lsa
     → edges_in_order all vertex (filter (is_kind kind) (drop i lsas))
-    ≡ cond (is_kind kind lsa) (edges_from all vertex lsa lsa.body) [] ++ edges_in_order all (vertex + cond (is_kind kind lsa) 1 0) (filter (is_kind kind) (drop (i + 1) lsas))
+    ≡ cond (is_kind kind lsa) (edges_from all vertex lsa lsa.body) []
+    ++ edges_in_order all (vertex + cond (is_kind kind lsa) 1 0) (filter (is_kind kind) (drop (i + 1) lsas))
 edges_step all kind vertex i lsas lsa within is =
     at_drop_more (λ (ls : List Lsa). edges_in_order all vertex (filter (is_kind kind) ls)) lsas i lsa within
     ∙ ap (λ (l : Lsa). edges_in_order all vertex (filter (is_kind kind) (l ∷ drop (i + 1) lsas))) (sym is)

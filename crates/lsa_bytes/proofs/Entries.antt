@@ -21,7 +21,8 @@ pub misses : {X : Type 0} (p : X → Bool) (xs : List X) → list_any p xs ≡ f
 misses p xs none k d within = false_from_ne_true (p (get_or xs k d)) (λ passes. false≢true (sym none ∙ list_any_at p xs k d within passes))
 
 -- a list without faults and one LSA without a fault behind them
-pub faultless_push : (lsas : List Lsa) (lsa : Lsa) → HaveNoFault lsas → has_link_types lsa.body ≡ true → (is_router lsa && nat_le 1000 (count_by is_router lsas)) ≡ false
+pub faultless_push : (lsas : List Lsa) (lsa : Lsa) → HaveNoFault lsas → has_link_types lsa.body ≡ true →
+    (is_router lsa && nat_le 1000 (count_by is_router lsas)) ≡ false
     → list_any (is_same lsa) lsas ≡ false → has_zero_metric lsa.body ≡ false → HaveNoFault (lsas ++ lsa ∷ [])
 faultless_push lsas lsa before types few new metric = record {
   types = All-push (λ (l : Lsa). has_link_types l.body ≡ true) lsas lsa before.types types;
@@ -30,12 +31,15 @@ faultless_push lsas lsa before types few new metric = record {
   routers = by_kind (is_router lsa) few (sum_by-append (λ l. cond (is_router l) 1 0) lsas (lsa ∷ []));
 }
   where
-    by_kind : (b : Bool) → (b && nat_le 1000 (count_by is_router lsas)) ≡ false → count_by is_router (lsas ++ lsa ∷ []) ≡ count_by is_router lsas + (0 + cond b 1 0) → count_by is_router (lsas ++ lsa ∷ []) ≤ 1000
+    by_kind : (b : Bool) → (b && nat_le 1000 (count_by is_router lsas)) ≡ false →
+        count_by is_router (lsas ++ lsa ∷ []) ≡ count_by is_router lsas + (0 + cond b 1 0) →
+        count_by is_router (lsas ++ lsa ∷ []) ≤ 1000
     by_kind true room count = omega (arith, count, leb-false 1000 (count_by is_router lsas) room)
     by_kind false room count = omega (arith, count, before.routers)
 
 -- the fault of the bytes that say an LSA is the fault of that LSA
-pub said_fault : (before : List Lsa) (bytes : List ℕ) (lsas : List Lsa) → body_fault bytes ≡ None → lsas ≡ said_by bytes → fault_of before bytes ≡ faults_behind before lsas
+pub said_fault : (before : List Lsa) (bytes : List ℕ) (lsas : List Lsa) → body_fault bytes ≡ None →
+    lsas ≡ said_by bytes → fault_of before bytes ≡ faults_behind before lsas
 said_fault before bytes lsas none said =
     ap (λ (fault : Option LsaFault). option_or fault (faults_behind before (said_by bytes))) none ∙ ap (faults_behind before) (sym said)
 
@@ -44,14 +48,17 @@ pub nothing_said : (before : List Lsa) (bytes : List ℕ) → body_fault bytes �
 nothing_said before bytes none said = said_fault before bytes [] none said
 
 -- what came of the LSA came of its bytes
-pub handed_on : (before : List Lsa) (bytes : List ℕ) (at : ℕ) (lsa : Lsa) (result : Result (List Lsa) LsaStop) → body_fault bytes ≡ None → lsa ∷ [] ≡ said_by bytes
+pub handed_on : (before : List Lsa) (bytes : List ℕ) (at : ℕ) (lsa : Lsa) (result : Result (List Lsa) LsaStop) →
+    body_fault bytes ≡ None → lsa ∷ [] ≡ said_by bytes
     → MatchResult result (λ after. (fault_behind before lsa ≡ None) × (after ≡ before ++ lsa ∷ [])) (Tells (fault_behind before lsa) at)
     → MatchResult result (λ after. (fault_of before bytes ≡ None) × (after ≡ before ++ said_by bytes)) (Tells (fault_of before bytes) at)
-handed_on before bytes at lsa (Ok after) none said came = (said_fault before bytes (lsa ∷ []) none said ∙ came.0, came.1 ∙ ap (λ (lsas : List Lsa). before ++ lsas) said)
+handed_on before bytes at lsa (Ok after) none said came =
+    (said_fault before bytes (lsa ∷ []) none said ∙ came.0, came.1 ∙ ap (λ (lsas : List Lsa). before ++ lsas) said)
 handed_on before bytes at lsa (Err (Refused fault offset)) none said came = (said_fault before bytes (lsa ∷ []) none said ∙ came.0, came.1)
 handed_on before bytes at lsa (Err OutOfMemory) none said came = tt
 
 -- the fault of the body of the bytes is theirs
 pub body_told : (before : List Lsa) (bytes : List ℕ) (at : ℕ) (stop : LsaStop) → Tells (body_fault bytes) at stop → Tells (fault_of before bytes) at stop
-body_told before bytes at (Refused fault offset) told = (ap (λ (found : Option LsaFault). option_or found (faults_behind before (said_by bytes))) told.0, told.1)
+body_told before bytes at (Refused fault offset) told =
+    (ap (λ (found : Option LsaFault). option_or found (faults_behind before (said_by bytes))) told.0, told.1)
 body_told before bytes at OutOfMemory told = tt

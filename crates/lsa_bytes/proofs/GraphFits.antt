@@ -1,19 +1,18 @@
 -- What a database of LSAs makes is a graph.
-use Rattle.std.proofs.Common.{◌≡◌, ℕ, zero, suc, ◌+◌, ◌*◌, ◌^◌, ◌<◌, ◌≤◌, ◌&&◌, ◌||◌, not, Bool, true, false, cond, nat_eq, List, [], ◌∷◌, ◌++◌, length, map, filter, get_or, Option, None, Some, All, count_by, refl, sym, ap, subst, ◌∙◌, arith, zero-add}
+use Rattle.std.proofs.Common.{◌≡◌, ℕ, zero, suc, ◌+◌, ◌*◌, ◌^◌, ◌<◌, ◌≤◌, ◌&&◌, ◌||◌, not, Bool, true, false, cond, nat_eq, List, [], ◌∷◌, ◌++◌, length, filter, get_or, Option, None, Some, All, refl, sym, ap, subst, ◌∙◌, arith}
 use Rattle.std.specs.Prelude.{MatchOption, flat_map, sum_by}
 use Rattle.std.specs.List.{list_any}
 use Rattle.std.proofs.lemmas.Bool.{false≢true, eqb-false, not-true}
-use Rattle.std.proofs.lemmas.List.{length-map, length-append, get_or-map, get_or_append_left, get_or-append-add}
+use Rattle.std.proofs.lemmas.List.{length-append}
 use Rattle.std.proofs.lemmas.List.Elements.{All-nil, All-cons, All-head, All-tail, All-append, All-weaker, All-filter}
-use Rattle.std.proofs.lemmas.List.Sums.{length-filter, count_by-le-length, sum_by-cons, sum_by-append}
-use Rattle.cost_base.specs.Lists.{numbers_from}
-use Rattle.cost_base.proofs.ListLemmas.{length-numbers_from, get_or-numbers_from}
+use Rattle.std.proofs.lemmas.List.Sums.{length-filter, count_by-le-length, sum_by-cons}
 use Rattle.area_graph.specs.declared.Vertex.{Vertex}
 use Rattle.area_graph.specs.declared.Vertex.TheVariants.{Router as RouterVertex, Subnet as SubnetVertex}
 use Rattle.area_graph.specs.declared.Price.{Price}
 use Rattle.area_graph.specs.declared.Price.TheVariants.{Fixed, Zero}
 use Rattle.area_graph.specs.declared.Edge.{Edge}
-use Rattle.area_graph.specs.Area.{Area, is_router as is_router_vertex, FitsSource, FitsTarget, FitsEdge, FitsGraph}
+use Rattle.area_graph.specs.Area.{Area, FitsSource, FitsTarget, FitsEdge, FitsGraph}
+use Rattle.area_graph.proofs.Vertices.{vertices, vertices_length, router_vertex, routers_count, FitsVertices, subnet_vertex}
 use Rattle.lsa_bytes.specs.declared.LsaLink.{LsaLink}
 use Rattle.lsa_bytes.specs.declared.Body.{Body}
 use Rattle.lsa_bytes.specs.declared.Body.TheVariants.{Links, Attached}
@@ -24,46 +23,7 @@ use Rattle.lsa_bytes.specs.declared.vertices.Kind.TheVariants.{Router, Network}
 use Rattle.lsa_bytes.specs.Vertices.{is_kind}
 use Rattle.lsa_bytes.proofs.Entries.{misses}
 
--- Vertices: routers, then networks.
-
-abbrev vertices : ℕ → ℕ → List Vertex
-vertices r s = map RouterVertex (numbers_from 0 r) ++ map SubnetVertex (numbers_from 0 s)
-
-vertices_length : (r s : ℕ) → length (vertices r s) ≡ r + s
-vertices_length r s =
-    length-append (map RouterVertex (numbers_from 0 r)) (map SubnetVertex (numbers_from 0 s))
-    ∙ omega (arith, length-map (numbers_from 0 r) RouterVertex, length-map (numbers_from 0 s) SubnetVertex, length-numbers_from 0 r, length-numbers_from 0 s)
-
-router_vertex : (r s n : ℕ) → n < r → get_or (vertices r s) n (RouterVertex 0) ≡ RouterVertex n
-router_vertex r s n below =
-    let count = length-map (numbers_from 0 r) RouterVertex ∙ length-numbers_from 0 r in
-    get_or_append_left (map RouterVertex (numbers_from 0 r)) (map SubnetVertex (numbers_from 0 s)) (RouterVertex 0) n (omega (arith, count))
-    ∙ get_or-map RouterVertex (numbers_from 0 r) n 0 (RouterVertex 0) (omega (arith, length-numbers_from 0 r))
-    ∙ ap RouterVertex (get_or-numbers_from 0 r n 0 below ∙ zero-add n)
-
-network_vertex : (r s n : ℕ) → n < s → get_or (vertices r s) (r + n) (RouterVertex 0) ≡ SubnetVertex n
-network_vertex r s n below =
-    let count = length-map (numbers_from 0 r) RouterVertex ∙ length-numbers_from 0 r in
-    ap (λ k. get_or (vertices r s) (k + n) (RouterVertex 0)) (sym count)
-    ∙ get_or-append-add (map RouterVertex (numbers_from 0 r)) (map SubnetVertex (numbers_from 0 s)) n (RouterVertex 0)
-    ∙ get_or-map SubnetVertex (numbers_from 0 s) n 0 (RouterVertex 0) (omega (arith, length-numbers_from 0 s))
-    ∙ ap SubnetVertex (get_or-numbers_from 0 s n 0 below ∙ zero-add n)
-
-no_router : (a n : ℕ) → count_by is_router_vertex (map SubnetVertex (numbers_from a n)) ≡ 0
-no_router a zero = refl
-no_router a (suc n) = omega (arith, sum_by-cons (λ v. cond (is_router_vertex v) 1 0) (SubnetVertex a) (map SubnetVertex (numbers_from (a + 1) n)), no_router (a + 1) n)
-
-routers_count : (r s : ℕ) → count_by is_router_vertex (vertices r s) ≤ r
-routers_count r s =
-    omega (arith, sum_by-append (λ v. cond (is_router_vertex v) 1 0) (map RouterVertex (numbers_from 0 r)) (map SubnetVertex (numbers_from 0 s)), no_router 0 s, count_by-le-length is_router_vertex (map RouterVertex (numbers_from 0 r)), length-map (numbers_from 0 r) RouterVertex, length-numbers_from 0 r)
-
 -- Edges between them.
-
-record FitsVertices (vs : List Vertex) (edge : Edge) : Type 0 where
-  from : edge.from < length vs
-  to : edge.to < length vs
-  price : FitsSource (get_or vs edge.from (RouterVertex 0)) edge.price
-  target : FitsTarget (get_or vs edge.from (RouterVertex 0)) (get_or vs edge.to (RouterVertex 0))
 
 router_edge_fits : (r s v w metric : ℕ) → v < r → w < r + s → 0 < metric → FitsVertices (vertices r s) (record { from = v; to = w; price = Fixed metric })
 router_edge_fits r s v w metric from to some =
@@ -77,7 +37,7 @@ router_edge_fits r s v w metric from to some =
 
 network_edge_fits : (r s k w : ℕ) → k < s → w < r → FitsVertices (vertices r s) (record { from = r + k; to = w; price = Zero })
 network_edge_fits r s k w from to =
-    let source = network_vertex r s k from in
+    let source = subnet_vertex r s k from in
     let target = router_vertex r s w to in
     record {
       from = omega (arith, vertices_length r s);
@@ -87,7 +47,8 @@ network_edge_fits r s k w from to =
     }
 
 -- the vertices that lead back are in range
-back_bound : (n : ℕ) (test : Lsa → Bool) (leads : Body → Bool) (lsas : List Lsa) → MatchOption (vertex_back n test leads lsas) (Unit {0}) (λ w. w < n + length lsas)
+back_bound : (n : ℕ) (test : Lsa → Bool) (leads : Body → Bool) (lsas : List Lsa) →
+    MatchOption (vertex_back n test leads lsas) (Unit {0}) (λ w. w < n + length lsas)
 back_bound n test leads [] = tt
 back_bound n test leads (lsa ∷ more) = by_tests (test lsa) (leads lsa.body) (back_bound (n + 1) test leads more)
   where
@@ -95,12 +56,16 @@ back_bound n test leads (lsa ∷ more) = by_tests (test lsa) (leads lsa.body) (b
     later None bound = tt
     later (Some w) bound = omega arith
 
-    by_tests : (b c : Bool) → MatchOption (vertex_back (n + 1) test leads more) (Unit {0}) (λ w. w < n + 1 + length more) → MatchOption (cond b (cond c (Some n) None) (vertex_back (n + 1) test leads more)) (Unit {0}) (λ w. w < n + suc (length more))
+    by_tests : (b c : Bool) → MatchOption (vertex_back (n + 1) test leads more) (Unit {0})
+        (λ w. w < n + 1 + length more) →
+        MatchOption (cond b (cond c (Some n) None) (vertex_back (n + 1) test leads more)) (Unit {0})
+        (λ w. w < n + suc (length more))
     by_tests true true bound = omega arith
     by_tests true false bound = tt
     by_tests false c bound = later (vertex_back (n + 1) test leads more) bound
 
-edge_fits : (P : Edge → Type 0) (from : ℕ) (price : Price) (to : Option ℕ) → MatchOption to (Unit {0}) (λ w. P (record { from = from; to = w; price = price })) → All P (edge_to from price to)
+edge_fits : (P : Edge → Type 0) (from : ℕ) (price : Price) (to : Option ℕ) →
+    MatchOption to (Unit {0}) (λ w. P (record { from = from; to = w; price = price })) → All P (edge_to from price to)
 edge_fits P from price None fits = All-nil P
 edge_fits P from price (Some w) fits = All-cons P (record { from = from; to = w; price = price }) [] fits (All-nil P)
 
@@ -108,7 +73,8 @@ weaker : (found : Option ℕ) (P Q : ℕ → Type 0) → ((w : ℕ) → P w → 
 weaker None P Q go fits = tt
 weaker (Some w) P Q go fits = go w fits
 
-flat_fits : {X : Type 0} (P : Edge → Type 0) (Q : X → Type 0) (f : X → List Edge) (xs : List X) → All Q xs → ((x : X) → Q x → All P (f x)) → All P (flat_map f xs)
+flat_fits : {X : Type 0} (P : Edge → Type 0) (Q : X → Type 0) (f : X → List Edge) (xs : List X) → All Q xs →
+    ((x : X) → Q x → All P (f x)) → All P (flat_map f xs)
 flat_fits P Q f [] all each = All-nil P
 flat_fits P Q f (x ∷ xs) all each = All-append P (f x) (flat_map f xs) (each x (All-head Q x xs all)) (flat_fits P Q f xs (All-tail Q x xs all) each)
 
@@ -122,48 +88,67 @@ module _ (lsas : List Lsa) where
   Fits edge = FitsVertices (vertices (length (routers lsas)) (length (networks lsas))) edge
 
   link_fits : (v router : ℕ) (link : LsaLink) → v < length (routers lsas) → is_zero_link link ≡ false → All Fits (link_edge lsas v router link)
-  link_fits v router link from metric = edge_fits Fits v (Fixed link.metric) (far_end lsas router link) (by_kind (nat_eq link.kind 1) (nat_eq link.kind 2) metric)
+  link_fits v router link from metric =
+      edge_fits Fits v (Fixed link.metric) (far_end lsas router link)
+      (by_kind (nat_eq link.kind 1) (nat_eq link.kind 2) metric)
     where
-      by_kind : (a b : Bool) → ((a || b) && nat_eq link.metric 0) ≡ false → MatchOption (cond a (router_back lsas link.id (has_link 1 router)) (cond b (network_back lsas link.id (attaches router)) None)) (Unit {0}) (λ w. Fits (record { from = v; to = w; price = Fixed link.metric }))
-      by_kind true b none = weaker (router_back lsas link.id (has_link 1 router)) (λ w. w < 0 + length (routers lsas)) (λ w. Fits (record { from = v; to = w; price = Fixed link.metric }))
+      by_kind : (a b : Bool) → ((a || b) && nat_eq link.metric 0) ≡ false →
+          MatchOption (cond a (router_back lsas link.id (has_link 1 router))
+          (cond b (network_back lsas link.id (attaches router)) None)) (Unit {0})
+          (λ w. Fits (record { from = v; to = w; price = Fixed link.metric }))
+      by_kind true b none = weaker (router_back lsas link.id (has_link 1 router)) (λ w. w < 0 + length (routers lsas))
+          (λ w. Fits (record { from = v; to = w; price = Fixed link.metric }))
           (λ w bound. router_edge_fits (length (routers lsas)) (length (networks lsas)) v w link.metric from (omega arith) (some_metric link.metric none))
           (back_bound 0 (is_router_of link.id) (has_link 1 router) (routers lsas))
-      by_kind false true none = weaker (network_back lsas link.id (attaches router)) (λ w. w < length (routers lsas) + length (networks lsas)) (λ w. Fits (record { from = v; to = w; price = Fixed link.metric }))
+      by_kind false true none = weaker (network_back lsas link.id (attaches router))
+          (λ w. w < length (routers lsas) + length (networks lsas))
+          (λ w. Fits (record { from = v; to = w; price = Fixed link.metric }))
           (λ w bound. router_edge_fits (length (routers lsas)) (length (networks lsas)) v w link.metric from bound (some_metric link.metric none))
           (back_bound (length (routers lsas)) (is_network_of link.id) (attaches router) (networks lsas))
       by_kind false false none = tt
 
   attached_fits : (k id router : ℕ) → k < length (networks lsas) → All Fits (attached_edge lsas (length (routers lsas) + k) id router)
   attached_fits k id router from = edge_fits Fits (length (routers lsas) + k) Zero (router_back lsas router (has_link 2 id))
-      (weaker (router_back lsas router (has_link 2 id)) (λ w. w < 0 + length (routers lsas)) (λ w. Fits (record { from = length (routers lsas) + k; to = w; price = Zero }))
+      (weaker (router_back lsas router (has_link 2 id)) (λ w. w < 0 + length (routers lsas))
+      (λ w. Fits (record { from = length (routers lsas) + k; to = w; price = Zero }))
       (λ w bound. network_edge_fits (length (routers lsas)) (length (networks lsas)) k w from (omega arith))
       (back_bound 0 (is_router_of router) (has_link 2 id) (routers lsas)))
 
   -- the edges out of router-LSAs without a link at fault
-  router_fits : (v : ℕ) (lsa : Lsa) (body : Body) → v < length (routers lsas) → has_links body ≡ true → has_zero_metric body ≡ false → All Fits (edges_from lsas v lsa body)
+  router_fits : (v : ℕ) (lsa : Lsa) (body : Body) → v < length (routers lsas) → has_links body ≡ true →
+      has_zero_metric body ≡ false → All Fits (edges_from lsas v lsa body)
   router_fits v lsa (Links links) from kind metric =
-      flat_fits Fits (λ link. is_zero_link link ≡ false) (link_edge lsas v lsa.router) links (misses is_zero_link links metric) (λ link none. link_fits v lsa.router link from none)
+      flat_fits Fits (λ link. is_zero_link link ≡ false) (link_edge lsas v lsa.router) links
+      (misses is_zero_link links metric) (λ link none. link_fits v lsa.router link from none)
   router_fits v lsa (Attached attached) from kind metric = absurd (false≢true kind)
 
-  network_fits : (k : ℕ) (lsa : Lsa) (body : Body) → k < length (networks lsas) → has_links body ≡ false → All Fits (edges_from lsas (length (routers lsas) + k) lsa body)
+  network_fits : (k : ℕ) (lsa : Lsa) (body : Body) → k < length (networks lsas) → has_links body ≡ false →
+      All Fits (edges_from lsas (length (routers lsas) + k) lsa body)
   network_fits k lsa (Links links) from kind = absurd (false≢true (sym kind))
   network_fits k lsa (Attached attached) from kind =
-      flat_fits Fits (λ router. Unit {0}) (attached_edge lsas (length (routers lsas) + k) lsa.id) attached (λ i d within. tt) (λ router any. attached_fits k lsa.id router from)
+      flat_fits Fits (λ router. Unit {0}) (attached_edge lsas (length (routers lsas) + k) lsa.id) attached
+      (λ i d within. tt) (λ router any. attached_fits k lsa.id router from)
 
-  routers_fit : (v : ℕ) (some : List Lsa) → v + length some ≤ length (routers lsas) → All (λ lsa. is_router lsa ≡ true) some → All (λ lsa. has_zero_metric lsa.body ≡ false) some → All Fits (edges_in_order lsas v some)
+  routers_fit : (v : ℕ) (some : List Lsa) → v + length some ≤ length (routers lsas) →
+      All (λ lsa. is_router lsa ≡ true) some → All (λ lsa. has_zero_metric lsa.body ≡ false) some →
+      All Fits (edges_in_order lsas v some)
   routers_fit v [] room kinds metrics = All-nil Fits
   routers_fit v (lsa ∷ more) room kinds metrics =
       All-append Fits (edges_from lsas v lsa lsa.body) (edges_in_order lsas (v + 1) more)
-      (router_fits v lsa lsa.body (omega arith) (All-head (λ l. is_router l ≡ true) lsa more kinds) (All-head (λ l. has_zero_metric l.body ≡ false) lsa more metrics))
-      (routers_fit (v + 1) more (omega arith) (All-tail (λ l. is_router l ≡ true) lsa more kinds) (All-tail (λ l. has_zero_metric l.body ≡ false) lsa more metrics))
+      (router_fits v lsa lsa.body (omega arith) (All-head (λ l. is_router l ≡ true) lsa more kinds)
+      (All-head (λ l. has_zero_metric l.body ≡ false) lsa more metrics))
+      (routers_fit (v + 1) more (omega arith) (All-tail (λ l. is_router l ≡ true) lsa more kinds)
+      (All-tail (λ l. has_zero_metric l.body ≡ false) lsa more metrics))
 
-  networks_fit : (k : ℕ) (some : List Lsa) → k + length some ≤ length (networks lsas) → All (λ lsa. is_network lsa ≡ true) some → All Fits (edges_in_order lsas (length (routers lsas) + k) some)
+  networks_fit : (k : ℕ) (some : List Lsa) → k + length some ≤ length (networks lsas) →
+      All (λ lsa. is_network lsa ≡ true) some → All Fits (edges_in_order lsas (length (routers lsas) + k) some)
   networks_fit k [] room kinds = All-nil Fits
   networks_fit k (lsa ∷ more) room kinds =
       let next : length (routers lsas) + (k + 1) ≡ length (routers lsas) + k + 1 = omega arith in
       All-append Fits (edges_from lsas (length (routers lsas) + k) lsa lsa.body) (edges_in_order lsas (length (routers lsas) + k + 1) more)
       (network_fits k lsa lsa.body (omega arith) (not-true (has_links lsa.body) (All-head (λ l. is_network l ≡ true) lsa more kinds)))
-      (subst (λ (v : ℕ). All Fits (edges_in_order lsas v more)) next (networks_fit (k + 1) more (omega arith) (All-tail (λ l. is_network l ≡ true) lsa more kinds)))
+      (subst (λ (v : ℕ). All Fits (edges_in_order lsas v more)) next
+      (networks_fit (k + 1) more (omega arith) (All-tail (λ l. is_network l ≡ true) lsa more kinds)))
 
   -- as many edges as links and attached routers, or fewer
   edge_few : (from : ℕ) (price : Price) (to : Option ℕ) → length (edge_to from price to) ≤ 1
@@ -181,7 +166,13 @@ module _ (lsas : List Lsa) where
   edges_few : (v : ℕ) (some : List Lsa) → length (edges_in_order lsas v some) ≤ sum_by size_of some
   edges_few v [] = omega arith
   edges_few v (lsa ∷ more) =
-      omega (arith, length-append (edges_from lsas v lsa lsa.body) (edges_in_order lsas (v + 1) more), from_few v lsa lsa.body, edges_few (v + 1) more, sum_by-cons size_of lsa more)
+      omega (
+        arith,
+        length-append (edges_from lsas v lsa lsa.body) (edges_in_order lsas (v + 1) more),
+        from_few v lsa lsa.body,
+        edges_few (v + 1) more,
+        sum_by-cons size_of lsa more,
+      )
 
 -- the sizes of both kinds are those of all
 sizes_split : (lsas : List Lsa) → sum_by size_of (routers lsas) + sum_by size_of (networks lsas) ≡ sum_by size_of lsas
@@ -189,7 +180,8 @@ sizes_split [] = refl
 sizes_split (lsa ∷ more) = by_kind (is_router lsa) (sizes_split more)
   where
     by_kind : (b : Bool) → sum_by size_of (routers more) + sum_by size_of (networks more) ≡ sum_by size_of more
-        → sum_by size_of (cond b (lsa ∷ routers more) (routers more)) + sum_by size_of (cond (not b) (lsa ∷ networks more) (networks more)) ≡ sum_by size_of (lsa ∷ more)
+        → sum_by size_of (cond b (lsa ∷ routers more) (routers more))
+        + sum_by size_of (cond (not b) (lsa ∷ networks more) (networks more)) ≡ sum_by size_of (lsa ∷ more)
     by_kind true split = omega (arith, split, sum_by-cons size_of lsa (routers more), sum_by-cons size_of lsa more)
     by_kind false split = omega (arith, split, sum_by-cons size_of lsa (networks more), sum_by-cons size_of lsa more)
 
@@ -215,25 +207,48 @@ pub graph_fits : (lsas : List Lsa) → IsDatabase lsas → FitsGraph (lsa_graph 
 graph_fits lsas is =
     let r = length (routers lsas) in
     let s = length (networks lsas) in
-    let first = routers_fit lsas 0 (routers lsas) (omega arith) (all_pass is_router lsas) (All-filter is_router (λ l. has_zero_metric l.body ≡ false) lsas is.faultless.metrics) in
+    let first = routers_fit lsas 0 (routers lsas) (omega arith) (all_pass is_router lsas)
+    (All-filter is_router (λ l. has_zero_metric l.body ≡ false) lsas is.faultless.metrics) in
     let second = networks_fit lsas 0 (networks lsas) (omega arith) (all_pass is_network lsas) in
     let from_r : r + 0 ≡ r = omega arith in
-    let edges = All-append (Fits lsas) (edges_in_order lsas 0 (routers lsas)) (edges_in_order lsas r (networks lsas)) first (subst (λ (v : ℕ). All (Fits lsas) (edges_in_order lsas v (networks lsas))) from_r second) in
+    let edges = All-append (Fits lsas) (edges_in_order lsas 0 (routers lsas)) (edges_in_order lsas r (networks lsas))
+    first (subst (λ (v : ℕ). All (Fits lsas) (edges_in_order lsas v (networks lsas))) from_r second) in
     record {
-      edges = All-weaker (Fits lsas) (FitsEdge (lsa_graph lsas)) (λ edge e. record { from = e.from; to = e.to; price = e.price; target = e.target }) (edges_in_order lsas 0 (routers lsas) ++ edges_in_order lsas r (networks lsas)) edges;
+      edges = All-weaker (Fits lsas) (FitsEdge (lsa_graph lsas))
+          (λ edge e. record { from = e.from; to = e.to; price = e.price; target = e.target })
+          (edges_in_order lsas 0 (routers lsas) ++ edges_in_order lsas r (networks lsas)) edges;
       routers = omega (arith, routers_count r s, routers_few lsas is);
-      vertex_count = omega (arith, vertices_length r s, routers_few lsas is, length-filter is_network lsas, count_by-le-length is_network lsas, database_few lsas is);
-      edge_count = omega (arith, length-append (edges_in_order lsas 0 (routers lsas)) (edges_in_order lsas r (networks lsas)), edges_few lsas 0 (routers lsas), edges_few lsas r (networks lsas), sizes_split lsas, is.small);
+      vertex_count = omega (
+        arith,
+        vertices_length r s,
+        routers_few lsas is,
+        length-filter is_network lsas,
+        count_by-le-length is_network lsas,
+        database_few lsas is,
+      );
+      edge_count = omega (
+        arith,
+        length-append (edges_in_order lsas 0 (routers lsas))
+            (edges_in_order lsas r (networks lsas)),
+        edges_few lsas 0 (routers lsas),
+        edges_few lsas r (networks lsas),
+        sizes_split lsas,
+        is.small,
+      );
     }
 
 -- the graph that is made step by step
-pub graph_made : (vs db : List Lsa) (r s : ℕ) (made : List Vertex) (none first second : List Edge) → vs ≡ db → r ≡ length (routers vs) → s ≡ length (networks vs)
-    → made ≡ vertices r s → none ≡ [] → first ≡ none ++ edges_in_order vs 0 (filter (is_kind Router) vs) → second ≡ first ++ edges_in_order vs r (filter (is_kind Network) vs)
+pub graph_made : (vs db : List Lsa) (r s : ℕ) (made : List Vertex) (none first second : List Edge) → vs ≡ db →
+    r ≡ length (routers vs) → s ≡ length (networks vs)
+    → made ≡ vertices r s → none ≡ [] → first ≡ none ++ edges_in_order vs 0 (filter (is_kind Router) vs) →
+    second ≡ first ++ edges_in_order vs r (filter (is_kind Network) vs)
     → record { vertices = made; edges = second } ≡ lsa_graph db
 graph_made vs db r s made none first second same r_is s_is made_is none_is first_is second_is =
-    let nodes : made ≡ vertices (length (routers vs)) (length (networks vs)) = made_is ∙ ap (λ (n : ℕ). vertices n s) r_is ∙ ap (λ (n : ℕ). vertices (length (routers vs)) n) s_is in
+    let nodes : made ≡ vertices (length (routers vs)) (length (networks vs)) = made_is
+    ∙ ap (λ (n : ℕ). vertices n s) r_is ∙ ap (λ (n : ℕ). vertices (length (routers vs)) n) s_is in
     let links : second ≡ edges_in_order vs 0 (routers vs) ++ edges_in_order vs (length (routers vs)) (networks vs) =
-    second_is ∙ ap (λ (es : List Edge). es ++ edges_in_order vs r (networks vs)) (first_is ∙ ap (λ (es : List Edge). es ++ edges_in_order vs 0 (routers vs)) none_is)
+    second_is ∙ ap (λ (es : List Edge). es ++ edges_in_order vs r (networks vs))
+    (first_is ∙ ap (λ (es : List Edge). es ++ edges_in_order vs 0 (routers vs)) none_is)
     ∙ ap (λ (n : ℕ). edges_in_order vs 0 (routers vs) ++ edges_in_order vs n (networks vs)) r_is in
     let both : record { vertices = made; edges = second } ≡ lsa_graph vs = λ i. record { vertices = nodes i; edges = links i } in
     both ∙ ap lsa_graph same

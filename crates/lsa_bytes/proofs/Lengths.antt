@@ -27,7 +27,8 @@ pub record BeginsWhole (rest : List ℕ) : Type 0 where
 
 pub begins_whole : (rest : List ℕ) → length_fault rest ≡ None → BeginsWhole rest
 begins_whole rest none =
-    let short = cond-none (nat_lt (length rest) 20 || nat_lt (length rest) (length_of rest)) ShortLsa (cond (nat_lt (length_of rest) 20) (Some BadLength) None) none in
+    let short = cond-none (nat_lt (length rest) 20 || nat_lt (length rest) (length_of rest)) ShortLsa
+    (cond (nat_lt (length_of rest) 20) (Some BadLength) None) none in
     let bad = cond-none (nat_lt (length_of rest) 20) BadLength None short.1 in
     record {
       header = ltb-false (length_of rest) 20 bad.0;
@@ -37,7 +38,8 @@ begins_whole rest none =
 pub no_length_fault : (rest : List ℕ) → BeginsWhole rest → length_fault rest ≡ None
 no_length_fault rest begins =
     let long : nat_lt (length rest) 20 ≡ false = le-ltb (length rest) 20 (omega (arith, begins.header, begins.whole)) in
-    let short : (nat_lt (length rest) 20 || nat_lt (length rest) (length_of rest)) ≡ false = or_from _ _ long (le-ltb (length rest) (length_of rest) begins.whole) in
+    let short : (nat_lt (length rest) 20 || nat_lt (length rest) (length_of rest)) ≡ false =
+    or_from _ _ long (le-ltb (length rest) (length_of rest) begins.whole) in
     ap (λ (b : Bool). cond b (Some ShortLsa) (cond (nat_lt (length_of rest) 20) (Some BadLength) None)) short
     ∙ ap (λ (b : Bool). cond b (Some BadLength) None) (le-ltb (length_of rest) 20 begins.header)
 
@@ -80,5 +82,6 @@ same_front x y xs ys first second same =
 -- what stands behind a whole LSA adds no fault to it
 pub fault_in_front : (before : List Lsa) (lsa more : List ℕ) → IsWhole lsa → fault_at before (lsa ++ more) ≡ fault_of before lsa
 fault_in_front before lsa more is =
-    ap (λ (fault : Option LsaFault). option_or fault (fault_of before (take (length_of (lsa ++ more)) (lsa ++ more)))) (no_length_fault (lsa ++ more) (front_whole lsa more is))
+    ap (λ (fault : Option LsaFault). option_or fault (fault_of before (take (length_of (lsa ++ more)) (lsa ++ more))))
+    (no_length_fault (lsa ++ more) (front_whole lsa more is))
     ∙ ap (fault_of before) (front_taken lsa more is)

@@ -52,7 +52,8 @@ one_way before (x ∷ xs) (y ∷ ys) r s first second same r_stops s_stops =
 -- bytes come to one thing
 pub one_outcome : (bytes : List ℕ) (a b : Result (List Lsa) (LsaFault × ℕ)) → ComesTo bytes a → ComesTo bytes b → a ≡ b
 one_outcome bytes (Ok lsas) (Ok others) x y =
-    let way = one_way [] x.pieces y.pieces [] [] x.faultless y.faultless (append-nil (concat x.pieces) ∙ sym x.whole ∙ y.whole ∙ sym (append-nil (concat y.pieces)))
+    let way = one_way [] x.pieces y.pieces [] [] x.faultless y.faultless (append-nil (concat x.pieces) ∙ sym x.whole
+    ∙ y.whole ∙ sym (append-nil (concat y.pieces)))
     (nothing_begins (said_by_all x.pieces)) (nothing_begins (said_by_all y.pieces)) in
     ap Ok (x.said ∙ ap said_by_all way.0 ∙ sym y.said)
 one_outcome bytes (Ok lsas) (Err fault) x y =
@@ -66,7 +67,9 @@ one_outcome bytes (Err fault) (Ok lsas) x y =
 one_outcome bytes (Err fault) (Err other) x y =
     let way = one_way [] x.pieces y.pieces x.rest y.rest x.faultless y.faultless (sym x.whole ∙ y.whole)
     (a_fault_begins (said_by_all x.pieces) x.rest fault.0 x.fault_is) (a_fault_begins (said_by_all y.pieces) y.rest other.0 y.fault_is) in
-    let faults : Some fault.0 ≡ Some other.0 = sym x.fault_is ∙ ap (λ (pieces : List (List ℕ)). fault_at (said_by_all pieces) x.rest) way.0 ∙ ap (fault_at (said_by_all y.pieces)) way.1 ∙ y.fault_is in
+    let faults : Some fault.0 ≡ Some other.0 = sym x.fault_is
+    ∙ ap (λ (pieces : List (List ℕ)). fault_at (said_by_all pieces) x.rest) way.0
+    ∙ ap (fault_at (said_by_all y.pieces)) way.1 ∙ y.fault_is in
     let kind : fault.0 ≡ other.0 = cc in
     let place : fault.1 ≡ other.1 = x.offset_is ∙ ap (λ (pieces : List (List ℕ)). length (concat pieces)) way.0 ∙ sym y.offset_is in
     ap Err (λ i. (kind i, place i))

@@ -46,7 +46,8 @@ links_again (link ∷ links) all =
     let rest = flat_map link_bytes links in
     let is = All-head IsLink link links all in
     ap (λ (b : Bool). cond b (option_map (λ ls. link_at (link_bytes link ++ rest) ∷ ls) (links_of (length links) rest)) None) (link_starts link rest is)
-    ∙ ap (λ (found : Option (List LsaLink)). option_map (λ ls. link_at (link_bytes link ++ rest) ∷ ls) found) (links_again links (All-tail IsLink link links all))
+    ∙ ap (λ (found : Option (List LsaLink)). option_map (λ ls. link_at (link_bytes link ++ rest) ∷ ls) found)
+    (links_again links (All-tail IsLink link links all))
     ∙ ap (λ (l : LsaLink). Some (l ∷ links)) (link_again link rest is)
 
 -- the header of an LSA that was written
@@ -68,7 +69,7 @@ header_router type id router size body fits = omega (arith, from_be_bytes-to_be_
 
 -- Attached routers that were written.
 
-routers_length : (routers : List ℕ) → length (flat_map (to_be_bytes w32) routers) ≡ 4 * length routers
+pub routers_length : (routers : List ℕ) → length (flat_map (to_be_bytes w32) routers) ≡ 4 * length routers
 routers_length [] = refl
 routers_length (router ∷ routers) = omega (arith, routers_length routers)
 
@@ -94,7 +95,8 @@ routers_again bytes a [] all is = refl
 routers_again bytes a (router ∷ routers) all is =
     let rest = flat_map (to_be_bytes w32) routers in
     let here : number_32 bytes (24 + 4 * a) ≡ router =
-    sym (number_32-drop (24 + 4 * a) bytes) ∙ ap (λ (bs : List ℕ). number_32 bs 0) is ∙ router_again router rest (All-head (λ r. r < 2 ^ 32) router routers all) in
+    sym (number_32-drop (24 + 4 * a) bytes) ∙ ap (λ (bs : List ℕ). number_32 bs 0) is
+    ∙ router_again router rest (All-head (λ r. r < 2 ^ 32) router routers all) in
     let further : 24 + 4 * (a + 1) ≡ 24 + 4 * a + 4 = omega arith in
     let next : drop (24 + 4 * (a + 1)) bytes ≡ rest =
     ap (λ (n : ℕ). drop n bytes) further ∙ sym (drop-drop 4 (24 + 4 * a) bytes) ∙ ap (drop 4) is in
@@ -103,7 +105,7 @@ routers_again bytes a (router ∷ routers) all is =
 
 -- Whole LSAs that were written.
 
-links_length : (links : List LsaLink) → length (flat_map link_bytes links) ≡ 12 * length links
+pub links_length : (links : List LsaLink) → length (flat_map link_bytes links) ≡ 12 * length links
 links_length [] = refl
 links_length (link ∷ links) = omega (arith, links_length links)
 
@@ -120,7 +122,8 @@ count_again : (type id router size n : ℕ) (rest : List ℕ) → n < 2 ^ 16 →
 unfolding number_16
 count_again type id router size n rest fits = omega (arith, from_be_bytes-to_be_bytes_2 n fits)
 
-body_again : (mask id router size : ℕ) (body : Body) → CanBeWritten body → body_of (header (type_of_body body) id router size ++ body_bytes mask body) ≡ Some body
+body_again : (mask id router size : ℕ) (body : Body) → CanBeWritten body →
+    body_of (header (type_of_body body) id router size ++ body_bytes mask body) ≡ Some body
 body_again mask id router size (Links links) can =
     let bytes = header 1 id router size ++ body_bytes mask (Links links) in
     let long : nat_lt (length bytes) 24 ≡ false = le-ltb (length bytes) 24 (omega arith) in
@@ -134,7 +137,8 @@ body_again mask id router size (Attached routers) can =
     let at : ℕ → ℕ = λ i. number_32 bytes (24 + 4 * i) in
     let long : nat_lt (4 * length routers) 4 ≡ false = le-ltb (4 * length routers) 4 (omega (arith, can.1)) in
     let even : (4 * length routers) % 4 ≡ 0 = omega arith in
-    let none : (nat_lt (4 * length routers) 4 || not (nat_eq ((4 * length routers) % 4) 0)) ≡ false = or_from _ _ long (ap not (eq-eqb ((4 * length routers) % 4) 0 even)) in
+    let none : (nat_lt (4 * length routers) 4 || not (nat_eq ((4 * length routers) % 4) 0)) ≡ false =
+    or_from _ _ long (ap not (eq-eqb ((4 * length routers) % 4) 0 even)) in
     let count : (4 * length routers) / 4 ≡ length routers = omega arith in
     ap (λ (n : ℕ). option_map Attached (cond (nat_lt n 4 || not (nat_eq (n % 4) 0)) None (Some (map at (numbers_from 0 (n / 4)))))) size_is
     ∙ ap (λ (b : Bool). option_map Attached (cond b None (Some (map at (numbers_from 0 ((4 * length routers) / 4)))))) none
@@ -150,13 +154,16 @@ said_again m is =
     let id : number_32 bytes 4 ≡ m.lsa.id = header_id type m.lsa.id m.lsa.router size body is.id in
     let router : number_32 bytes 8 ≡ m.lsa.router = header_router type m.lsa.id m.lsa.router size body is.router in
     ap (λ (found : Option Body). with_body bytes found) (body_again m.mask m.lsa.id m.lsa.router size m.lsa.body is.body)
-    ∙ ap (λ (age : ℕ). cond (nat_eq age 3600) [] (record { id = number_32 bytes 4; router = number_32 bytes 8; body = m.lsa.body } ∷ [])) (header_age type m.lsa.id m.lsa.router size body)
+    ∙ ap (λ (age : ℕ). cond (nat_eq age 3600) []
+    (record { id = number_32 bytes 4; router = number_32 bytes 8; body = m.lsa.body } ∷ []))
+    (header_age type m.lsa.id m.lsa.router size body)
     ∙ (λ i. record { id = id i; router = router i; body = m.lsa.body } ∷ [])
 
 no_body_fault : (m : Masked) → IsWritable m → body_fault (lsa_bytes m) ≡ None
 no_body_fault m is =
     let body = body_bytes m.mask m.lsa.body in
-    ap (λ (found : Option Body). cond (is_read (type_of (lsa_bytes m)) && not (is_some found)) (Some BadBody) None) (body_again m.mask m.lsa.id m.lsa.router (20 + length body) m.lsa.body is.body)
+    ap (λ (found : Option Body). cond (is_read (type_of (lsa_bytes m)) && not (is_some found)) (Some BadBody) None)
+    (body_again m.mask m.lsa.id m.lsa.router (20 + length body) m.lsa.body is.body)
     ∙ by_type (is_read (type_of (lsa_bytes m)))
   where
     by_type : (b : Bool) → cond (b && false) (Some BadBody) None ≡ None
@@ -176,14 +183,19 @@ no_fault_behind before lsa more none =
     sym (ap (is_same lsa) (get_or_append_left before (lsa ∷ more) d k below))
     ∙ ap (λ (l : Lsa). is_same l (get_or whole k d)) (sym (get_or-append_seam before lsa more d))
     ∙ none.different k (length before) d below within) in
-    let metric : has_zero_metric lsa.body ≡ false = ap (λ (l : Lsa). has_zero_metric l.body) (sym (get_or-append_seam before lsa more lsa)) ∙ none.metrics (length before) lsa within in
-    ap (λ (b : Bool). cond b (Some TooManyRouters) (cond (list_any (is_same lsa) before) (Some LsaTwice) (cond (has_zero_metric lsa.body) (Some ZeroMetric) None))) room
+    let metric : has_zero_metric lsa.body ≡ false =
+    ap (λ (l : Lsa). has_zero_metric l.body) (sym (get_or-append_seam before lsa more lsa))
+    ∙ none.metrics (length before) lsa within in
+    ap (λ (b : Bool). cond b (Some TooManyRouters)
+    (cond (list_any (is_same lsa) before) (Some LsaTwice)
+    (cond (has_zero_metric lsa.body) (Some ZeroMetric) None))) room
     ∙ ap (λ (b : Bool). cond b (Some LsaTwice) (cond (has_zero_metric lsa.body) (Some ZeroMetric) None)) new
     ∙ ap (λ (b : Bool). cond b (Some ZeroMetric) None) metric
   where
     by_kind : (b : Bool) → count_by is_router (before ++ lsa ∷ more) ≡ count_by is_router before + count_by is_router (lsa ∷ more)
         → count_by is_router (lsa ∷ more) ≡ cond b 1 0 + count_by is_router more → (b && nat_le 1000 (count_by is_router before)) ≡ false
-    by_kind true all one = false_from_ne_true (nat_le 1000 (count_by is_router before)) (λ full. omega (arith, all, one, none.routers, leb-true 1000 (count_by is_router before) full))
+    by_kind true all one = false_from_ne_true (nat_le 1000 (count_by is_router before))
+        (λ full. omega (arith, all, one, none.routers, leb-true 1000 (count_by is_router before) full))
     by_kind false all one = refl
 
 fault_again : (before : List Lsa) (m : Masked) (more : List Lsa) → IsWritable m → HaveNoFault (before ++ m.lsa ∷ more) → fault_at before (lsa_bytes m) ≡ None
@@ -193,7 +205,8 @@ fault_again before m more is none =
     ap (fault_at before) (sym (append-nil bytes)) ∙ fault_in_front before bytes [] whole
     ∙ said_fault before bytes (m.lsa ∷ []) (no_body_fault m is) (sym (said_again m is)) ∙ no_fault_behind before m.lsa more none
 
-faultless_again : (before : List Lsa) (ms : List Masked) → All IsWritable ms → HaveNoFault (before ++ map (λ m. m.lsa) ms) → AreFaultless before (map lsa_bytes ms)
+faultless_again : (before : List Lsa) (ms : List Masked) → All IsWritable ms →
+    HaveNoFault (before ++ map (λ m. m.lsa) ms) → AreFaultless before (map lsa_bytes ms)
 faultless_again before [] all none = tt
 faultless_again before (m ∷ ms) all none =
     let is = All-head IsWritable m ms all in

@@ -68,7 +68,8 @@ spot_from-push kind id number place [] lsa = by_test (named kind id lsa)
     by_test false = refl
 spot_from-push kind id number place (other ∷ lsas) lsa =
     let one : ℕ = cond (is_kind kind other) 1 0 in
-    let counted : number + one + count_by (is_kind kind) lsas ≡ number + count_by (is_kind kind) (other ∷ lsas) = omega (arith, sum_by-cons (λ l. cond (is_kind kind l) 1 0) other lsas) in
+    let counted : number + one + count_by (is_kind kind) lsas ≡ number + count_by (is_kind kind) (other ∷ lsas) =
+    omega (arith, sum_by-cons (λ l. cond (is_kind kind l) 1 0) other lsas) in
     let placed : place + 1 + length lsas ≡ place + length (other ∷ lsas) = omega arith in
     let first = spot_if (named kind id other) number place in
     let later = spot_from kind id (number + one) (place + 1) lsas in
@@ -77,14 +78,21 @@ spot_from-push kind id number place (other ∷ lsas) lsa =
     ∙ ap (λ (n : ℕ). option_or (option_or first later) (spot_if (named kind id lsa) n (place + 1 + length lsas))) counted
     ∙ ap (λ (p : ℕ). option_or (option_or first later) (spot_if (named kind id lsa) (number + count_by (is_kind kind) (other ∷ lsas)) p)) placed
 
-pub found_push : (kind : Kind) (lsas : List Lsa) (lsa : Lsa) (old new : Found) (place : ℕ) → HasFound kind lsas old → Adds old new (name_as kind lsa) place → place ≡ length lsas → HasFound kind (lsas ++ lsa ∷ []) new
+pub found_push : (kind : Kind) (lsas : List Lsa) (lsa : Lsa) (old new : Found) (place : ℕ) → HasFound kind lsas old →
+    Adds old new (name_as kind lsa) place → place ≡ length lsas → HasFound kind (lsas ++ lsa ∷ []) new
 found_push kind lsas lsa old new place has adds place_is = record {
   spots = λ id. adds.spots id
       ∙ ap (λ (found : Option Spot). option_or found (spot_if (named kind id lsa) old.count place)) (has.spots id)
       ∙ ap (λ (n : ℕ). option_or (spot_from kind id 0 0 lsas) (spot_if (named kind id lsa) n place)) (has.count ∙ sym_zero_add (count_by (is_kind kind) lsas))
-      ∙ ap (λ (p : ℕ). option_or (spot_from kind id 0 0 lsas) (spot_if (named kind id lsa) (0 + count_by (is_kind kind) lsas) p)) (place_is ∙ sym_zero_add (length lsas))
+      ∙ ap (λ (p : ℕ). option_or (spot_from kind id 0 0 lsas)
+      (spot_if (named kind id lsa) (0 + count_by (is_kind kind) lsas) p)) (place_is ∙ sym_zero_add (length lsas))
       ∙ sym (spot_from-push kind id 0 0 lsas lsa);
-  count = adds.count ∙ omega (arith, has.count, ap (λ (b : Bool). let n : ℕ = cond b 1 0 in n) (has_name kind lsa), sum_by-append (λ l. cond (is_kind kind l) 1 0) lsas (lsa ∷ []));
+  count = adds.count ∙ omega (
+    arith,
+    has.count,
+    ap (λ (b : Bool). let n : ℕ = cond b 1 0 in n) (has_name kind lsa),
+    sum_by-append (λ l. cond (is_kind kind l) 1 0) lsas (lsa ∷ []),
+  );
 }
   where
     sym_zero_add : (n : ℕ) → n ≡ 0 + n
@@ -104,18 +112,24 @@ spot_back : (kind : Kind) (id : ℕ) (leads : Body → Bool) (n v p : ℕ) (lsas
     (LeadsAt leads n v p lsas (vertex_back (n + v) (named kind id) leads (filter (is_kind kind) lsas)))
 spot_back kind id leads n v p [] = refl
 spot_back kind id leads n v p (lsa ∷ more) =
-    by_tests (is_kind kind lsa) (named kind id lsa) (named_of_kind kind id lsa) (vertex_back (n + v) (named kind id) leads (filter (is_kind kind) (lsa ∷ more))) (seen (is_kind kind lsa))
+    by_tests (is_kind kind lsa) (named kind id lsa) (named_of_kind kind id lsa)
+    (vertex_back (n + v) (named kind id) leads (filter (is_kind kind) (lsa ∷ more))) (seen (is_kind kind lsa))
     (λ w. spot_back kind id leads n w (p + 1) more)
   where
     after : Bool → Bool → Option ℕ
-    after k b = cond k (cond b (cond (leads lsa.body) (Some (n + v)) None) (vertex_back (n + v + 1) (named kind id) leads (filter (is_kind kind) more))) (vertex_back (n + v) (named kind id) leads (filter (is_kind kind) more))
+    after k b = cond k (cond b (cond (leads lsa.body) (Some (n + v)) None)
+        (vertex_back (n + v + 1) (named kind id) leads (filter (is_kind kind) more)))
+        (vertex_back (n + v) (named kind id) leads (filter (is_kind kind) more))
 
-    seen : (k : Bool) → vertex_back (n + v) (named kind id) leads (cond k (lsa ∷ filter (is_kind kind) more) (filter (is_kind kind) more)) ≡ after k (named kind id lsa)
+    seen : (k : Bool) → vertex_back (n + v) (named kind id) leads
+        (cond k (lsa ∷ filter (is_kind kind) more) (filter (is_kind kind) more)) ≡ after k (named kind id lsa)
     seen true = refl
     seen false = refl
 
-    moved : (total : Option ℕ) (w : ℕ) → v ≤ w → w ≤ v + 1 → total ≡ vertex_back (n + w) (named kind id) leads (filter (is_kind kind) more) → (found : Option Spot)
-        → MatchOption found (vertex_back (n + w) (named kind id) leads (filter (is_kind kind) more) ≡ None) (LeadsAt leads n w (p + 1) more (vertex_back (n + w) (named kind id) leads (filter (is_kind kind) more)))
+    moved : (total : Option ℕ) (w : ℕ) → v ≤ w → w ≤ v + 1 →
+        total ≡ vertex_back (n + w) (named kind id) leads (filter (is_kind kind) more) → (found : Option Spot)
+        → MatchOption found (vertex_back (n + w) (named kind id) leads (filter (is_kind kind) more) ≡ None)
+        (LeadsAt leads n w (p + 1) more (vertex_back (n + w) (named kind id) leads (filter (is_kind kind) more)))
         → MatchOption found (total ≡ None) (LeadsAt leads n v p (lsa ∷ more) total)
     moved total w low high is None none = is ∙ none
     moved total w low high is (Some spot) at =
@@ -128,7 +142,9 @@ spot_back kind id leads n v p (lsa ∷ more) =
         }
 
     by_tests : (k b : Bool) → (b ≡ true → k ≡ true) → (total : Option ℕ) → total ≡ after k b
-        → ((w : ℕ) → MatchOption (spot_from kind id w (p + 1) more) (vertex_back (n + w) (named kind id) leads (filter (is_kind kind) more) ≡ None) (LeadsAt leads n w (p + 1) more (vertex_back (n + w) (named kind id) leads (filter (is_kind kind) more))))
+        → ((w : ℕ) → MatchOption (spot_from kind id w (p + 1) more)
+        (vertex_back (n + w) (named kind id) leads (filter (is_kind kind) more) ≡ None)
+        (LeadsAt leads n w (p + 1) more (vertex_back (n + w) (named kind id) leads (filter (is_kind kind) more))))
         → MatchOption (option_or (spot_if b v p) (spot_from kind id (v + cond k 1 0) (p + 1) more)) (total ≡ None) (LeadsAt leads n v p (lsa ∷ more) total)
     by_tests true true of_kind total is later =
         let here : 0 ≡ p - p = omega arith in
@@ -141,10 +157,14 @@ spot_back kind id leads n v p (lsa ∷ more) =
     by_tests false true of_kind total is later = absurd (false≢true (of_kind refl))
     by_tests true false of_kind total is later =
         let next : n + v + 1 ≡ n + (v + 1) = omega arith in
-        moved total (v + 1) (omega arith) (omega arith) (is ∙ ap (λ (m : ℕ). vertex_back m (named kind id) leads (filter (is_kind kind) more)) next) (spot_from kind id (v + 1) (p + 1) more) (later (v + 1))
+        moved total (v + 1) (omega arith) (omega arith)
+        (is ∙ ap (λ (m : ℕ). vertex_back m (named kind id) leads (filter (is_kind kind) more)) next)
+        (spot_from kind id (v + 1) (p + 1) more) (later (v + 1))
     by_tests false false of_kind total is later =
         let next : n + v ≡ n + (v + 0) = omega arith in
-        moved total (v + 0) (omega arith) (omega arith) (is ∙ ap (λ (m : ℕ). vertex_back m (named kind id) leads (filter (is_kind kind) more)) next) (spot_from kind id (v + 0) (p + 1) more) (later (v + 0))
+        moved total (v + 0) (omega arith) (omega arith)
+        (is ∙ ap (λ (m : ℕ). vertex_back m (named kind id) leads (filter (is_kind kind) more)) next)
+        (spot_from kind id (v + 0) (p + 1) more) (later (v + 0))
 
 -- how the LSAs of a kind lead back
 pub record Returns (lsas : List Lsa) (leads : Body → Bool) (n : ℕ) (total : Option ℕ) (spot : Spot) : Type 0 where
@@ -152,47 +172,71 @@ pub record Returns (lsas : List Lsa) (leads : Body → Bool) (n : ℕ) (total : 
   pub near : spot.number ≤ spot.place
   pub back : (d : Lsa) (b : Bool) → leads (get_or lsas spot.place d).body ≡ b → cond b (Some (n + spot.number)) None ≡ total
 
-returns_at : (lsas : List Lsa) (leads : Body → Bool) (n : ℕ) (total : Option ℕ) (spot : Spot) → LeadsAt leads n 0 0 lsas total spot → Returns lsas leads n total spot
+returns_at : (lsas : List Lsa) (leads : Body → Bool) (n : ℕ) (total : Option ℕ) (spot : Spot) →
+    LeadsAt leads n 0 0 lsas total spot → Returns lsas leads n total spot
 returns_at lsas leads n total spot at = record {
   within = omega (arith, at.within);
   near = omega (arith, at.near);
   back = λ d b led.
       (let place : spot.place - 0 ≡ spot.place = omega arith in
-      sym (at.back d ∙ ap (λ (i : ℕ). cond (leads (get_or lsas i d).body) (Some (n + spot.number)) None) place ∙ ap (λ (c : Bool). cond c (Some (n + spot.number)) None) led));
+      sym (at.back d ∙ ap (λ (i : ℕ). cond (leads (get_or lsas i d).body) (Some (n + spot.number)) None) place
+      ∙ ap (λ (c : Bool). cond c (Some (n + spot.number)) None) led));
 }
 
-router_total : (lsas : List Lsa) (router : ℕ) (leads : Body → Bool) → vertex_back (0 + 0) (named Router router) leads (filter (is_kind Router) lsas) ≡ router_back lsas router leads
+router_total : (lsas : List Lsa) (router : ℕ) (leads : Body → Bool) →
+    vertex_back (0 + 0) (named Router router) leads (filter (is_kind Router) lsas) ≡ router_back lsas router leads
 router_total lsas router leads = ap (λ (test : Lsa → Bool). vertex_back 0 test leads (routers lsas)) (λ i lsa. named_router router lsa i)
 
-network_total : (lsas : List Lsa) (id : ℕ) (leads : Body → Bool) → vertex_back (length (routers lsas) + 0) (named Network id) leads (filter (is_kind Network) lsas) ≡ network_back lsas id leads
+network_total : (lsas : List Lsa) (id : ℕ) (leads : Body → Bool) →
+    vertex_back (length (routers lsas) + 0) (named Network id) leads (filter (is_kind Network) lsas)
+    ≡ network_back lsas id leads
 network_total lsas id leads =
     ap (λ (n : ℕ). vertex_back n (named Network id) leads (networks lsas)) (add-zero (length (routers lsas)))
     ∙ ap (λ (test : Lsa → Bool). vertex_back (length (routers lsas)) test leads (networks lsas)) (λ i lsa. named_network id lsa i)
 
 -- of a router that is found, and of one that isn't
-pub router_found : (lsas self : List Lsa) (found : Found) (router : ℕ) (leads : Body → Bool) (spot : Spot) → HasFound Router lsas found → lsas ≡ self → Some spot ≡ get nat_cmp found.by_name router → Returns lsas leads 0 (router_back self router leads) spot
+pub router_found : (lsas self : List Lsa) (found : Found) (router : ℕ) (leads : Body → Bool) (spot : Spot) →
+    HasFound Router lsas found → lsas ≡ self → Some spot ≡ get nat_cmp found.by_name router →
+    Returns lsas leads 0 (router_back self router leads) spot
 router_found lsas self found router leads spot has same is =
-    let at = subst (λ (o : Option Spot). MatchOption o (vertex_back (0 + 0) (named Router router) leads (filter (is_kind Router) lsas) ≡ None) (LeadsAt leads 0 0 0 lsas (vertex_back (0 + 0) (named Router router) leads (filter (is_kind Router) lsas))))
+    let at = subst (λ (o : Option Spot).
+    MatchOption o (vertex_back (0 + 0) (named Router router) leads (filter (is_kind Router) lsas) ≡ None)
+    (LeadsAt leads 0 0 0 lsas (vertex_back (0 + 0) (named Router router) leads (filter (is_kind Router) lsas))))
     (sym (is ∙ has.spots router)) (spot_back Router router leads 0 0 0 lsas) in
-    returns_at lsas leads 0 (router_back self router leads) spot (subst (λ (total : Option ℕ). LeadsAt leads 0 0 0 lsas total spot) (router_total lsas router leads ∙ ap (λ (ls : List Lsa). router_back ls router leads) same) at)
+    returns_at lsas leads 0 (router_back self router leads) spot
+    (subst (λ (total : Option ℕ). LeadsAt leads 0 0 0 lsas total spot) (router_total lsas router leads
+    ∙ ap (λ (ls : List Lsa). router_back ls router leads) same) at)
 
-pub router_unfound : (lsas self : List Lsa) (found : Found) (router : ℕ) (leads : Body → Bool) → HasFound Router lsas found → lsas ≡ self → None ≡ get nat_cmp found.by_name router → None ≡ router_back self router leads
+pub router_unfound : (lsas self : List Lsa) (found : Found) (router : ℕ) (leads : Body → Bool) →
+    HasFound Router lsas found → lsas ≡ self → None ≡ get nat_cmp found.by_name router →
+    None ≡ router_back self router leads
 router_unfound lsas self found router leads has same is =
-    let none = subst (λ (o : Option Spot). MatchOption o (vertex_back (0 + 0) (named Router router) leads (filter (is_kind Router) lsas) ≡ None) (LeadsAt leads 0 0 0 lsas (vertex_back (0 + 0) (named Router router) leads (filter (is_kind Router) lsas))))
+    let none = subst (λ (o : Option Spot).
+    MatchOption o (vertex_back (0 + 0) (named Router router) leads (filter (is_kind Router) lsas) ≡ None)
+    (LeadsAt leads 0 0 0 lsas (vertex_back (0 + 0) (named Router router) leads (filter (is_kind Router) lsas))))
     (sym (is ∙ has.spots router)) (spot_back Router router leads 0 0 0 lsas) in
     sym none ∙ router_total lsas router leads ∙ ap (λ (ls : List Lsa). router_back ls router leads) same
 
-pub network_found : (lsas self : List Lsa) (found : Found) (id : ℕ) (leads : Body → Bool) (spot : Spot) → HasFound Network lsas found → lsas ≡ self → Some spot ≡ get nat_cmp found.by_name id → Returns lsas leads (length (routers lsas)) (network_back self id leads) spot
+pub network_found : (lsas self : List Lsa) (found : Found) (id : ℕ) (leads : Body → Bool) (spot : Spot) →
+    HasFound Network lsas found → lsas ≡ self → Some spot ≡ get nat_cmp found.by_name id →
+    Returns lsas leads (length (routers lsas)) (network_back self id leads) spot
 network_found lsas self found id leads spot has same is =
     let n = length (routers lsas) in
-    let at = subst (λ (o : Option Spot). MatchOption o (vertex_back (n + 0) (named Network id) leads (filter (is_kind Network) lsas) ≡ None) (LeadsAt leads n 0 0 lsas (vertex_back (n + 0) (named Network id) leads (filter (is_kind Network) lsas))))
+    let at = subst (λ (o : Option Spot).
+    MatchOption o (vertex_back (n + 0) (named Network id) leads (filter (is_kind Network) lsas) ≡ None)
+    (LeadsAt leads n 0 0 lsas (vertex_back (n + 0) (named Network id) leads (filter (is_kind Network) lsas))))
     (sym (is ∙ has.spots id)) (spot_back Network id leads n 0 0 lsas) in
-    returns_at lsas leads n (network_back self id leads) spot (subst (λ (total : Option ℕ). LeadsAt leads n 0 0 lsas total spot) (network_total lsas id leads ∙ ap (λ (ls : List Lsa). network_back ls id leads) same) at)
+    returns_at lsas leads n (network_back self id leads) spot
+    (subst (λ (total : Option ℕ). LeadsAt leads n 0 0 lsas total spot) (network_total lsas id leads
+    ∙ ap (λ (ls : List Lsa). network_back ls id leads) same) at)
 
-pub network_unfound : (lsas self : List Lsa) (found : Found) (id : ℕ) (leads : Body → Bool) → HasFound Network lsas found → lsas ≡ self → None ≡ get nat_cmp found.by_name id → None ≡ network_back self id leads
+pub network_unfound : (lsas self : List Lsa) (found : Found) (id : ℕ) (leads : Body → Bool) →
+    HasFound Network lsas found → lsas ≡ self → None ≡ get nat_cmp found.by_name id → None ≡ network_back self id leads
 network_unfound lsas self found id leads has same is =
     let n = length (routers lsas) in
-    let none = subst (λ (o : Option Spot). MatchOption o (vertex_back (n + 0) (named Network id) leads (filter (is_kind Network) lsas) ≡ None) (LeadsAt leads n 0 0 lsas (vertex_back (n + 0) (named Network id) leads (filter (is_kind Network) lsas))))
+    let none = subst (λ (o : Option Spot).
+    MatchOption o (vertex_back (n + 0) (named Network id) leads (filter (is_kind Network) lsas) ≡ None)
+    (LeadsAt leads n 0 0 lsas (vertex_back (n + 0) (named Network id) leads (filter (is_kind Network) lsas))))
     (sym (is ∙ has.spots id)) (spot_back Network id leads n 0 0 lsas) in
     sym none ∙ network_total lsas id leads ∙ ap (λ (ls : List Lsa). network_back ls id leads) same
 

@@ -11,14 +11,15 @@ use Rattle.lsa_bytes.specs.Grammar.{length_of, said_by}
 use Rattle.lsa_bytes.specs.Faults.{length_fault, fault_of, fault_at}
 use Rattle.lsa_bytes.specs.Files.{ComesTo, Refuses}
 use Rattle.lsa_bytes.proofs.Lengths.{option_or-none, begins_whole}
-use Rattle.lsa_bytes.proofs.Underway.{IsUnderway, IsFirst, begin, next, all_said}
+use Rattle.lsa_bytes.proofs.ReadSoFar.{IsUnderway, IsFirst, begin, next, all_said}
 use Rattle.lsa_bytes.proofs.Pieces.{one_outcome}
 use Rattle.input_files.specs.Readings.{Says, EndsAs}
 use Rattle.input_files.specs.Stops.{StopsAs, IsReady}
 use Rattle.lsa_commands.specs.LsaFiles.{by_fault, lsas_behind, lsas_in, if_lsas, lsa_stop}
 
 -- the first LSA of the rest has a fault, or the bytes come to what they come to behind it
-by_found : (bytes rest : List ℕ) (before : List Lsa) (offset : ℕ) (later : Result (List Lsa) (LsaFault × ℕ)) (found : Option LsaFault) → IsUnderway bytes rest before → 0 < length rest → offset + length rest ≡ length bytes →
+by_found : (bytes rest : List ℕ) (before : List Lsa) (offset : ℕ) (later : Result (List Lsa) (LsaFault × ℕ))
+    (found : Option LsaFault) → IsUnderway bytes rest before → 0 < length rest → offset + length rest ≡ length bytes →
     fault_at before rest ≡ found → (fault_at before rest ≡ None → ComesTo bytes later) → ComesTo bytes (by_fault offset found later)
 by_found bytes rest before offset later (Some fault) so_far some at is further = record {
   pieces = so_far.pieces;
@@ -31,12 +32,15 @@ by_found bytes rest before offset later (Some fault) so_far some at is further =
 }
 by_found bytes rest before offset later None so_far some at is further = further is
 
-come_to : (most : ℕ) (bytes rest : List ℕ) (before : List Lsa) (offset : ℕ) → IsUnderway bytes rest before → length rest ≤ most → offset + length rest ≡ length bytes → ComesTo bytes (lsas_behind most before offset rest)
+come_to : (most : ℕ) (bytes rest : List ℕ) (before : List Lsa) (offset : ℕ) → IsUnderway bytes rest before →
+    length rest ≤ most → offset + length rest ≡ length bytes → ComesTo bytes (lsas_behind most before offset rest)
 come_to zero bytes rest before offset so_far few at = all_said bytes rest before so_far (omega (arith, few))
 come_to (suc most) bytes [] before offset so_far few at = all_said bytes [] before so_far refl
 come_to (suc most) bytes (byte ∷ more) before offset so_far few at =
     let rest : List ℕ = byte ∷ more in
-    by_found bytes rest before offset (lsas_behind most (before ++ said_by (take (length_of rest) rest)) (offset + length_of rest) (drop (length_of rest) rest)) (fault_at before rest) so_far (omega arith) at refl
+    by_found bytes rest before offset
+    (lsas_behind most (before ++ said_by (take (length_of rest) rest)) (offset + length_of rest)
+    (drop (length_of rest) rest)) (fault_at before rest) so_far (omega arith) at refl
     (λ none.
     (let parts = option_or-none (length_fault rest) (fault_of before (take (length_of rest) rest)) none in
     let begins = begins_whole rest parts.0 in
@@ -55,10 +59,20 @@ lsas_are bytes r is = one_outcome bytes (lsas_in bytes) r (comes bytes) is
 
 -- what was read of a file's bytes
 pub lsas_ready : (file bytes : List ℕ) (lsas : List Lsa) → ComesTo bytes (Ok lsas) → IsReady (if_lsas file (lsas_in bytes)) [] (λ made said. made ≡ said) lsas
-lsas_ready file bytes lsas is = record { said = lsas; ends = subst (λ (r : Result (List Lsa) (LsaFault × ℕ)). EndsAs (if_lsas file r) [] (Says lsas)) (sym (lsas_are bytes (Ok lsas) is)) refl; fits = refl }
+lsas_ready file bytes lsas is =
+    record {
+      said = lsas;
+      ends = subst
+          (λ (r : Result (List Lsa) (LsaFault × ℕ)). EndsAs (if_lsas file r) [] (Says lsas))
+          (sym (lsas_are bytes (Ok lsas) is)) refl;
+      fits = refl;
+    }
 
 -- the stop of LSAs that are refused
-pub lsas_stop : (file : Bor (List ℕ)) (bytes : List ℕ) (stop : LsaStop) → Refuses bytes stop → StopsAs (if_lsas file.now (lsas_in bytes)) [] (lsa_stop stop file)
+pub lsas_stop : (file : Bor (List ℕ)) (bytes : List ℕ) (stop : LsaStop) → Refuses bytes stop →
+    StopsAs (if_lsas file.now (lsas_in bytes)) [] (lsa_stop stop file)
 lsas_stop file bytes (Refused fault offset) is =
-    subst (λ (r : Result (List Lsa) (LsaFault × ℕ)). StopsAs (if_lsas file.now r) [] (lsa_stop (Refused fault offset) file)) (sym (lsas_are bytes (Err (fault, offset)) is)) refl
+    subst (λ (r : Result (List Lsa) (LsaFault × ℕ)).
+    StopsAs (if_lsas file.now r) [] (lsa_stop (Refused fault offset) file))
+    (sym (lsas_are bytes (Err (fault, offset)) is)) refl
 lsas_stop file bytes OutOfMemory is = tt

@@ -5,6 +5,7 @@ use Rattle.std.specs.List.{list_any}
 use Rattle.std.proofs.lemmas.Bool.{false≢true}
 use Rattle.std.proofs.lemmas.List.{length-append, length-map}
 use Rattle.std.proofs.lemmas.List.Elements.{All-nil, All-cons, All-append}
+use Rattle.std.proofs.lemmas.Simd.{map-map}
 use Rattle.cost_base.specs.declared.Status.{Status}
 use Rattle.cost_base.specs.declared.Status.TheVariants.{Done}
 use Rattle.cost_base.specs.Lists.{numbers_from}
@@ -40,13 +41,16 @@ refusal_stops A r (stops.ReadFault file) is = absurd is
 refusal_stops A r stops.OutOfMemory is = absurd is
 
 -- a router without a router-LSA stops the rest
-pub unknown_stops : (file : List ℕ) (id place : ℕ) (lsas : List Lsa) (next : Reading (List Lsa)) (stop : Stop) → list_any (is_router_of id) lsas ≡ false → IsRefusal (record { number = number_of NoRouterId; file = file; line = place }) stop
+pub unknown_stops : (file : List ℕ) (id place : ℕ) (lsas : List Lsa) (next : Reading (List Lsa)) (stop : Stop) →
+    list_any (is_router_of id) lsas ≡ false →
+    IsRefusal (record { number = number_of NoRouterId; file = file; line = place }) stop
     → StopsAs (unless_unknown file id place lsas next) [] stop
 unknown_stops file id place lsas next stop unknown is =
     subst (λ b. StopsAs (cond b next (Refused (record { number = number_of NoRouterId; file = file; line = place }))) [] stop) (sym unknown)
     (refusal_stops (List Lsa) (record { number = number_of NoRouterId; file = file; line = place }) stop is)
 
-pub known_goes_on : (file : List ℕ) (id place : ℕ) (lsas : List Lsa) (next : Reading (List Lsa)) → list_any (is_router_of id) lsas ≡ true → unless_unknown file id place lsas next ≡ next
+pub known_goes_on : (file : List ℕ) (id place : ℕ) (lsas : List Lsa) (next : Reading (List Lsa)) →
+    list_any (is_router_of id) lsas ≡ true → unless_unknown file id place lsas next ≡ next
 known_goes_on file id place lsas next known = ap (λ b. cond b next (Refused (record { number = number_of NoRouterId; file = file; line = place }))) known
 
 -- Each edge has a fixed price.
@@ -61,12 +65,14 @@ edge_fixed from price (Some to) is = All-cons IsFixed (record { from = from; to 
 links_fixed : (lsas : List Lsa) (vertex router : ℕ) (links : List LsaLink) → All IsFixed (flat_map (link_edge lsas vertex router) links)
 links_fixed lsas vertex router [] = All-nil IsFixed
 links_fixed lsas vertex router (link ∷ links) =
-    All-append IsFixed (link_edge lsas vertex router link) (flat_map (link_edge lsas vertex router) links) (edge_fixed vertex (Fixed link.metric) (far_end lsas router link) tt) (links_fixed lsas vertex router links)
+    All-append IsFixed (link_edge lsas vertex router link) (flat_map (link_edge lsas vertex router) links)
+    (edge_fixed vertex (Fixed link.metric) (far_end lsas router link) tt) (links_fixed lsas vertex router links)
 
 attached_fixed : (lsas : List Lsa) (vertex id : ℕ) (attached : List ℕ) → All IsFixed (flat_map (attached_edge lsas vertex id) attached)
 attached_fixed lsas vertex id [] = All-nil IsFixed
 attached_fixed lsas vertex id (router ∷ attached) =
-    All-append IsFixed (attached_edge lsas vertex id router) (flat_map (attached_edge lsas vertex id) attached) (edge_fixed vertex Zero (router_back lsas router (has_link 2 id)) tt) (attached_fixed lsas vertex id attached)
+    All-append IsFixed (attached_edge lsas vertex id router) (flat_map (attached_edge lsas vertex id) attached)
+    (edge_fixed vertex Zero (router_back lsas router (has_link 2 id)) tt) (attached_fixed lsas vertex id attached)
 
 body_fixed : (lsas : List Lsa) (vertex : ℕ) (lsa : Lsa) (body : Body) → All IsFixed (edges_from lsas vertex lsa body)
 body_fixed lsas vertex lsa (Links links) = links_fixed lsas vertex lsa.router links
@@ -75,13 +81,16 @@ body_fixed lsas vertex lsa (Attached attached) = attached_fixed lsas vertex lsa.
 order_fixed : (lsas : List Lsa) (vertex : ℕ) (some : List Lsa) → All IsFixed (edges_in_order lsas vertex some)
 order_fixed lsas vertex [] = All-nil IsFixed
 order_fixed lsas vertex (lsa ∷ some) =
-    All-append IsFixed (edges_from lsas vertex lsa lsa.body) (edges_in_order lsas (vertex + 1) some) (body_fixed lsas vertex lsa lsa.body) (order_fixed lsas (vertex + 1) some)
+    All-append IsFixed (edges_from lsas vertex lsa lsa.body) (edges_in_order lsas (vertex + 1) some)
+    (body_fixed lsas vertex lsa lsa.body) (order_fixed lsas (vertex + 1) some)
 
 pub point_fits : (lsas : List Lsa) → FitsPoint (lsa_graph lsas) (at_costs [])
 point_fits lsas = record {
   scale = omega arith;
   scale_below = omega arith;
-  priced = All-append IsFixed (edges_in_order lsas 0 (routers lsas)) (edges_in_order lsas (length (routers lsas)) (networks lsas)) (order_fixed lsas 0 (routers lsas)) (order_fixed lsas (length (routers lsas)) (networks lsas));
+  priced = All-append IsFixed (edges_in_order lsas 0 (routers lsas))
+      (edges_in_order lsas (length (routers lsas)) (networks lsas)) (order_fixed lsas 0 (routers lsas))
+      (order_fixed lsas (length (routers lsas)) (networks lsas));
   least = All-nil (λ x. 1 ≤ x);
   most = All-nil (λ x. x ≤ 65535 * 1);
 }
@@ -92,7 +101,8 @@ back_below : (n : ℕ) (sought : Lsa → Bool) (xs : List Lsa) → list_any soug
 back_below n sought [] any = absurd (false≢true any)
 back_below n sought (x ∷ xs) any = by_head (sought x) any (back_below (n + 1) sought xs)
   where
-    by_head : (b : Bool) → (b || list_any sought xs) ≡ true → (list_any sought xs ≡ true → unwrap_or (vertex_back (n + 1) sought (λ body. true) xs) 0 < n + 1 + length xs)
+    by_head : (b : Bool) → (b || list_any sought xs) ≡ true →
+        (list_any sought xs ≡ true → unwrap_or (vertex_back (n + 1) sought (λ body. true) xs) 0 < n + 1 + length xs)
         → unwrap_or (cond b (cond true (Some n) None) (vertex_back (n + 1) sought (λ body. true) xs)) 0 < n + suc (length xs)
     by_head true some rest = omega arith
     by_head false some rest = omega (arith, rest some)
@@ -101,11 +111,14 @@ any_router : (id : ℕ) (lsas : List Lsa) → list_any (is_router_of id) lsas �
 any_router id [] any = any
 any_router id (lsa ∷ lsas) any = by_kind (is_router lsa) refl any (any_router id lsas)
   where
-    by_kind : (b : Bool) → is_router lsa ≡ b → (is_router_of id lsa || list_any (is_router_of id) lsas) ≡ true → (list_any (is_router_of id) lsas ≡ true → list_any (is_router_of id) (routers lsas) ≡ true)
+    by_kind : (b : Bool) → is_router lsa ≡ b → (is_router_of id lsa || list_any (is_router_of id) lsas) ≡ true →
+        (list_any (is_router_of id) lsas ≡ true → list_any (is_router_of id) (routers lsas) ≡ true)
         → list_any (is_router_of id) (cond b (lsa ∷ routers lsas) (routers lsas)) ≡ true
     by_kind true is some rest = by_name (is_router_of id lsa) some rest
       where
-        by_name : (c : Bool) → (c || list_any (is_router_of id) lsas) ≡ true → (list_any (is_router_of id) lsas ≡ true → list_any (is_router_of id) (routers lsas) ≡ true) → (c || list_any (is_router_of id) (routers lsas)) ≡ true
+        by_name : (c : Bool) → (c || list_any (is_router_of id) lsas) ≡ true →
+            (list_any (is_router_of id) lsas ≡ true → list_any (is_router_of id) (routers lsas) ≡ true) →
+            (c || list_any (is_router_of id) (routers lsas)) ≡ true
         by_name true s r = refl
         by_name false s r = r s
     by_kind false is some rest = rest (sym (ap (λ b. (b && lsa.router == id) || list_any (is_router_of id) lsas) is) ∙ some)
@@ -124,12 +137,10 @@ vertex_within lsas id known =
 
 -- What is found.
 
-map_twice : {X Y Z : Type 0} (f : Y → Z) (g : X → Y) (xs : List X) → map f (map g xs) ≡ map (λ x. f (g x)) xs
-map_twice f g [] = refl
-map_twice f g (x ∷ xs) = ap (λ ys. f (g x) ∷ ys) (map_twice f g xs)
-
 -- between two routers
-pub found_between : (lsas : List Lsa) (g : Area) (ids : List ℕ) (from to start end : ℕ) (bytes : List ℕ) → g ≡ lsa_graph lsas → ids ≡ vertex_ids lsas → start ≡ vertex_of lsas from → end ≡ vertex_of lsas to → (from == to) ≡ false
+pub found_between : (lsas : List Lsa) (g : Area) (ids : List ℕ) (from to start end : ℕ) (bytes : List ℕ) →
+    g ≡ lsa_graph lsas → ids ≡ vertex_ids lsas → start ≡ vertex_of lsas from → end ≡ vertex_of lsas to →
+    (from == to) ≡ false
     → EndsBy g ids start end bytes → IsFoundEnd lsas from to bytes
 found_between lsas g ids from to start end bytes graph names starts ends apart is =
     let moved = subst (λ (h : Area). EndsBy h (vertex_ids lsas) (vertex_of lsas from) (vertex_of lsas to) bytes) graph
@@ -140,12 +151,15 @@ found_between lsas g ids from to start end bytes graph names starts ends apart i
       least = moved.least;
       written = moved.written
           ∙ ap (λ (hops : List ℕ). route_end (slice_index_or moved.room.costs (vertex_of lsas from) None) hops)
-          (sym (map_twice (id_at lsas) (λ e. (edge_at (lsa_graph lsas) e).to) (tight_out (lsa_graph lsas) (at_costs []) moved.room (vertex_of lsas from))))
-          ∙ sym (ap (λ b. cond b (codes " cost 0 first none") (route_end (slice_index_or moved.room.costs (vertex_of lsas from) None) (hop_ids lsas moved.room.costs (vertex_of lsas from)))) apart);
+          (sym (map-map (id_at lsas) (λ e. (edge_at (lsa_graph lsas) e).to) (tight_out (lsa_graph lsas) (at_costs []) moved.room (vertex_of lsas from))))
+          ∙ sym (ap (λ b. cond b (codes " cost 0 first none")
+          (route_end (slice_index_or moved.room.costs (vertex_of lsas from) None)
+          (hop_ids lsas moved.room.costs (vertex_of lsas from)))) apart);
     }
 
 -- from a router to itself
-pub found_own : (lsas : List Lsa) (g : Area) (ids : List ℕ) (from to start end : ℕ) (bytes own : List ℕ) → g ≡ lsa_graph lsas → end ≡ vertex_of lsas to → (from == to) ≡ true → own ≡ codes " cost 0 first none"
+pub found_own : (lsas : List Lsa) (g : Area) (ids : List ℕ) (from to start end : ℕ) (bytes own : List ℕ) →
+    g ≡ lsa_graph lsas → end ≡ vertex_of lsas to → (from == to) ≡ true → own ≡ codes " cost 0 first none"
     → EndsBy g ids start end bytes → IsFoundEnd lsas from to own
 found_own lsas g ids from to start end bytes own graph ends same own_is is =
     let moved = subst (λ (h : Area). EndsBy h ids start (vertex_of lsas to) bytes) graph (subst (λ t. EndsBy g ids start t bytes) ends is) in
@@ -153,24 +167,37 @@ found_own lsas g ids from to start end bytes own graph ends same own_is is =
       distances = moved.room.costs;
       least = moved.least;
       written = own_is
-          ∙ sym (ap (λ b. cond b (codes " cost 0 first none") (route_end (slice_index_or moved.room.costs (vertex_of lsas from) None) (hop_ids lsas moved.room.costs (vertex_of lsas from)))) same);
+          ∙ sym (ap (λ b. cond b (codes " cost 0 first none")
+          (route_end (slice_index_or moved.room.costs (vertex_of lsas from) None)
+          (hop_ids lsas moved.room.costs (vertex_of lsas from)))) same);
     }
 
 -- What `route` comes to behind its file.
 
-pub unknown_start : (file : List ℕ) (from to : ℕ) (lsas slice : List Lsa) (stop : Stop) → slice ≡ lsas → (list_any (is_router_of from) slice ≡ false) × IsRefusal (record { number = number_of NoRouterId; file = file; line = 0 }) stop →
+pub unknown_start : (file : List ℕ) (from to : ℕ) (lsas slice : List Lsa) (stop : Stop) → slice ≡ lsas →
+    (list_any (is_router_of from) slice ≡ false)
+    × IsRefusal (record { number = number_of NoRouterId; file = file; line = 0 }) stop →
     StopsAs (unless_unknown file from 0 lsas (unless_unknown file to 1 lsas (Ready lsas))) [] stop
 unknown_start file from to lsas slice stop same is =
     unknown_stops file from 0 lsas (unless_unknown file to 1 lsas (Ready lsas)) stop (sym (ap (list_any (is_router_of from)) same) ∙ is.0) is.1
 
-pub unknown_end : (file : List ℕ) (from to : ℕ) (lsas slice other : List Lsa) (stop : Stop) → slice ≡ lsas → other ≡ lsas → list_any (is_router_of from) slice ≡ true →
-    (list_any (is_router_of to) other ≡ false) × IsRefusal (record { number = number_of NoRouterId; file = file; line = 1 }) stop → StopsAs (unless_unknown file from 0 lsas (unless_unknown file to 1 lsas (Ready lsas))) [] stop
+pub unknown_end : (file : List ℕ) (from to : ℕ) (lsas slice other : List Lsa) (stop : Stop) → slice ≡ lsas →
+    other ≡ lsas → list_any (is_router_of from) slice ≡ true →
+    (list_any (is_router_of to) other ≡ false)
+    × IsRefusal (record { number = number_of NoRouterId; file = file; line = 1 }) stop →
+    StopsAs (unless_unknown file from 0 lsas (unless_unknown file to 1 lsas (Ready lsas))) [] stop
 unknown_end file from to lsas slice other stop same also known is =
-    subst (λ (m : Reading (List Lsa)). StopsAs m [] stop) (sym (known_goes_on file from 0 lsas (unless_unknown file to 1 lsas (Ready lsas)) (sym (ap (list_any (is_router_of from)) same) ∙ known)))
+    subst (λ (m : Reading (List Lsa)). StopsAs m [] stop)
+    (sym (known_goes_on file from 0 lsas (unless_unknown file to 1 lsas (Ready lsas))
+    (sym (ap (list_any (is_router_of from)) same) ∙ known)))
     (unknown_stops file to 1 lsas (Ready lsas) stop (sym (ap (list_any (is_router_of to)) also) ∙ is.0) is.1)
 
-pub routed : (file : List ℕ) (from to : ℕ) (lsas slice other database : List Lsa) (line : List ℕ) (report : Report) → slice ≡ lsas → other ≡ lsas → database ≡ lsas → list_any (is_router_of from) slice ≡ true → list_any (is_router_of to) other ≡ true →
-    IsRoute from to database line → Reports Done line report → IsReady (unless_unknown file from 0 lsas (unless_unknown file to 1 lsas (Ready lsas))) [] (λ (r : Report) said. MayRoute from to said r.status (bytes_in r.text)) report
+pub routed : (file : List ℕ) (from to : ℕ) (lsas slice other database : List Lsa) (line : List ℕ) (report : Report) →
+    slice ≡ lsas → other ≡ lsas → database ≡ lsas → list_any (is_router_of from) slice ≡ true →
+    list_any (is_router_of to) other ≡ true →
+    IsRoute from to database line → Reports Done line report →
+    IsReady (unless_unknown file from 0 lsas (unless_unknown file to 1 lsas (Ready lsas))) []
+    (λ (r : Report) said. MayRoute from to said r.status (bytes_in r.text)) report
 routed file from to lsas slice other database line report same also read first second route is =
     let goes : unless_unknown file from 0 lsas (unless_unknown file to 1 lsas (Ready lsas)) ≡ Ready lsas =
     known_goes_on file from 0 lsas (unless_unknown file to 1 lsas (Ready lsas)) (sym (ap (list_any (is_router_of from)) same) ∙ first)
@@ -178,5 +205,6 @@ routed file from to lsas slice other database line report same also read first s
     record {
       said = lsas;
       ends = subst (λ (m : Reading (List Lsa)). EndsAs m [] (Says lsas)) (sym goes) refl;
-      fits = subst (λ (s : Status). MayRoute from to lsas s (bytes_in report.text)) (sym is.status) (subst (IsRoute from to lsas) (sym is.text) (subst (λ (ls : List Lsa). IsRoute from to ls line) read route));
+      fits = subst (λ (s : Status). MayRoute from to lsas s (bytes_in report.text)) (sym is.status)
+          (subst (IsRoute from to lsas) (sym is.text) (subst (λ (ls : List Lsa). IsRoute from to ls line) read route));
     }

@@ -1,4 +1,4 @@
--- What is found of a route in a graph whose vertices are named.
+-- What is found of a route in a graph whose vertices are named. No public clause cites it.
 use Rattle.std.specs.Prelude.{◌≡◌, ℕ, List, [], map, Option, slice_index_or}
 use Rattle.area_graph.specs.declared.Point.{Point}
 use Rattle.area_graph.specs.Area.{Area, edge_at}

@@ -10,7 +10,7 @@ use crate::quads::push_quad;
 use area_graph::{Graph, Point};
 use cost_base::OutOfMemory;
 use spf_ties::Room;
-use text_parts::push_bytes;
+use text_lines::push_bytes;
 
 /// What names a vertex.
 fn id_at(ids: &[u32], vertex: u32) -> u32

@@ -4,7 +4,7 @@ ghost use Rattle.cost_base.specs.Decimal.{decimal};
 ghost use Rattle.lsa_commands.specs.Quads.{quad_text};
 
 use cost_base::OutOfMemory;
-use text_parts::{push_bytes, push_number};
+use text_lines::{push_bytes, push_number};
 
 /// Adds a number and a dot.
 fn push_dotted(line: &mut Vec<u8>, number: u32) -> Result<(), OutOfMemory>

@@ -21,7 +21,7 @@ use lsa_bytes::{Database, graph_of_lsas};
 use report_writer::Report;
 use spf_ties::Room;
 use std::alloc::Global;
-use text_parts::{push_bytes, push_number};
+use text_lines::{push_bytes, push_number};
 
 /// Costs of a graph whose edges have fixed prices alone.
 fn fixed_costs(alloc: Global) -> Point

@@ -22,7 +22,7 @@ use Rattle.lsa_bytes.specs.Ids.{is_id, id_fault, first_id_fault}
 use Rattle.lsa_writer.specs.Ends.{id_in, id_of}
 use Rattle.lsa_writer.specs.OneGraph.{IsBuilt, IsRangedId}
 use Rattle.lsa_writer.proofs.LinkPorts.{one_link}
-use Rattle.lsa_writer.proofs.Told.{AreFit}
+use Rattle.lsa_writer.proofs.ToldLinks.{AreFit}
 
 -- a router ID that none of some configurations has
 pub record IsOwn (before : List Router) (config : Router) : Type 0 where
@@ -46,11 +46,13 @@ own_id before config (Some id) is fine = record { id = id; is = is; new = by_tes
     by_test true h = absurd (none-some RouterIdTwice (sym h))
     by_test false h = refl
 
-no_first : (n : ℕ) (fault : Option LsaFault) (later : Option IdFault) → option_or (option_map (λ f. record { fault = f; config = n }) fault) later ≡ None → (fault ≡ None) × (later ≡ None)
+no_first : (n : ℕ) (fault : Option LsaFault) (later : Option IdFault) →
+    option_or (option_map (λ f. record { fault = f; config = n }) fault) later ≡ None → (fault ≡ None) × (later ≡ None)
 no_first n None later h = (refl, h)
 no_first n (Some f) later h = absurd (none-some _ (sym h))
 
-any_append : (test : Router → Bool) (before : List Router) (config : Router) → list_any test (before ++ config ∷ []) ≡ false → (list_any test before ≡ false) × (test config ≡ false)
+any_append : (test : Router → Bool) (before : List Router) (config : Router) →
+    list_any test (before ++ config ∷ []) ≡ false → (list_any test before ≡ false) × (test config ≡ false)
 any_append test [] config h = (refl, (or_parts (test config) false h).0)
 any_append test (x ∷ before) config h =
     let parts = or_parts (test x) (list_any test (before ++ config ∷ [])) h in
@@ -64,15 +66,22 @@ identified before n (config ∷ more) fine =
     let rest = identified (before ++ config ∷ []) (n + 1) more parts.1 in
     record {
       own = All-cons (IsOwn before) config more (own_id before config config.router_id refl parts.0)
-          (All-weaker (IsOwn (before ++ config ∷ [])) (IsOwn before) (λ x h. record { id = h.id; is = h.is; new = (any_append (λ other. is_id h.id other.router_id) before config h.new).0 }) more rest.own);
+          (All-weaker (IsOwn (before ++ config ∷ [])) (IsOwn before)
+          (λ x h. record {
+            id = h.id;
+            is = h.is;
+            new = (any_append (λ other. is_id h.id other.router_id) before config h.new).0;
+          }) more rest.own);
       pairs = AllPairs-cons HaveTwo config more (All-weaker (IsOwn (before ++ config ∷ [])) (HaveTwo config) (λ x h id is.
-          subst (λ i. is_id i config.router_id ≡ false) (same_Some h.id id (sym h.is ∙ is)) (any_append (λ other. is_id h.id other.router_id) before config h.new).1) more rest.own) rest.pairs;
+          subst (λ i. is_id i config.router_id ≡ false) (same_Some h.id id (sym h.is ∙ is))
+          (any_append (λ other. is_id h.id other.router_id) before config h.new).1) more rest.own) rest.pairs;
     }
 
 id_there : (configs : List Router) (r id : ℕ) (config : Router) → slice_get configs r ≡ Some config → config.router_id ≡ Some id → id_of configs r ≡ id
 id_there configs r id config at is = ap (λ (o : Option Router). unwrap_or (id_in o) 0) at ∙ ap (λ (o : Option ℕ). unwrap_or o 0) is
 
-pub ids_differ : (configs : List Router) → first_id_fault [] 0 configs ≡ None → (q r : ℕ) → q < length configs → r < length configs → id_of configs q ≡ id_of configs r → q ≡ r
+pub ids_differ : (configs : List Router) → first_id_fault [] 0 configs ≡ None → (q r : ℕ) → q < length configs →
+    r < length configs → id_of configs q ≡ id_of configs r → q ≡ r
 ids_differ [] fine q r first second same = absurd (omega arith)
 ids_differ (c ∷ cs) fine q r first second same =
     elim (cases_order q r) [
@@ -91,7 +100,8 @@ ids_differ (c ∷ cs) fine q r first second same =
         let one = all_at (IsOwn []) (c ∷ cs) known.own q _ at_q in
         let other = all_at (IsOwn []) (c ∷ cs) known.own r _ at_r in
         let equal : one.id ≡ other.id = sym (id_there (c ∷ cs) q one.id _ at_q one.is) ∙ same ∙ id_there (c ∷ cs) r other.id _ at_r other.is in
-        false≢true (sym (pair_at HaveTwo (c ∷ cs) known.pairs q r _ _ below at_q at_r other.id other.is) ∙ ap (is_id other.id) one.is ∙ eq-eqb one.id other.id equal)
+        false≢true (sym (pair_at HaveTwo (c ∷ cs) known.pairs q r _ _ below at_q at_r other.id other.is)
+        ∙ ap (is_id other.id) one.is ∙ eq-eqb one.id other.id equal)
 
 -- the numbers that are kept are within their range
 pub ids_below : (configs : List Router) → All (λ config. IsRangedId config.router_id) configs → (r : ℕ) → r < length configs → id_of configs r < 2 ^ 32
@@ -118,14 +128,18 @@ places_some n test (x ∷ xs) (suc k) p at passes = by_test (test x) (places_som
 abbrev IsThere : List Port → Port → Type 0
 IsThere xs p = (k : ℕ) × (slice_get xs k ≡ Some p)
 
-subnets_some : (area : ℕ) (configs : List Router) (s : ℕ) (members : List ℕ) → slice_get (database_of area configs).subnets s ≡ Some members → 0 < length members
+subnets_some : (area : ℕ) (configs : List Router) (s : ℕ) (members : List ℕ) →
+    slice_get (database_of area configs).subnets s ≡ Some members → 0 < length members
 subnets_some area configs s members at =
     let all : List Port = ports area configs in
     let from = map_at (λ first. places_from 0 (shares_subnet first) (linked all)) (transit_subnets all) s members at in
-    let there = all_at (IsThere (linked all)) (transit_subnets all) (firsts_all (IsThere (linked all)) [] (linked all) (all_from_at (IsThere (linked all)) (linked all) (λ k p at_k. (k, at_k)))) s from.0 from.1 in
+    let there = all_at (IsThere (linked all)) (transit_subnets all)
+    (firsts_all (IsThere (linked all)) [] (linked all)
+    (all_from_at (IsThere (linked all)) (linked all) (λ k p at_k. (k, at_k)))) s from.0 from.1 in
     subst (λ (ms : List ℕ). 0 < length ms) (sym from.2) (places_some 0 (shares_subnet from.0) (linked all) there.0 from.0 there.1 (shares_itself from.0))
 
-pub database_fits : (area : ℕ) (configs : List Router) → topology_fault area configs ≡ None → All IsRouter configs → first_id_fault [] 0 configs ≡ None → AreFit configs (database_of area configs)
+pub database_fits : (area : ℕ) (configs : List Router) → topology_fault area configs ≡ None → All IsRouter configs →
+    first_id_fault [] 0 configs ≡ None → AreFit configs (database_of area configs)
 database_fits area configs fine valid known = record {
   count = sym (length-map configs (λ (r : Router). r.name));
   base = database_is area configs fine valid;

@@ -2,8 +2,9 @@
 use Rattle.std.proofs.Common.{◌≡◌, ℕ, zero, suc, ◌+◌, ◌<◌, refl, sym, ◌∙◌, ap, subst, List, [], ◌∷◌, ◌++◌, length, map, arith, Bool, true, false, cond, Option, Some, None, slice_get, slice_index_or, zero-add}
 use Rattle.std.specs.Prelude.{flat_map, ◌==◌}
 use Rattle.std.proofs.lemmas.Bool.{eqb-true}
-use Rattle.std.proofs.lemmas.Option.{slice_get-get_or}
+use Rattle.std.proofs.lemmas.Option.{slice_get-get_or, get_or_from_slice_get}
 use Rattle.std.proofs.lemmas.List.{length-map}
+use Rattle.std.proofs.lemmas.List.Folds.{flat_map-map}
 use Rattle.cost_base.specs.Lists.{numbers_from}
 use Rattle.area_graph.specs.declared.Vertex.{Vertex}
 use Rattle.area_graph.specs.declared.Vertex.TheVariants.{Router as RouterVertex, Subnet as SubnetVertex}
@@ -22,18 +23,14 @@ use Rattle.lsa_writer.specs.declared.ends.LinkEnd.{LinkEnd}
 use Rattle.lsa_writer.specs.declared.said.OwnedLink.{OwnedLink}
 use Rattle.lsa_writer.specs.Ends.{id_of, interface_of, no_end, end_with, end_of, ends_of, end_at, designated, member_ends, designated_ends}
 use Rattle.lsa_writer.specs.WrittenLsas.{lsa_link, said_link, said_links, links_in, own_links, routers_in, all_said}
-use Rattle.lsa_writer.proofs.Places.{read_at, flat_ones}
+use Rattle.lsa_writer.proofs.ListPlaces.{flat_ones}
 use Rattle.lsa_writer.proofs.Elections.{member_leads, end_there}
-use Rattle.lsa_writer.proofs.Groups.{grouped, in_groups}
-use Rattle.lsa_writer.proofs.Told.{AreFit, own, of_subnet, of_subnets, told, routers_are, networks_are, own_length, said_at, said_order, said_within, cost_there, own_has, lists_member, is_member, router_vertex, network_vertex}
+use Rattle.lsa_writer.proofs.LinkGroups.{grouped, in_groups}
+use Rattle.lsa_writer.proofs.ToldLinks.{AreFit, own, of_subnet, of_subnets, told, routers_are, networks_are, own_length, said_at, said_order, said_within, cost_there, own_has, lists_member, is_member, router_vertex, network_vertex}
 
 end_router : (id : ℕ) (o : Option Interface) → (end_with id o).router ≡ id
 end_router id None = refl
 end_router id (Some i) = refl
-
-flat_map_map : {X Y Z : Type 0} (f : Y → List Z) (g : X → Y) (xs : List X) → flat_map f (map g xs) ≡ flat_map (λ x. f (g x)) xs
-flat_map_map f g [] = refl
-flat_map_map f g (x ∷ xs) = ap (λ ys. f (g x) ++ ys) (flat_map_map f g xs)
 
 -- a link that leads back over a point-to-point subnet
 record HasBack (d : Database) (link : Linked) (q : ℕ) : Type 0 where
@@ -75,16 +72,19 @@ module _ (configs : List Config) (d : Database) (costs : List ℕ) (fit : AreFit
   edge_of link cost = record { from = link.router; to = far_vertex (length d.routers) link.to; price = Fixed cost }
 
   end_of_link : (l : ℕ) (link : Linked) → slice_get d.links l ≡ Some link → (end_at ends l).router ≡ id_of configs link.router
-  end_of_link l link at = ap (λ (e : LinkEnd). e.router) (end_there configs d.links l link at) ∙ end_router (id_of configs link.router) (interface_of configs link)
+  end_of_link l link at = ap (λ (e : LinkEnd). e.router) (end_there configs d.links l link at)
+      ∙ end_router (id_of configs link.router) (interface_of configs link)
 
   chosen_is : (s : ℕ) (members : List ℕ) → slice_get d.subnets s ≡ Some members → end_at chosen s ≡ designated (member_ends ends members)
-  chosen_is s members at = read_at chosen s (designated (member_ends ends members)) no_end (at_map (λ ms. designated (member_ends ends ms)) d.subnets s members at)
+  chosen_is s members at = get_or_from_slice_get chosen s (designated (member_ends ends members)) no_end
+      (at_map (λ ms. designated (member_ends ends ms)) d.subnets s members at)
 
   below_count : (r : ℕ) → r < length d.routers → r < length configs
   below_count r below = omega (arith, below, fit.count)
 
   -- to the neighbour's router
-  to_router : (l : ℕ) (link : Linked) (q : ℕ) → slice_get d.links l ≡ Some link → link.to ≡ Router q → router_back lsas (id_of configs q) (has_link 1 (id_of configs link.router)) ≡ Some q
+  to_router : (l : ℕ) (link : Linked) (q : ℕ) → slice_get d.links l ≡ Some link → link.to ≡ Router q →
+      router_back lsas (id_of configs q) (has_link 1 (id_of configs link.router)) ≡ Some q
   to_router l link q at to =
       let back = mate_is d l link q link.mate to (subst (λ far. HasMate d l link far link.mate) to (fit.base.mates l link at)) in
       let priced = cost_there costs d.links back.place back.other one_each back.at in
@@ -96,7 +96,8 @@ module _ (configs : List Config) (d : Database) (costs : List ℕ) (fit : AreFit
       (ap (λ far. (lsa_link configs chosen (end_of configs back.other) far priced.0).id) back.back))
 
   -- into the transit subnet
-  into_subnet : (l : ℕ) (link : Linked) (s : ℕ) → slice_get d.links l ≡ Some link → link.to ≡ Subnet s → network_back lsas (end_at chosen s).address (attaches (id_of configs link.router)) ≡ Some (length d.routers + s)
+  into_subnet : (l : ℕ) (link : Linked) (s : ℕ) → slice_get d.links l ≡ Some link → link.to ≡ Subnet s →
+      network_back lsas (end_at chosen s).address (attaches (id_of configs link.router)) ≡ Some (length d.routers + s)
   into_subnet l link s at to =
       let within : s < length d.subnets = subst (IsFar d) to (all_at (IsLink d) d.links fit.base.each_link l link at).far in
       let members = slice_index_or d.subnets s [] in
@@ -116,7 +117,9 @@ module _ (configs : List Config) (d : Database) (costs : List ℕ) (fit : AreFit
       by_far (Router q) is = ap (edge_to link.router (Fixed cost)) (to_router l link q at is)
       by_far (Subnet s) is = ap (edge_to link.router (Fixed cost)) (into_subnet l link s at is)
 
-  all_edges : (links : List Linked) (prices : List ℕ) → ((k : ℕ) (link : Linked) → slice_get links k ≡ Some link → (l : ℕ) × (slice_get d.links l ≡ Some link)) → length prices ≡ length links
+  all_edges : (links : List Linked) (prices : List ℕ) →
+      ((k : ℕ) (link : Linked) → slice_get links k ≡ Some link → (l : ℕ) × (slice_get d.links l ≡ Some link)) →
+      length prices ≡ length links
       → flat_map told_edges (said_links configs chosen links prices) ≡ link_edges (length d.routers) links (map Fixed prices)
   all_edges [] prices there same = refl
   all_edges (link ∷ links) [] there same = absurd (omega arith)
@@ -126,11 +129,17 @@ module _ (configs : List Config) (d : Database) (costs : List ℕ) (fit : AreFit
       ∙ ap (λ es. edge_of link cost ∷ es) (all_edges links prices (λ k x at. there (suc k) x at) (omega arith))
 
   -- the edges out of a router
-  own_edges : (r : ℕ) (some : List OwnedLink) → flat_map (link_edge lsas r (id_of configs r)) (links_in (own_links r some)) ≡ flat_map told_edges (own_links r some)
+  own_edges : (r : ℕ) (some : List OwnedLink) →
+      flat_map (link_edge lsas r (id_of configs r)) (links_in (own_links r some))
+      ≡ flat_map told_edges (own_links r some)
   own_edges r [] = refl
   own_edges r (s ∷ some) = by_test (s.router == r) refl (own_edges r some)
     where
-      by_test : (b : Bool) → (s.router == r) ≡ b → flat_map (link_edge lsas r (id_of configs r)) (links_in (own_links r some)) ≡ flat_map told_edges (own_links r some) → flat_map (link_edge lsas r (id_of configs r)) (links_in (cond b (s ∷ own_links r some) (own_links r some))) ≡ flat_map told_edges (cond b (s ∷ own_links r some) (own_links r some))
+      by_test : (b : Bool) → (s.router == r) ≡ b →
+          flat_map (link_edge lsas r (id_of configs r)) (links_in (own_links r some))
+          ≡ flat_map told_edges (own_links r some) →
+          flat_map (link_edge lsas r (id_of configs r)) (links_in (cond b (s ∷ own_links r some) (own_links r some)))
+          ≡ flat_map told_edges (cond b (s ∷ own_links r some) (own_links r some))
       by_test true is rest =
           ap (λ es. link_edge lsas r (id_of configs r) s.link ++ es) rest
           ∙ ap (λ q. link_edge lsas q (id_of configs q) s.link ++ flat_map told_edges (own_links r some)) (sym (eqb-true s.router r is))
@@ -144,7 +153,8 @@ module _ (configs : List Config) (d : Database) (costs : List ℕ) (fit : AreFit
 
   -- a member's edge
   member_edge : (s : ℕ) (members : List ℕ) → slice_get d.subnets s ≡ Some members → (k l : ℕ) → slice_get members k ≡ Some l →
-      attached_edge lsas (length d.routers + s) (designated (member_ends ends members)).address (end_at ends l).router ≡ record { from = length d.routers + s; to = router_of d.links l; price = Zero } ∷ []
+      attached_edge lsas (length d.routers + s) (designated (member_ends ends members)).address (end_at ends l).router
+      ≡ record { from = length d.routers + s; to = router_of d.links l; price = Zero } ∷ []
   member_edge s members there k l at =
       let into = member_leads d s members fit.base there k l at in
       let link : Linked = into.link in
@@ -159,19 +169,24 @@ module _ (configs : List Config) (d : Database) (costs : List ℕ) (fit : AreFit
       (ap (λ far. (lsa_link configs chosen (end_of configs link) far priced.0).id) into.to ∙ ap (λ (e : LinkEnd). e.address) (chosen_is s members there))) in
       ap (λ router. edge_to (length d.routers + s) Zero (router_back lsas router (has_link 2 id))) (end_of_link l link into.at)
       ∙ ap (edge_to (length d.routers + s) Zero) vertex
-      ∙ ap (λ to. record { from = length d.routers + s; to = to; price = Zero } ∷ []) (sym (read_at (map (λ (x : Linked). x.router) d.links) l link.router 0 (at_map (λ (x : Linked). x.router) d.links l link into.at)))
+      ∙ ap (λ to. record { from = length d.routers + s; to = to; price = Zero } ∷ [])
+      (sym (get_or_from_slice_get (map (λ (x : Linked). x.router) d.links) l link.router 0
+      (at_map (λ (x : Linked). x.router) d.links l link into.at)))
 
-  subnets_told : (s : ℕ) (subnets : List (List ℕ)) → ((k : ℕ) (members : List ℕ) → slice_get subnets k ≡ Some members → slice_get d.subnets (s + k) ≡ Some members)
+  subnets_told : (s : ℕ) (subnets : List (List ℕ)) →
+      ((k : ℕ) (members : List ℕ) → slice_get subnets k ≡ Some members → slice_get d.subnets (s + k) ≡ Some members)
       → edges_in_order lsas (length d.routers + s) (of_subnets ends subnets) ≡ subnet_edges d.links (length d.routers + s) subnets
   subnets_told s [] there = refl
   subnets_told s (members ∷ subnets) there =
       let v = length d.routers + s in
       let id = (designated (member_ends ends members)).address in
       let here : slice_get d.subnets s ≡ Some members = ap (slice_get d.subnets) (omega arith) ∙ there 0 members refl in
-      let own : flat_map (attached_edge lsas v id) (routers_in (member_ends ends members)) ≡ map (λ l. record { from = v; to = router_of d.links l; price = Zero }) members =
-      flat_map_map (attached_edge lsas v id) (λ (e : LinkEnd). e.router) (member_ends ends members)
-      ∙ flat_map_map (λ (e : LinkEnd). attached_edge lsas v id e.router) (end_at ends) members
-      ∙ flat_ones (λ l. attached_edge lsas v id (end_at ends l).router) (λ l. record { from = v; to = router_of d.links l; price = Zero }) members (member_edge s members here) in
+      let own : flat_map (attached_edge lsas v id) (routers_in (member_ends ends members))
+      ≡ map (λ l. record { from = v; to = router_of d.links l; price = Zero }) members =
+      flat_map-map (attached_edge lsas v id) (λ (e : LinkEnd). e.router) (member_ends ends members)
+      ∙ flat_map-map (λ (e : LinkEnd). attached_edge lsas v id e.router) (end_at ends) members
+      ∙ flat_ones (λ l. attached_edge lsas v id (end_at ends l).router)
+      (λ l. record { from = v; to = router_of d.links l; price = Zero }) members (member_edge s members here) in
       let next : length d.routers + s + 1 ≡ length d.routers + (s + 1) = omega arith in
       ap (λ es. es ++ edges_in_order lsas (v + 1) (of_subnets ends subnets)) own
       ∙ ap (λ es. map (λ l. record { from = v; to = router_of d.links l; price = Zero }) members ++ es)
@@ -185,7 +200,9 @@ module _ (configs : List Config) (d : Database) (costs : List ℕ) (fit : AreFit
       let ns = networks_are configs d costs in
       let router_count : length (routers lsas) ≡ length d.routers = ap length rs ∙ own_length configs said ∙ fit.count in
       let network_count : length (networks lsas) ≡ length d.subnets = ap length ns ∙ length-map d.subnets (of_subnet ends) in
-      let vertices : ◌≡◌ {A = List Vertex} (map RouterVertex (numbers_from 0 (length (routers lsas))) ++ map SubnetVertex (numbers_from 0 (length (networks lsas))))
+      let vertices : ◌≡◌ {A = List Vertex}
+      (map RouterVertex (numbers_from 0 (length (routers lsas)))
+      ++ map SubnetVertex (numbers_from 0 (length (networks lsas))))
       (map RouterVertex (numbers_from 0 (length d.routers)) ++ map SubnetVertex (numbers_from 0 (length d.subnets))) =
       ap (λ n. map RouterVertex (numbers_from 0 n) ++ map SubnetVertex (numbers_from 0 (length (networks lsas)))) router_count
       ∙ ap (λ n. map RouterVertex (numbers_from 0 (length d.routers)) ++ map SubnetVertex (numbers_from 0 n)) network_count in
@@ -199,5 +216,6 @@ module _ (configs : List Config) (d : Database) (costs : List ℕ) (fit : AreFit
       ∙ ap (λ n. edges_in_order lsas n (of_subnets ends d.subnets)) (router_count ∙ omega arith)
       ∙ subnets_told 0 d.subnets (λ k ms at. ap (slice_get d.subnets) (zero-add k) ∙ at)
       ∙ ap (λ n. subnet_edges d.links n d.subnets) (omega arith) in
-      let edges = ap (λ es. es ++ edges_in_order lsas (length (routers lsas)) (networks lsas)) first ∙ ap (λ es. link_edges (length d.routers) d.links (map Fixed costs) ++ es) second in
+      let edges = ap (λ es. es ++ edges_in_order lsas (length (routers lsas)) (networks lsas)) first
+      ∙ ap (λ es. link_edges (length d.routers) d.links (map Fixed costs) ++ es) second in
       λ i. record { vertices = vertices i; edges = edges i }

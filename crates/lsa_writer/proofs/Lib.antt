@@ -1,10 +1,10 @@
-pub mod Places
+pub mod ListPlaces
 pub mod LinkPorts
 pub mod Elections
-pub mod Groups
-pub mod Told
+pub mod LinkGroups
+pub mod ToldLinks
 pub mod Graphs
 pub mod Faultless
 pub mod Fits
 pub mod Written
-pub mod Steps
+pub mod WritingSteps

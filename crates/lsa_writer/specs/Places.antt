@@ -1,4 +1,4 @@
--- Elements at places, and how many stand in front.
+-- Elements at places, and how many stand in front. No public clause cites it.
 use Rattle.std.specs.Prelude.{ℕ, suc, ◌==◌, List, [], ◌∷◌, Option, Some, None, slice_get, if◌then◌else◌}
 use Rattle.lsa_writer.specs.declared.said.OwnedLink.{OwnedLink}
 

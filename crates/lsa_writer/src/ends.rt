@@ -134,6 +134,10 @@ fn end_of(configs: &[RouterConfig], link: &Linked, from: usize) -> (LinkEnd, usi
 }
 
 /// The ends of links, in order.
+///
+/// # Errors
+///
+/// `OutOfMemory`.
 pub fn ends_of(
     alloc: Global,
     configs: &[RouterConfig],

@@ -1,16 +1,17 @@
 -- The graph of a database at prices of its links is a graph.
-use Rattle.std.proofs.Common.{◌≡◌, ℕ, zero, suc, ◌+◌, ◌-◌, ◌*◌, ◌<◌, ◌≤◌, ◌++◌, Bool, true, false, cond, List, [], ◌∷◌, None, length, get_or, drop, map, count_by, refl, sym, ap, ◌∙◌, subst, arith, zero-add, slice_get, slice_index_or, All}
+use Rattle.std.proofs.Common.{◌≡◌, ℕ, suc, ◌+◌, ◌-◌, ◌*◌, ◌<◌, ◌≤◌, ◌++◌, Bool, true, false, List, [], ◌∷◌, None, length, get_or, drop, map, sym, ap, ◌∙◌, subst, arith, slice_get, slice_index_or, All}
 use Rattle.std.specs.List.{filter}
-use Rattle.std.proofs.lemmas.List.{length-map, length-append, get_or-map, get_or_append_left, get_or-append-add, get_or_default, at_drop_more}
+use Rattle.std.proofs.lemmas.List.{length-map, length-append, get_or-map, get_or_default, at_drop_more}
 use Rattle.std.proofs.lemmas.List.Elements.{All-nil, All-cons, All-head, All-tail, All-append, All-map, All-weaker}
-use Rattle.std.proofs.lemmas.List.Sums.{length-filter, count_by-le-length, sum_by-cons}
+use Rattle.std.proofs.lemmas.List.Sums.{length-filter, count_by-le-length}
 use Rattle.cost_base.specs.Lists.{numbers_from}
-use Rattle.area_graph.specs.declared.Vertex.{Vertex}
+use Rattle.cost_base.proofs.ListLemmas.{length-numbers_from, all_kept}
 use Rattle.area_graph.specs.declared.Vertex.TheVariants.{Router as RouterVertex, Subnet as SubnetVertex}
 use Rattle.area_graph.specs.declared.Price.{Price}
 use Rattle.area_graph.specs.declared.Price.TheVariants.{Fixed, Var, Zero}
 use Rattle.area_graph.specs.declared.Edge.{Edge}
-use Rattle.area_graph.specs.Area.{is_router, FitsSource, FitsTarget, FitsEdge, FitsGraph}
+use Rattle.area_graph.specs.Area.{FitsSource, FitsTarget, FitsEdge, FitsGraph}
+use Rattle.area_graph.proofs.Vertices.{vertices, vertices_length, router_vertex, routers_count, FitsVertices, subnet_vertex}
 use Rattle.lsdb_build.specs.declared.Far.{Far}
 use Rattle.lsdb_build.specs.declared.Far.TheVariants.{Router, Subnet}
 use Rattle.lsdb_build.specs.declared.Linked.{Linked}
@@ -19,24 +20,6 @@ use Rattle.lsdb_build.specs.Graphs.{Database, IsDatabase, IsLink, IsFar, IsLinkP
 -- the numbers from one on: it, then those from the next one on
 pub numbers_step : (n m : ℕ) → n < m → numbers_from n (m - n) ≡ n ∷ numbers_from (n + 1) (m - (n + 1))
 numbers_step n m below = let whole : m - n ≡ suc (m - (n + 1)) = omega arith in ap (numbers_from n) whole
-
-pub length-numbers : (a n : ℕ) → length (numbers_from a n) ≡ n
-length-numbers a zero = refl
-length-numbers a (suc n) = ap suc (length-numbers (a + 1) n)
-
-number_at : (a n k d : ℕ) → k < n → get_or (numbers_from a n) k d ≡ a + k
-number_at a zero k d below = absurd (omega arith)
-number_at a (suc n) zero d below = omega arith
-number_at a (suc n) (suc k) d below = number_at (a + 1) n k d (omega arith) ∙ omega arith
-
--- each of the kept numbers is below their end
-kept_below : (test : ℕ → Bool) (a n high : ℕ) → a + n ≤ high → All (λ l. l < high) (filter test (numbers_from a n))
-kept_below test a zero high fits = All-nil (λ l. l < high)
-kept_below test a (suc n) high fits = by_test (test a) (kept_below test (a + 1) n high (omega arith))
-  where
-    by_test : (b : Bool) → All (λ l. l < high) (filter test (numbers_from (a + 1) n)) → All (λ l. l < high) (cond b (a ∷ filter test (numbers_from (a + 1) n)) (filter test (numbers_from (a + 1) n)))
-    by_test true rest = All-cons (λ l. l < high) a (filter test (numbers_from (a + 1) n)) (omega arith) rest
-    by_test false rest = rest
 
 -- the members of a subnet are numbers of links
 pub record AreMembers (count : ℕ) (members : List ℕ) : Type 0 where
@@ -47,51 +30,14 @@ pub members_fit : (d : Database) → IsDatabase d → All (AreMembers (length d.
 members_fit d h = λ s e within.
     (let is : slice_index_or d.subnets s e ≡ members_of d s = get_or_default d.subnets s e [] within ∙ h.members s within in
     subst (AreMembers (length d.links)) (sym is) (record {
-      few = omega (arith, length-filter (λ l. link_leads_to s (slice_get d.links l)) (numbers_from 0 (length d.links)), count_by-le-length (λ l. link_leads_to s (slice_get d.links l)) (numbers_from 0 (length d.links)), length-numbers 0 (length d.links));
-      below = kept_below (λ l. link_leads_to s (slice_get d.links l)) 0 (length d.links) (length d.links) (omega arith);
+      few = omega (
+        arith,
+        length-filter (λ l. link_leads_to s (slice_get d.links l)) (numbers_from 0 (length d.links)),
+        count_by-le-length (λ l. link_leads_to s (slice_get d.links l)) (numbers_from 0 (length d.links)),
+        length-numbers_from 0 (length d.links),
+      );
+      below = all_kept (λ l. l < length d.links) (λ l. link_leads_to s (slice_get d.links l)) 0 (length d.links) (λ k above below leads. omega (arith, below));
     }))
-
--- the vertices: routers, then subnets
-abbrev vertices : ℕ → ℕ → List Vertex
-vertices r s = map RouterVertex (numbers_from 0 r) ++ map SubnetVertex (numbers_from 0 s)
-
-vertices_length : (r s : ℕ) → length (vertices r s) ≡ r + s
-vertices_length r s =
-    length-append (map RouterVertex (numbers_from 0 r)) (map SubnetVertex (numbers_from 0 s)) ∙ omega (arith, length-map (numbers_from 0 r) RouterVertex, length-map (numbers_from 0 s) SubnetVertex, length-numbers 0 r, length-numbers 0 s)
-
-router_vertex : (r s n : ℕ) → n < r → get_or (vertices r s) n (RouterVertex 0) ≡ RouterVertex n
-router_vertex r s n below =
-    let count = length-map (numbers_from 0 r) RouterVertex ∙ length-numbers 0 r in
-    get_or_append_left (map RouterVertex (numbers_from 0 r)) (map SubnetVertex (numbers_from 0 s)) (RouterVertex 0) n (omega (arith, count))
-    ∙ get_or-map RouterVertex (numbers_from 0 r) n 0 (RouterVertex 0) (omega (arith, length-numbers 0 r))
-    ∙ ap RouterVertex (number_at 0 r n 0 below ∙ zero-add n)
-
-subnet_vertex : (r s n : ℕ) → n < s → get_or (vertices r s) (r + n) (RouterVertex 0) ≡ SubnetVertex n
-subnet_vertex r s n below =
-    let count = length-map (numbers_from 0 r) RouterVertex ∙ length-numbers 0 r in
-    ap (λ k. get_or (vertices r s) (k + n) (RouterVertex 0)) (sym count)
-    ∙ get_or-append-add (map RouterVertex (numbers_from 0 r)) (map SubnetVertex (numbers_from 0 s)) n (RouterVertex 0)
-    ∙ get_or-map SubnetVertex (numbers_from 0 s) n 0 (RouterVertex 0) (omega (arith, length-numbers 0 s))
-    ∙ ap SubnetVertex (number_at 0 s n 0 below ∙ zero-add n)
-
-count_append : (f : Vertex → Bool) (xs ys : List Vertex) → count_by f (xs ++ ys) ≡ count_by f xs + count_by f ys
-count_append f [] ys = sym (zero-add (count_by f ys))
-count_append f (x ∷ xs) ys =
-    let first = sum_by-cons (λ v. cond (f v) 1 0) x (xs ++ ys) in
-    let second = sum_by-cons (λ v. cond (f v) 1 0) x xs in
-    omega (arith, count_append f xs ys)
-
-no_router : (a n : ℕ) → count_by is_router (map SubnetVertex (numbers_from a n)) ≡ 0
-no_router a zero = refl
-no_router a (suc n) = sum_by-cons (λ v. cond (is_router v) 1 0) (SubnetVertex a) (map SubnetVertex (numbers_from (a + 1) n)) ∙ no_router_sum (no_router (a + 1) n)
-  where
-    no_router_sum : count_by is_router (map SubnetVertex (numbers_from (a + 1) n)) ≡ 0 → 0 + count_by is_router (map SubnetVertex (numbers_from (a + 1) n)) ≡ 0
-    no_router_sum h = omega arith
-
--- at most so many router vertices as routers
-routers_count : (r s : ℕ) → count_by is_router (vertices r s) ≤ r
-routers_count r s =
-    omega (arith, count_append is_router (map RouterVertex (numbers_from 0 r)) (map SubnetVertex (numbers_from 0 s)), no_router 0 s, count_by-le-length is_router (map RouterVertex (numbers_from 0 r)), length-map (numbers_from 0 r) RouterVertex, length-numbers 0 r)
 
 -- Edges
 
@@ -100,20 +46,14 @@ link_edges_length r [] prices = omega arith
 link_edges_length r (l ∷ links) [] = omega arith
 link_edges_length r (l ∷ links) (price ∷ prices) = omega (arith, link_edges_length r links prices)
 
-subnet_edges_length : (links : List Linked) (v most : ℕ) (subnets : List (List ℕ)) → All (λ members. length members ≤ most) subnets → length (subnet_edges links v subnets) ≤ length subnets * most
+subnet_edges_length : (links : List Linked) (v most : ℕ) (subnets : List (List ℕ)) →
+    All (λ members. length members ≤ most) subnets → length (subnet_edges links v subnets) ≤ length subnets * most
 subnet_edges_length links v most [] all = omega arith
 subnet_edges_length links v most (members ∷ subnets) all =
     let here = All-head (λ ms. length ms ≤ most) members subnets all in
     let rest = subnet_edges_length links (v + 1) most subnets (All-tail (λ ms. length ms ≤ most) members subnets all) in
     let edge : ℕ → Edge = λ l. record { from = v; to = router_of links l; price = Zero } in
     omega (arith, length-append (map edge members) (subnet_edges links (v + 1) subnets), length-map members edge)
-
--- what an edge of the graph keeps, over given vertices
-record FitsVertices (vs : List Vertex) (edge : Edge) : Type 0 where
-  from : edge.from < length vs
-  to : edge.to < length vs
-  price : FitsSource (get_or vs edge.from (RouterVertex 0)) edge.price
-  target : FitsTarget (get_or vs edge.from (RouterVertex 0)) (get_or vs edge.to (RouterVertex 0))
 
 -- a link between vertices that are there
 pub record IsBetween (r s : ℕ) (link : Linked) : Type 0 where
@@ -125,7 +65,8 @@ source_fits n (Fixed cost) h = h
 source_fits n (Var v) h = tt
 source_fits n Zero h = absurd h
 
-link_edges_fit : (r s : ℕ) (links : List Linked) (prices : List Price) → All (IsBetween r s) links → All IsLinkPrice prices → All (FitsVertices (vertices r s)) (link_edges r links prices)
+link_edges_fit : (r s : ℕ) (links : List Linked) (prices : List Price) → All (IsBetween r s) links →
+    All IsLinkPrice prices → All (FitsVertices (vertices r s)) (link_edges r links prices)
 link_edges_fit r s [] prices between priced = All-nil (FitsVertices (vertices r s))
 link_edges_fit r s (l ∷ links) [] between priced = All-nil (FitsVertices (vertices r s))
 link_edges_fit r s (l ∷ links) (price ∷ prices) between priced =
@@ -142,9 +83,13 @@ link_edges_fit r s (l ∷ links) (price ∷ prices) between priced =
 
 router_of_below : (r : ℕ) (links : List Linked) → All (λ link. link.router < r) links → (l : ℕ) → l < length links → router_of links l < r
 router_of_below r links all l below =
-    subst (λ n. n < r) (sym (get_or-map (λ (link : Linked). link.router) links l (record { router = 0; interface = []; line = 0; cost = None; to = Router 0; mate = None }) 0 below)) (all l (record { router = 0; interface = []; line = 0; cost = None; to = Router 0; mate = None }) below)
+    subst (λ n. n < r) (sym (get_or-map (λ (link : Linked). link.router) links l
+    (record { router = 0; interface = []; line = 0; cost = None; to = Router 0; mate = None }) 0 below))
+    (all l (record { router = 0; interface = []; line = 0; cost = None; to = Router 0; mate = None }) below)
 
-subnet_edges_fit : (r s : ℕ) (links : List Linked) → All (λ link. link.router < r) links → (k : ℕ) (subnets : List (List ℕ)) → k + length subnets ≤ s → All (All (λ l. l < length links)) subnets → All (FitsVertices (vertices r s)) (subnet_edges links (r + k) subnets)
+subnet_edges_fit : (r s : ℕ) (links : List Linked) → All (λ link. link.router < r) links →
+    (k : ℕ) (subnets : List (List ℕ)) → k + length subnets ≤ s → All (All (λ l. l < length links)) subnets →
+    All (FitsVertices (vertices r s)) (subnet_edges links (r + k) subnets)
 subnet_edges_fit r s links routers k [] room all = All-nil (FitsVertices (vertices r s))
 subnet_edges_fit r s links routers k (members ∷ subnets) room all =
     let source = subnet_vertex r s k (omega arith) in
@@ -158,7 +103,8 @@ subnet_edges_fit r s links routers k (members ∷ subnets) room all =
       from = omega (arith, vertices_length r s);
       to = omega (arith, to, vertices_length r s);
       price = subst (λ v. FitsSource v Zero) (sym source) tt;
-      target = subst (λ v. FitsTarget v (get_or (vertices r s) (router_of links l) (RouterVertex 0))) (sym source) (subst (FitsTarget (SubnetVertex k)) (sym target) tt);
+      target = subst (λ v. FitsTarget v (get_or (vertices r s) (router_of links l) (RouterVertex 0))) (sym source)
+          (subst (FitsTarget (SubnetVertex k)) (sym target) tt);
     })) members (All-head (All (λ l. l < length links)) members subnets all)))
     (subst (λ v. All (FitsVertices (vertices r s)) (subnet_edges links v subnets)) (omega arith) rest)
 
@@ -167,7 +113,8 @@ far_below d (Router n) h = omega arith
 far_below d (Subnet n) h = omega arith
 
 pub links_between : (d : Database) → IsDatabase d → All (IsBetween (length d.routers) (length d.subnets)) d.links
-links_between d h = All-weaker (IsLink d) (IsBetween (length d.routers) (length d.subnets)) (λ link is. record { router = is.router; far = far_below d link.to is.far }) d.links h.each_link
+links_between d h = All-weaker (IsLink d) (IsBetween (length d.routers) (length d.subnets))
+    (λ link is. record { router = is.router; far = far_below d link.to is.far }) d.links h.each_link
 
 -- the graph of a database at prices of its links is a graph
 pub graph_fits : (d : Database) (prices : List Price) → IsDatabase d → All IsLinkPrice prices → FitsGraph (graph_at d prices)
@@ -177,22 +124,43 @@ graph_fits d prices h priced =
     let between = links_between d h in
     let members = members_fit d h in
     let first = link_edges_fit r s d.links prices between priced in
-    let second = subnet_edges_fit r s d.links (All-weaker (IsBetween r s) (λ link. link.router < r) (λ link b. b.router) d.links between) 0 d.subnets (omega arith) (All-weaker (AreMembers (length d.links)) (All (λ l. l < length d.links)) (λ ms m. m.below) d.subnets members) in
-    let edges = All-append (FitsVertices (vertices r s)) (link_edges r d.links prices) (subnet_edges d.links r d.subnets) first (subst (λ v. All (FitsVertices (vertices r s)) (subnet_edges d.links v d.subnets)) (omega arith) second) in
-    let many = subnet_edges_length d.links r 4000 d.subnets (All-weaker (AreMembers (length d.links)) (λ ms. length ms ≤ 4000) (λ ms m. omega (arith, m.few, h.links)) d.subnets members) in
+    let second = subnet_edges_fit r s d.links
+    (All-weaker (IsBetween r s) (λ link. link.router < r) (λ link b. b.router) d.links between) 0 d.subnets
+    (omega arith) (All-weaker (AreMembers (length d.links)) (All (λ l. l < length d.links))
+    (λ ms m. m.below) d.subnets members) in
+    let edges = All-append (FitsVertices (vertices r s)) (link_edges r d.links prices)
+    (subnet_edges d.links r d.subnets) first
+    (subst (λ v. All (FitsVertices (vertices r s)) (subnet_edges d.links v d.subnets)) (omega arith) second) in
+    let many = subnet_edges_length d.links r 4000 d.subnets
+    (All-weaker (AreMembers (length d.links)) (λ ms. length ms ≤ 4000) (λ ms m. omega (arith, m.few, h.links))
+    d.subnets members) in
     record {
-      edges = All-weaker (FitsVertices (vertices r s)) (FitsEdge (graph_at d prices)) (λ edge e. record { from = e.from; to = e.to; price = e.price; target = e.target }) (link_edges r d.links prices ++ subnet_edges d.links r d.subnets) edges;
+      edges = All-weaker (FitsVertices (vertices r s)) (FitsEdge (graph_at d prices))
+          (λ edge e. record { from = e.from; to = e.to; price = e.price; target = e.target })
+          (link_edges r d.links prices ++ subnet_edges d.links r d.subnets) edges;
       routers = omega (arith, routers_count r s, h.routers);
       vertex_count = omega (arith, vertices_length r s, h.routers, h.subnets);
-      edge_count = omega (arith, length-append (link_edges r d.links prices) (subnet_edges d.links r d.subnets), link_edges_length r d.links prices, many, h.links, h.subnets);
+      edge_count = omega (
+        arith,
+        length-append (link_edges r d.links prices) (subnet_edges d.links r d.subnets),
+        link_edges_length r d.links prices,
+        many,
+        h.links,
+        h.subnets,
+      );
     }
 
 -- the edges out of the subnets from one on
-pub subnet_edges_step : (links : List Linked) (r i : ℕ) (subnets : List (List ℕ)) (members : List ℕ) → i < length subnets → members ≡ get_or subnets i members → subnet_edges links (r + i) (drop i subnets) ≡ map (λ l. record { from = r + i; to = router_of links l; price = Zero }) members ++ subnet_edges links (r + (i + 1)) (drop (i + 1) subnets)
+pub subnet_edges_step : (links : List Linked) (r i : ℕ) (subnets : List (List ℕ)) (members : List ℕ) →
+    i < length subnets → members ≡ get_or subnets i members →
+    subnet_edges links (r + i) (drop i subnets)
+    ≡ map (λ l. record { from = r + i; to = router_of links l; price = Zero }) members
+    ++ subnet_edges links (r + (i + 1)) (drop (i + 1) subnets)
 subnet_edges_step links r i subnets members within is =
     let next : r + i + 1 ≡ r + (i + 1) = omega arith in
     at_drop_more (subnet_edges links (r + i)) subnets i members within
-    ∙ ap (λ (ms : List ℕ). map (λ (l : ℕ). record { from = r + i; to = router_of links l; price = Zero }) ms ++ subnet_edges links (r + i + 1) (drop (i + 1) subnets)) (sym is)
+    ∙ ap (λ (ms : List ℕ). map (λ (l : ℕ). record { from = r + i; to = router_of links l; price = Zero }) ms
+    ++ subnet_edges links (r + i + 1) (drop (i + 1) subnets)) (sym is)
     ∙ ap (λ v. map (λ (l : ℕ). record { from = r + i; to = router_of links l; price = Zero }) members ++ subnet_edges links v (drop (i + 1) subnets)) next
 
 pub members_below : (d : Database) → IsDatabase d → All (All (λ l. l < length d.links)) d.subnets

@@ -11,7 +11,7 @@ use Rattle.lsdb_build.specs.declared.owners.Owner.{Owner}
 use Rattle.lsdb_build.specs.Tallies.{same_subnet, subnet_of, prefix_of}
 use Rattle.lsdb_build.specs.Owners.{has_other, HasSubnet, HasPrefixes}
 use Rattle.lsdb_build.proofs.Subnets.{shares_from, shares_swap}
-use Rattle.lsdb_build.proofs.Noting.{other_noted}
+use Rattle.lsdb_build.proofs.NotedRouters.{other_noted}
 
 -- a subnet that contains a different one is shorter
 pub record Shorter (p q : Port) : Type 0 where
@@ -24,7 +24,9 @@ shorter p q apart does = record { length = by_order (cases_order p.interface.len
     same : subnet p.address p.interface.length ≡ subnet q.address p.interface.length
     same = eqb-true _ _ (and_parts (nat_le p.interface.length q.interface.length) (contains p.address p.interface.length q.address) does).1
 
-    by_order : (p.interface.length ≡ q.interface.length) ⊎ ((p.interface.length < q.interface.length) ⊎ (q.interface.length < p.interface.length)) → p.interface.length < q.interface.length
+    by_order : (p.interface.length ≡ q.interface.length)
+        ⊎ ((p.interface.length < q.interface.length) ⊎ (q.interface.length < p.interface.length)) →
+        p.interface.length < q.interface.length
     by_order (inl one) = absurd (false≢true (sym apart ∙ shares_from p q (record { length = one; subnet = same ∙ ap (subnet q.address) one })))
     by_order (inr (inl below)) = below
     by_order (inr (inr above)) =
@@ -33,23 +35,28 @@ shorter p q apart does = record { length = by_order (cases_order p.interface.len
 
 module _ {S R : Type 0} (seen : IndexMap Subnet Owner S) (enclosing : IndexMap Subnet Owner R) (before : List Port) (p : Port) where
   -- an earlier port's subnet that contains the port's is found among the subnets seen
-  not_round : ((l : ℕ) → l < p.interface.length → has_other (get same_subnet seen (prefix_of p l)) p.router ≡ false) → (q : Port) → HasSubnet seen q → (q.router == p.router) ≡ false → Shorter q p → ⊥
+  not_round : ((l : ℕ) → l < p.interface.length → has_other (get same_subnet seen (prefix_of p l)) p.router ≡ false) →
+      (q : Port) → HasSubnet seen q → (q.router == p.router) ≡ false → Shorter q p → ⊥
   not_round none q noted apart round =
       false≢true (sym (none q.interface.length round.length)
       ∙ ap (λ a. has_other (get same_subnet seen (record { length = q.interface.length; address = a })) p.router) (sym round.within)
       ∙ other_noted (get same_subnet seen (subnet_of q)) q.router p.router noted apart)
 
   -- the port's subnet is found among the prefixes that enclose an earlier one in it
-  not_inside : has_other (get same_subnet enclosing (subnet_of p)) p.router ≡ false → (q : Port) → HasPrefixes enclosing q → (q.router == p.router) ≡ false → Shorter p q → ⊥
+  not_inside : has_other (get same_subnet enclosing (subnet_of p)) p.router ≡ false → (q : Port) →
+      HasPrefixes enclosing q → (q.router == p.router) ≡ false → Shorter p q → ⊥
   not_inside alone q noted apart inside =
       false≢true (sym alone
       ∙ ap (λ a. has_other (get same_subnet enclosing (record { length = p.interface.length; address = a })) p.router) inside.within
       ∙ other_noted (get same_subnet enclosing (prefix_of q p.interface.length)) q.router p.router (noted p.interface.length inside.length) apart)
 
-  no_overlap : All (HasSubnet seen) before → All (HasPrefixes enclosing) before → ((l : ℕ) → l < p.interface.length → has_other (get same_subnet seen (prefix_of p l)) p.router ≡ false) → has_other (get same_subnet enclosing (subnet_of p)) p.router ≡ false → is_overlap before p ≡ false
+  no_overlap : All (HasSubnet seen) before → All (HasPrefixes enclosing) before →
+      ((l : ℕ) → l < p.interface.length → has_other (get same_subnet seen (prefix_of p l)) p.router ≡ false) →
+      has_other (get same_subnet enclosing (subnet_of p)) p.router ≡ false → is_overlap before p ≡ false
   no_overlap found noted none alone = list_any_none _ before (λ k d within. one (get_or before k d) (found k d within) (noted k d within))
     where
-      one : (q : Port) → HasSubnet seen q → HasPrefixes enclosing q → (not (q.router == p.router) && not (shares_subnet q p) && (holds q p || holds p q)) ≡ false
+      one : (q : Port) → HasSubnet seen q → HasPrefixes enclosing q →
+          (not (q.router == p.router) && not (shares_subnet q p) && (holds q p || holds p q)) ≡ false
       one q there has = false_from_ne_true _ (λ does.
           (let parts = and_parts (not (q.router == p.router) && not (shares_subnet q p)) (holds q p || holds p q) does in
           let differ = and_parts (not (q.router == p.router)) (not (shares_subnet q p)) parts.0 in
@@ -60,7 +67,9 @@ module _ {S R : Type 0} (seen : IndexMap Subnet Owner S) (enclosing : IndexMap S
             | inr fails ↦ not_inside alone q has other (shorter p q (shares_swap p q ∙ apart) (sym (ap (λ b. b || holds p q) fails) ∙ parts.1))
           ]))
 
-  pub overlap_found : All (HasSubnet seen) before → All (HasPrefixes enclosing) before → ((l : ℕ) → l < p.interface.length → has_other (get same_subnet seen (prefix_of p l)) p.router ≡ false) → is_overlap before p ≡ true → has_other (get same_subnet enclosing (subnet_of p)) p.router ≡ true
+  pub overlap_found : All (HasSubnet seen) before → All (HasPrefixes enclosing) before →
+      ((l : ℕ) → l < p.interface.length → has_other (get same_subnet seen (prefix_of p l)) p.router ≡ false) →
+      is_overlap before p ≡ true → has_other (get same_subnet enclosing (subnet_of p)) p.router ≡ true
   overlap_found found noted none does =
       elim (cases_Bool (has_other (get same_subnet enclosing (subnet_of p)) p.router)) [
         | inl there ↦ there

@@ -16,9 +16,12 @@ pub all_from_at : {X : Type 0} (P : X → Type 0) (xs : List X) → ((k : ℕ) (
 all_from_at P xs each = λ k d within. each k (get_or xs k d) (slice_get-get_or xs k d within)
 
 -- what holds of pairs holds of the elements at two places
-pub pair_at : {X : Type 0} (R : X → X → Type 0) (xs : List X) → AllPairs R xs → (i j : ℕ) (x y : X) → i < j → slice_get xs i ≡ Some x → slice_get xs j ≡ Some y → R x y
+pub pair_at : {X : Type 0} (R : X → X → Type 0) (xs : List X) → AllPairs R xs → (i j : ℕ) (x y : X) → i < j →
+    slice_get xs i ≡ Some x → slice_get xs j ≡ Some y → R x y
 pair_at R xs pairs i j x y below at_i at_j =
-    subst (λ v. R v y) (get_or_from_slice_get xs i x x at_i) (subst (λ v. R (get_or xs i x) v) (get_or_from_slice_get xs j y x at_j) (pairs i j x below (slice_get_within xs j y at_j)))
+    subst (λ v. R v y) (get_or_from_slice_get xs i x x at_i)
+    (subst (λ v. R (get_or xs i x) v) (get_or_from_slice_get xs j y x at_j)
+    (pairs i j x below (slice_get_within xs j y at_j)))
 
 pub pairs_nil : {X : Type 0} (R : X → X → Type 0) → AllPairs R []
 pairs_nil R = λ i j d below within. absurd (omega arith)
@@ -59,7 +62,8 @@ count_agree f g same [] = refl
 count_agree f g same (x ∷ xs) =
     count_by-cons f x xs ∙ ap (λ b. cond b 1 0 + count_by f xs) (same x) ∙ ap (λ n. cond (g x) 1 0 + n) (count_agree f g same xs) ∙ sym (count_by-cons g x xs)
 
-filter_by : {X : Type 0} (f : X → Bool) (b : Bool) (x : X) (kept xs : List X) → (f x ≡ true → b ≡ true) → count_by f kept ≡ count_by f xs → count_by f (cond b (x ∷ kept) kept) ≡ count_by f (x ∷ xs)
+filter_by : {X : Type 0} (f : X → Bool) (b : Bool) (x : X) (kept xs : List X) → (f x ≡ true → b ≡ true) →
+    count_by f kept ≡ count_by f xs → count_by f (cond b (x ∷ kept) kept) ≡ count_by f (x ∷ xs)
 filter_by f true x kept xs passes same = count_by-cons f x kept ∙ ap (λ n. cond (f x) 1 0 + n) same ∙ sym (count_by-cons f x xs)
 filter_by f false x kept xs passes same =
     elim (cases_Bool (f x)) [
@@ -71,7 +75,8 @@ filter_by f false x kept xs passes same =
 pub count_filter : {X : Type 0} (f g : X → Bool) (xs : List X) → All (λ x. f x ≡ true → g x ≡ true) xs → count_by f (filter g xs) ≡ count_by f xs
 count_filter f g [] all = refl
 count_filter f g (x ∷ xs) all =
-    filter_by f (g x) x (filter g xs) xs (All-head (λ v. f v ≡ true → g v ≡ true) x xs all) (count_filter f g xs (All-tail (λ v. f v ≡ true → g v ≡ true) x xs all))
+    filter_by f (g x) x (filter g xs) xs (All-head (λ v. f v ≡ true → g v ≡ true) x xs all)
+    (count_filter f g xs (All-tail (λ v. f v ≡ true → g v ≡ true) x xs all))
 
 -- none passes where the count is 0
 pub none_pass : {X : Type 0} (f : X → Bool) (xs : List X) → count_by f xs ≡ 0 → (k : ℕ) (x : X) → slice_get xs k ≡ Some x → f x ≡ true → ⊥
@@ -118,7 +123,8 @@ one_place {X} f (x ∷ xs) count =
     only_first none zero y at does = refl
     only_first none (suc k) y at does = absurd (none_pass f xs none k y at does)
 
-    only_later : f x ≡ false → (place : ℕ) → ((k : ℕ) (y : X) → slice_get xs k ≡ Some y → f y ≡ true → k ≡ place) → (k : ℕ) (y : X) → slice_get (x ∷ xs) k ≡ Some y → f y ≡ true → k ≡ suc place
+    only_later : f x ≡ false → (place : ℕ) → ((k : ℕ) (y : X) → slice_get xs k ≡ Some y → f y ≡ true → k ≡ place) →
+        (k : ℕ) (y : X) → slice_get (x ∷ xs) k ≡ Some y → f y ≡ true → k ≡ suc place
     only_later fails place only zero y at does = absurd (false≢true (sym fails ∙ ap f (same_Some x y at) ∙ does))
     only_later fails place only (suc k) y at does = ap suc (only k y at does)
 
@@ -128,17 +134,45 @@ two_places {X} f (x ∷ xs) count =
     elim (cases_Bool (f x)) [
       | inl does ↦
           let rest = one_place f xs (omega (arith, count_by-cons f x xs ∙ ap (λ b. cond b 1 0 + count_by f xs) does)) in
-          record { first = 0; second = suc rest.place; item = x; other = rest.item; apart = omega arith; at_first = refl; at_second = rest.at; first_passes = does; second_passes = rest.passes; only = with_first rest.place rest.only }
+          record {
+            first = 0;
+            second = suc rest.place;
+            item = x;
+            other = rest.item;
+            apart = omega arith;
+            at_first = refl;
+            at_second = rest.at;
+            first_passes = does;
+            second_passes = rest.passes;
+            only =
+                with_first rest.place rest.only;
+          }
       | inr fails ↦
           let rest = two_places f xs (omega (arith, count_by-cons f x xs ∙ ap (λ b. cond b 1 0 + count_by f xs) fails)) in
-          record { first = suc rest.first; second = suc rest.second; item = rest.item; other = rest.other; apart = omega (arith, rest.apart); at_first = rest.at_first; at_second = rest.at_second; first_passes = rest.first_passes; second_passes = rest.second_passes; only = both_later fails rest.first rest.second rest.only }
+          record {
+            first = suc rest.first;
+            second = suc rest.second;
+            item = rest.item;
+            other = rest.other;
+            apart = omega (arith, rest.apart);
+            at_first = rest.at_first;
+            at_second = rest.at_second;
+            first_passes =
+                rest.first_passes;
+            second_passes = rest.second_passes;
+            only =
+                both_later fails rest.first rest.second rest.only;
+          }
     ]
   where
-    with_first : (place : ℕ) → ((k : ℕ) (y : X) → slice_get xs k ≡ Some y → f y ≡ true → k ≡ place) → (k : ℕ) (y : X) → slice_get (x ∷ xs) k ≡ Some y → f y ≡ true → (k ≡ 0) ⊎ (k ≡ suc place)
+    with_first : (place : ℕ) → ((k : ℕ) (y : X) → slice_get xs k ≡ Some y → f y ≡ true → k ≡ place) → (k : ℕ) (y : X) →
+        slice_get (x ∷ xs) k ≡ Some y → f y ≡ true → (k ≡ 0) ⊎ (k ≡ suc place)
     with_first place only zero y at does = inl refl
     with_first place only (suc k) y at does = inr (ap suc (only k y at does))
 
-    both_later : f x ≡ false → (first second : ℕ) → ((k : ℕ) (y : X) → slice_get xs k ≡ Some y → f y ≡ true → (k ≡ first) ⊎ (k ≡ second)) → (k : ℕ) (y : X) → slice_get (x ∷ xs) k ≡ Some y → f y ≡ true → (k ≡ suc first) ⊎ (k ≡ suc second)
+    both_later : f x ≡ false → (first second : ℕ) →
+        ((k : ℕ) (y : X) → slice_get xs k ≡ Some y → f y ≡ true → (k ≡ first) ⊎ (k ≡ second)) → (k : ℕ) (y : X) →
+        slice_get (x ∷ xs) k ≡ Some y → f y ≡ true → (k ≡ suc first) ⊎ (k ≡ suc second)
     both_later fails first second only zero y at does = absurd (false≢true (sym fails ∙ ap f (same_Some x y at) ∙ does))
     both_later fails first second only (suc k) y at does = elim (only k y at does) [ inl one ↦ inl (ap suc one) | inr two ↦ inr (ap suc two) ]
 
@@ -155,6 +189,24 @@ pub other_place : {X : Type 0} (f : X → Bool) (xs : List X) → count_by f xs 
 other_place {X} f xs count l x at passes =
     let both = two_places f xs count in
     elim (both.only l x at passes) [
-      | inl is_first ↦ record { place = both.second; item = both.other; apart = λ h. (let below = both.apart in omega arith); at = both.at_second; passes = both.second_passes; only = λ k y at_k does. (elim (both.only k y at_k does) [ inl one ↦ inl (one ∙ sym is_first) | inr two ↦ inr two ]) }
-      | inr is_second ↦ record { place = both.first; item = both.item; apart = λ h. (let below = both.apart in omega arith); at = both.at_first; passes = both.first_passes; only = λ k y at_k does. (elim (both.only k y at_k does) [ inl one ↦ inr one | inr two ↦ inl (two ∙ sym is_second) ]) }
+      | inl is_first ↦ record {
+        place = both.second;
+        item = both.other;
+        apart = λ h. (let below = both.apart in omega arith);
+        at = both.at_second;
+        passes = both.second_passes;
+        only =
+            λ k y at_k does. (elim (both.only k y at_k does)
+            [ inl one ↦ inl (one ∙ sym is_first) | inr two ↦ inr two ]);
+      }
+      | inr is_second ↦ record {
+        place = both.first;
+        item = both.item;
+        apart = λ h. (let below = both.apart in omega arith);
+        at = both.at_first;
+        passes = both.first_passes;
+        only =
+            λ k y at_k does. (elim (both.only k y at_k does)
+            [ inl one ↦ inr one | inr two ↦ inl (two ∙ sym is_second) ]);
+      }
     ]

@@ -23,14 +23,18 @@ listed_or None fresh none = none
 listed_or (Some places) fresh none = refl
 
 -- a subnet's list with one place more
-pub places_more : {A S : Type 0} (old new : IndexMap Subnet (Vec ℕ A) S) (subnet : Subnet) (place : ℕ) (fresh before after : Vec ℕ A) → fresh.items ≡ [] → before ≡ unwrap_or (get same_subnet old subnet) fresh → after.items ≡ before.items ++ place ∷ [] → Updates same_subnet old new subnet (Some after) → (key : Subnet) → places_at new key ≡ places_at old key ++ cond (same_subnet subnet key) (place ∷ []) []
+pub places_more : {A S : Type 0} (old new : IndexMap Subnet (Vec ℕ A) S) (subnet : Subnet) (place : ℕ)
+    (fresh before after : Vec ℕ A) → fresh.items ≡ [] → before ≡ unwrap_or (get same_subnet old subnet) fresh →
+    after.items ≡ before.items ++ place ∷ [] → Updates same_subnet old new subnet (Some after) → (key : Subnet) →
+    places_at new key ≡ places_at old key ++ cond (same_subnet subnet key) (place ∷ []) []
 places_more {A} old new subnet place fresh before after none before_is after_is updates key =
     elim (cases_Bool (same_subnet subnet key)) [
       | inl same ↦
           ap listed (updates.0 key ∙ ap (λ b. cond b (Some after) (get same_subnet old key)) same)
           ∙ after_is
           ∙ ap (λ (places : Vec ℕ A). places.items ++ place ∷ []) before_is
-          ∙ ap (λ (places : List ℕ). places ++ place ∷ []) (listed_or (get same_subnet old subnet) fresh none ∙ ap (places_at old) (same_subnets subnet key same))
+          ∙ ap (λ (places : List ℕ). places ++ place ∷ []) (listed_or (get same_subnet old subnet) fresh none
+          ∙ ap (places_at old) (same_subnets subnet key same))
           ∙ sym (ap (λ b. places_at old key ++ cond b (place ∷ []) []) same)
       | inr differs ↦
           ap listed (updates.0 key ∙ ap (λ b. cond b (Some after) (get same_subnet old key)) differs)
@@ -41,14 +45,21 @@ places_more {A} old new subnet place fresh before after none before_is after_is 
 -- the places of two lists, one after the other
 places_append : (n : ℕ) (test : Port → Bool) (xs ys : List Port) → places_from n test (xs ++ ys) ≡ places_from n test xs ++ places_from (n + length xs) test ys
 places_append n test [] ys = ap (λ m. places_from m test ys) (omega arith)
-places_append n test (x ∷ xs) ys = by_test (test x) (places_append (n + 1) test xs ys ∙ ap (λ m. places_from (n + 1) test xs ++ places_from m test ys) (omega arith))
+places_append n test (x ∷ xs) ys =
+    by_test (test x) (places_append (n + 1) test xs ys
+    ∙ ap (λ m. places_from (n + 1) test xs ++ places_from m test ys) (omega arith))
   where
-    by_test : (b : Bool) → places_from (n + 1) test (xs ++ ys) ≡ places_from (n + 1) test xs ++ places_from (n + suc (length xs)) test ys → cond b (n ∷ places_from (n + 1) test (xs ++ ys)) (places_from (n + 1) test (xs ++ ys)) ≡ cond b (n ∷ places_from (n + 1) test xs) (places_from (n + 1) test xs) ++ places_from (n + suc (length xs)) test ys
+    by_test : (b : Bool) → places_from (n + 1) test (xs ++ ys) ≡ places_from (n + 1) test xs
+        ++ places_from (n + suc (length xs)) test ys →
+        cond b (n ∷ places_from (n + 1) test (xs ++ ys)) (places_from (n + 1) test (xs ++ ys))
+        ≡ cond b (n ∷ places_from (n + 1) test xs) (places_from (n + 1) test xs)
+        ++ places_from (n + suc (length xs)) test ys
     by_test true rest = ap (λ places. n ∷ places) rest
     by_test false rest = rest
 
 -- one port further, which passes or not
-pub places_next : (test : Port → Bool) (xs : List Port) (i : ℕ) (x : Port) → i < length xs → x ≡ get_or xs i x → places_from 0 test (take (i + 1) xs) ≡ places_from 0 test (take i xs) ++ cond (test x) (i ∷ []) []
+pub places_next : (test : Port → Bool) (xs : List Port) (i : ℕ) (x : Port) → i < length xs → x ≡ get_or xs i x →
+    places_from 0 test (take (i + 1) xs) ≡ places_from 0 test (take i xs) ++ cond (test x) (i ∷ []) []
 places_next test xs i x within is =
     ap (places_from 0 test) (take_more xs i x within)
     ∙ places_append 0 test (take i xs) (get_or xs i x ∷ [])
@@ -60,7 +71,9 @@ pub first_place : (n : ℕ) (test : Port → Bool) (xs : List Port) → slice_ge
 first_place n test [] = refl
 first_place n test (x ∷ xs) = by_test (test x) (first_place (n + 1) test xs)
   where
-    by_test : (b : Bool) → slice_get (places_from (n + 1) test xs) 0 ≡ place_from (n + 1) test xs → slice_get (cond b (n ∷ places_from (n + 1) test xs) (places_from (n + 1) test xs)) 0 ≡ cond b (Some n) (place_from (n + 1) test xs)
+    by_test : (b : Bool) → slice_get (places_from (n + 1) test xs) 0 ≡ place_from (n + 1) test xs →
+        slice_get (cond b (n ∷ places_from (n + 1) test xs) (places_from (n + 1) test xs)) 0
+        ≡ cond b (Some n) (place_from (n + 1) test xs)
     by_test true rest = refl
     by_test false rest = rest
 
@@ -70,7 +83,9 @@ first_passing test ports [] = None
 first_passing test ports (place ∷ places) = cond (passes test (slice_get ports place)) (Some place) (first_passing test ports places)
 
 -- where each port that passes the test is among those of the places, the first of the places that passes is the first of all
-passing_first : (test wide : Port → Bool) → ((p : Port) → wide p ≡ false → test p ≡ false) → (ports : List Port) (n : ℕ) (xs : List Port) → ((k : ℕ) → slice_get ports (n + k) ≡ slice_get xs k) → first_passing test ports (places_from n wide xs) ≡ place_from n test xs
+passing_first : (test wide : Port → Bool) → ((p : Port) → wide p ≡ false → test p ≡ false) →
+    (ports : List Port) (n : ℕ) (xs : List Port) → ((k : ℕ) → slice_get ports (n + k) ≡ slice_get xs k) →
+    first_passing test ports (places_from n wide xs) ≡ place_from n test xs
 passing_first test wide narrows ports n [] rest = refl
 passing_first test wide narrows ports n (x ∷ xs) rest =
     let later = passing_first test wide narrows ports (n + 1) xs (λ k. ap (slice_get ports) (omega arith) ∙ rest (suc k)) in

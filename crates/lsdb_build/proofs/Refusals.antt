@@ -47,14 +47,22 @@ tells_first f more (Refused fault config line) h = first_some-some f more (recor
 tells_first f more OutOfMemory h = tt
 
 -- a topology whose early checks find no fault has the later ones'
-pub later_faults : (area : ℕ) (routers : List Router) → at_config TooMany (past 1000 (length routers)) ≡ None → first_some (early routers (ports area routers)) ≡ None → topology_fault area routers ≡ first_some (designated (ports area routers) (transit_subnets (ports area routers)) ∷ overlap (ports area routers) ∷ [])
+pub later_faults : (area : ℕ) (routers : List Router) → at_config TooMany (past 1000 (length routers)) ≡ None →
+    first_some (early routers (ports area routers)) ≡ None →
+    topology_fault area routers
+    ≡ first_some (designated (ports area routers) (transit_subnets (ports area routers))
+    ∷ overlap (ports area routers) ∷ [])
 later_faults area routers few none =
     let all = ports area routers in
     let later = designated all (transit_subnets all) ∷ overlap all ∷ [] in
     first_some-none (at_config TooMany (past 1000 (length routers))) (early routers all ++ later) few ∙ first_some-append (early routers all) later none
 
 -- the refusal at a transit subnet, at the ports and first members that the calls gave
-pub tells_designated : (area : ℕ) (routers : List Router) (early_ports all transit : List Port) (stop : TopologyStop) → at_config TooMany (past 1000 (length routers)) ≡ None → early_ports ≡ ports area routers → first_some (early routers early_ports) ≡ None → all ≡ ports area routers → transit ≡ transit_subnets (ports area routers) → Tells (designated all transit) stop → Tells (topology_fault area routers) stop
+pub tells_designated : (area : ℕ) (routers : List Router) (early_ports all transit : List Port) (stop : TopologyStop) →
+    at_config TooMany (past 1000 (length routers)) ≡ None → early_ports ≡ ports area routers →
+    first_some (early routers early_ports) ≡ None → all ≡ ports area routers →
+    transit ≡ transit_subnets (ports area routers) → Tells (designated all transit) stop →
+    Tells (topology_fault area routers) stop
 tells_designated area routers early_ports all transit stop few early_is none all_is transit_is h =
     let found = ports area routers in
     subst (λ f. Tells f stop) (sym (later_faults area routers few (ap (λ ps. first_some (early routers ps)) (sym early_is) ∙ none)))
@@ -62,25 +70,55 @@ tells_designated area routers early_ports all transit stop few early_is none all
     (subst (λ f. Tells f stop) (ap (λ ps. designated ps transit) all_is ∙ ap (designated found) transit_is) h))
 
 -- the refusal of an overlap
-pub tells_overlap : (area : ℕ) (routers : List Router) (early_ports all transit others : List Port) (stop : TopologyStop) → at_config TooMany (past 1000 (length routers)) ≡ None → early_ports ≡ ports area routers → first_some (early routers early_ports) ≡ None → all ≡ ports area routers → transit ≡ transit_subnets (ports area routers) → designated all transit ≡ None → others ≡ ports area routers → Tells (overlap others) stop → Tells (topology_fault area routers) stop
+pub tells_overlap : (area : ℕ) (routers : List Router) (early_ports all transit others : List Port)
+    (stop : TopologyStop) → at_config TooMany (past 1000 (length routers)) ≡ None → early_ports ≡ ports area routers →
+    first_some (early routers early_ports) ≡ None → all ≡ ports area routers →
+    transit ≡ transit_subnets (ports area routers) → designated all transit ≡ None → others ≡ ports area routers →
+    Tells (overlap others) stop → Tells (topology_fault area routers) stop
 tells_overlap area routers early_ports all transit others stop few early_is none all_is transit_is fine others_is h =
     let found = ports area routers in
-    subst (λ f. Tells f stop) (sym (later_faults area routers few (ap (λ ps. first_some (early routers ps)) (sym early_is) ∙ none) ∙ first_some-none (designated found (transit_subnets found)) (overlap found ∷ []) (sym (ap (λ ps. designated ps transit) all_is ∙ ap (designated found) transit_is) ∙ fine)))
+    subst (λ f. Tells f stop) (sym
+    (later_faults area routers few (ap (λ ps. first_some (early routers ps)) (sym early_is) ∙ none)
+    ∙ first_some-none (designated found (transit_subnets found)) (overlap found ∷ [])
+    (sym (ap (λ ps. designated ps transit) all_is ∙ ap (designated found) transit_is) ∙ fine)))
     (tells_first (overlap found) [] stop (subst (λ f. Tells f stop) (ap overlap others_is) h))
 
 -- no check finds a fault
-pub none_found : (area : ℕ) (routers : List Router) (early_ports all transit others : List Port) → at_config TooMany (past 1000 (length routers)) ≡ None → early_ports ≡ ports area routers → first_some (early routers early_ports) ≡ None → all ≡ ports area routers → transit ≡ transit_subnets (ports area routers) → designated all transit ≡ None → others ≡ ports area routers → overlap others ≡ None → topology_fault area routers ≡ None
+pub none_found : (area : ℕ) (routers : List Router) (early_ports all transit others : List Port) →
+    at_config TooMany (past 1000 (length routers)) ≡ None → early_ports ≡ ports area routers →
+    first_some (early routers early_ports) ≡ None → all ≡ ports area routers →
+    transit ≡ transit_subnets (ports area routers) → designated all transit ≡ None → others ≡ ports area routers →
+    overlap others ≡ None → topology_fault area routers ≡ None
 none_found area routers early_ports all transit others few early_is none all_is transit_is fine others_is apart =
     let found = ports area routers in
     later_faults area routers few (ap (λ ps. first_some (early routers ps)) (sym early_is) ∙ none)
-    ∙ first_some-none (designated found (transit_subnets found)) (overlap found ∷ []) (sym (ap (λ ps. designated ps transit) all_is ∙ ap (designated found) transit_is) ∙ fine)
+    ∙ first_some-none (designated found (transit_subnets found)) (overlap found ∷ [])
+    (sym (ap (λ ps. designated ps transit) all_is ∙ ap (designated found) transit_is) ∙ fine)
     ∙ first_some-none (overlap found) [] (sym (ap overlap others_is) ∙ apart)
 
 -- the links and subnets that the calls made are those of a database
-pub made_is : (area : ℕ) (routers : List Router) (links transit : List Port) → topology_fault area routers ≡ None → All IsRouter routers → links ≡ linked (ports area routers) → transit ≡ transit_subnets (ports area routers) → IsDatabase (record { routers = map (λ r. r.name) routers; links = map (link_among links transit) links; subnets = map (λ first. places_from 0 (shares_subnet first) links) transit })
+pub made_is : (area : ℕ) (routers : List Router) (links transit : List Port) → topology_fault area routers ≡ None →
+    All IsRouter routers → links ≡ linked (ports area routers) → transit ≡ transit_subnets (ports area routers) →
+    IsDatabase (record {
+      routers = map (λ r. r.name) routers;
+      links = map (link_among links transit) links;
+      subnets = map (λ first. places_from 0 (shares_subnet first) links) transit;
+    })
 made_is area routers links transit fine valid links_is transit_is =
-    subst (λ (ls : List Port). IsDatabase (record { routers = map (λ (r : Router). r.name) routers; links = map (link_among ls transit) ls; subnets = map (λ (first : Port). places_from 0 (shares_subnet first) ls) transit })) (sym links_is)
-    (subst (λ (ts : List Port). IsDatabase (record { routers = map (λ (r : Router). r.name) routers; links = map (link_among (linked (ports area routers)) ts) (linked (ports area routers)); subnets = map (λ (first : Port). places_from 0 (shares_subnet first) (linked (ports area routers))) ts })) (sym transit_is)
+    subst (λ (ls : List Port). IsDatabase
+    (record {
+      routers = map (λ (r : Router). r.name) routers;
+      links = map (link_among ls transit) ls;
+      subnets = map (λ (first : Port). places_from 0 (shares_subnet first) ls) transit;
+    })) (sym links_is)
+    (subst (λ (ts : List Port). IsDatabase
+    (record {
+      routers = map (λ (r : Router). r.name) routers;
+      links = map (link_among (linked (ports area routers)) ts) (linked (ports area routers));
+      subnets =
+          map (λ (first : Port). places_from 0 (shares_subnet first) (linked (ports area routers))) ts;
+    }))
+    (sym transit_is)
     (database_is area routers fine valid))
 
 -- at most 4,000 ports have at most so many linked ones and transit subnets

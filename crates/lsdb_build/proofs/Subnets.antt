@@ -5,18 +5,13 @@ use Rattle.std.proofs.lemmas.Bool.{false≢true, or_parts, and_parts, and_from, 
 use Rattle.std.proofs.lemmas.Option.{none-some, same_Some}
 use Rattle.std.proofs.lemmas.List.Elements.{All-nil, All-cons, All-head, All-tail, All-weaker}
 use Rattle.std.proofs.lemmas.List.Kept.{AllPairs-cons}
+use Rattle.cost_base.proofs.ListLemmas.{same_test}
 use Rattle.interface_model.specs.declared.Kind.{Kind}
 use Rattle.interface_model.specs.declared.Kind.TheVariants.{PointToPoint, Broadcast}
 use Rattle.interface_model.specs.Addresses.{subnet}
 use Rattle.lsdb_build.specs.Neighbours.{Port, shares_subnet, is_broadcast, first_members, place_from}
 use Rattle.lsdb_build.specs.Topology.{first_where, same_kind}
 use Rattle.lsdb_build.proofs.Pairs.{pair_at, pairs_nil}
-
--- equal tests, one implied by the other both ways
-same_tests : (a b : Bool) → (a ≡ true → b ≡ true) → (b ≡ true → a ≡ true) → a ≡ b
-same_tests true b then back = sym (then refl)
-same_tests false true then back = absurd (false≢true (back refl))
-same_tests false false then back = refl
 
 -- what it means to share a subnet
 pub record OneSubnet (p q : Port) : Type 0 where
@@ -38,7 +33,7 @@ pub shares_back : (p q : Port) → shares_subnet p q ≡ true → shares_subnet 
 shares_back p q h = let s = shares_tells p q h in shares_from q p (record { length = sym s.length; subnet = sym s.subnet })
 
 pub shares_swap : (p q : Port) → shares_subnet p q ≡ shares_subnet q p
-shares_swap p q = same_tests (shares_subnet p q) (shares_subnet q p) (shares_back p q) (shares_back q p)
+shares_swap p q = same_test (shares_subnet p q) (shares_subnet q p) (shares_back p q) (shares_back q p)
 
 pub shares_on : (p q r : Port) → shares_subnet p q ≡ true → shares_subnet q r ≡ true → shares_subnet p r ≡ true
 shares_on p q r h k =
@@ -48,7 +43,7 @@ shares_on p q r h k =
 
 -- two ports of one subnet share it with the same ports
 pub shares_alike : (p q : Port) → shares_subnet p q ≡ true → (r : Port) → shares_subnet p r ≡ shares_subnet q r
-shares_alike p q h r = same_tests _ _ (λ k. shares_on q p r (shares_back p q h) k) (λ k. shares_on p q r h k)
+shares_alike p q h r = same_test _ _ (λ k. shares_on q p r (shares_back p q h) k) (λ k. shares_on p q r h k)
 
 pub shares_not_back : (p q : Port) → shares_subnet p q ≡ false → shares_subnet q p ≡ false
 shares_not_back p q h = false_from_ne_true _ (λ k. false≢true (sym h ∙ shares_back q p k))
@@ -58,7 +53,8 @@ pub record NonePasses (t : Port → Port → Bool) (before xs : List Port) : Typ
   pub across : All (λ p. list_any (λ q. t q p) before ≡ false) xs
   pub pairs : AllPairs (λ a b. t a b ≡ false) xs
 
-first_step : (t : Port → Port → Bool) (before : List Port) (p : Port) (b : Bool) (rest : Option Port) → cond b (Some p) rest ≡ None → (b ≡ false) × (rest ≡ None)
+first_step : (t : Port → Port → Bool) (before : List Port) (p : Port) (b : Bool) (rest : Option Port) →
+    cond b (Some p) rest ≡ None → (b ≡ false) × (rest ≡ None)
 first_step t before p true rest h = absurd (none-some p (sym h))
 first_step t before p false rest h = (refl, h)
 
@@ -68,8 +64,12 @@ none_passes t before (p ∷ xs) h =
     let step = first_step t before p (list_any (λ q. t q p) before) (first_where (λ b v. list_any (λ q. t q v) b) (p ∷ before) xs) h in
     let rest = none_passes t (p ∷ before) xs step.1 in
     record {
-      across = All-cons (λ v. list_any (λ q. t q v) before ≡ false) p xs step.0 (All-weaker (λ v. list_any (λ q. t q v) (p ∷ before) ≡ false) (λ v. list_any (λ q. t q v) before ≡ false) (λ v k. (or_parts (t p v) (list_any (λ q. t q v) before) k).1) xs rest.across);
-      pairs = AllPairs-cons (λ a b. t a b ≡ false) p xs (All-weaker (λ v. list_any (λ q. t q v) (p ∷ before) ≡ false) (λ v. t p v ≡ false) (λ v k. (or_parts (t p v) (list_any (λ q. t q v) before) k).0) xs rest.across) rest.pairs;
+      across = All-cons (λ v. list_any (λ q. t q v) before ≡ false) p xs step.0
+          (All-weaker (λ v. list_any (λ q. t q v) (p ∷ before) ≡ false) (λ v. list_any (λ q. t q v) before ≡ false)
+          (λ v k. (or_parts (t p v) (list_any (λ q. t q v) before) k).1) xs rest.across);
+      pairs = AllPairs-cons (λ a b. t a b ≡ false) p xs
+          (All-weaker (λ v. list_any (λ q. t q v) (p ∷ before) ≡ false) (λ v. t p v ≡ false)
+          (λ v k. (or_parts (t p v) (list_any (λ q. t q v) before) k).0) xs rest.across) rest.pairs;
     }
 
 -- ports of one subnet have one network kind
@@ -89,7 +89,8 @@ one_kind a b same shares =
       | inr two ↦ absurd (false≢true (sym same ∙ and_from _ _ shares (ap not two)))
     ]
 
-pub kinds_at : (xs : List Port) → AllPairs (λ a b. differs_in_kind a b ≡ false) xs → (i j : ℕ) (p q : Port) → slice_get xs i ≡ Some p → slice_get xs j ≡ Some q → shares_subnet p q ≡ true → p.interface.kind ≡ q.interface.kind
+pub kinds_at : (xs : List Port) → AllPairs (λ a b. differs_in_kind a b ≡ false) xs → (i j : ℕ) (p q : Port) →
+    slice_get xs i ≡ Some p → slice_get xs j ≡ Some q → shares_subnet p q ≡ true → p.interface.kind ≡ q.interface.kind
 kinds_at xs pairs i j p q at_i at_j shares = by_order (cases_order i j)
   where
     by_order : (i ≡ j) ⊎ ((i < j) ⊎ (j < i)) → p.interface.kind ≡ q.interface.kind
@@ -98,7 +99,9 @@ kinds_at xs pairs i j p q at_i at_j shares = by_order (cases_order i j)
     by_order (inr (inr above)) = sym (one_kind q p (pair_at (λ a b. differs_in_kind a b ≡ false) xs pairs j i q p above at_j at_i) (shares_back p q shares))
 
 -- the first place that passes, where it is the only one
-pub place_only : (test : Port → Bool) (n : ℕ) (xs : List Port) (m : ℕ) (y : Port) → slice_get xs m ≡ Some y → test y ≡ true → ((k : ℕ) (z : Port) → slice_get xs k ≡ Some z → test z ≡ true → k ≡ m) → place_from n test xs ≡ Some (n + m)
+pub place_only : (test : Port → Bool) (n : ℕ) (xs : List Port) (m : ℕ) (y : Port) → slice_get xs m ≡ Some y →
+    test y ≡ true → ((k : ℕ) (z : Port) → slice_get xs k ≡ Some z → test z ≡ true → k ≡ m) →
+    place_from n test xs ≡ Some (n + m)
 place_only test n [] m y at passes only = absurd (none-some y at)
 place_only test n (x ∷ xs) zero y at passes only =
     ap (λ b. cond b (Some n) (place_from (n + 1) test xs)) (ap test (same_Some x y at) ∙ passes) ∙ ap Some (omega arith)
@@ -124,7 +127,8 @@ pub firsts_length : (before xs : List Port) → length (first_members before xs)
 firsts_length before [] = omega arith
 firsts_length before (p ∷ xs) = by_test (is_broadcast p && not (list_any (shares_subnet p) before)) (firsts_length (p ∷ before) xs)
   where
-    by_test : (b : Bool) → length (first_members (p ∷ before) xs) ≤ length xs → length (cond b (p ∷ first_members (p ∷ before) xs) (first_members (p ∷ before) xs)) ≤ suc (length xs)
+    by_test : (b : Bool) → length (first_members (p ∷ before) xs) ≤ length xs →
+        length (cond b (p ∷ first_members (p ∷ before) xs) (first_members (p ∷ before) xs)) ≤ suc (length xs)
     by_test true h = omega arith
     by_test false h = omega arith
 
@@ -135,16 +139,28 @@ pub record AreFirst (before firsts : List Port) : Type 0 where
   pub apart : AllPairs (λ a b. shares_subnet a b ≡ false) firsts
 
 pub firsts_are_first : (before xs : List Port) → AreFirst before (first_members before xs)
-firsts_are_first before [] = record { broadcast = All-nil (λ f. is_broadcast f ≡ true); fresh = All-nil (λ f. list_any (shares_subnet f) before ≡ false); apart = pairs_nil (λ a b. shares_subnet a b ≡ false) }
+firsts_are_first before [] = record {
+  broadcast = All-nil (λ f. is_broadcast f ≡ true);
+  fresh = All-nil (λ f. list_any (shares_subnet f) before ≡ false);
+  apart =
+      pairs_nil (λ a b. shares_subnet a b ≡ false);
+}
 firsts_are_first before (p ∷ xs) = by_test (is_broadcast p && not (list_any (shares_subnet p) before)) refl (firsts_are_first (p ∷ before) xs)
   where
     older : (firsts : List Port) → AreFirst (p ∷ before) firsts → All (λ f. list_any (shares_subnet f) before ≡ false) firsts
-    older firsts rest = All-weaker (λ f. list_any (shares_subnet f) (p ∷ before) ≡ false) (λ f. list_any (shares_subnet f) before ≡ false) (λ f h. (or_parts (shares_subnet f p) (list_any (shares_subnet f) before) h).1) firsts rest.fresh
+    older firsts rest = All-weaker (λ f. list_any (shares_subnet f) (p ∷ before) ≡ false)
+        (λ f. list_any (shares_subnet f) before ≡ false)
+        (λ f h. (or_parts (shares_subnet f p) (list_any (shares_subnet f) before) h).1) firsts rest.fresh
 
     other : (firsts : List Port) → AreFirst (p ∷ before) firsts → All (λ f. shares_subnet p f ≡ false) firsts
-    other firsts rest = All-weaker (λ f. list_any (shares_subnet f) (p ∷ before) ≡ false) (λ f. shares_subnet p f ≡ false) (λ f h. shares_not_back f p (or_parts (shares_subnet f p) (list_any (shares_subnet f) before) h).0) firsts rest.fresh
+    other firsts rest = All-weaker (λ f. list_any (shares_subnet f) (p ∷ before) ≡ false)
+        (λ f. shares_subnet p f ≡ false)
+        (λ f h. shares_not_back f p (or_parts (shares_subnet f p) (list_any (shares_subnet f) before) h).0)
+        firsts rest.fresh
 
-    by_test : (b : Bool) → (is_broadcast p && not (list_any (shares_subnet p) before)) ≡ b → AreFirst (p ∷ before) (first_members (p ∷ before) xs) → AreFirst before (cond b (p ∷ first_members (p ∷ before) xs) (first_members (p ∷ before) xs))
+    by_test : (b : Bool) → (is_broadcast p && not (list_any (shares_subnet p) before)) ≡ b →
+        AreFirst (p ∷ before) (first_members (p ∷ before) xs) →
+        AreFirst before (cond b (p ∷ first_members (p ∷ before) xs) (first_members (p ∷ before) xs))
     by_test true is rest =
         let parts = and_parts (is_broadcast p) (not (list_any (shares_subnet p) before)) is in
         let firsts = first_members (p ∷ before) xs in
@@ -162,10 +178,6 @@ pub record FirstOf (p : Port) (firsts : List Port) : Type 0 where
   pub at : slice_get firsts place ≡ Some item
   pub shares : shares_subnet p item ≡ true
 
-list_any-agree : (f g : Port → Bool) → ((x : Port) → f x ≡ g x) → (xs : List Port) → list_any f xs ≡ list_any g xs
-list_any-agree f g same [] = refl
-list_any-agree f g same (x ∷ xs) = ap (λ b. b || list_any f xs) (same x) ∙ ap (λ b. g x || b) (list_any-agree f g same xs)
-
 -- one more first member in front, or none
 kept_first : (p : Port) (b : Bool) (x : Port) (firsts : List Port) → FirstOf p firsts → FirstOf p (cond b (x ∷ firsts) firsts)
 kept_first p true x firsts found = record { place = suc found.place; item = found.item; at = found.at; shares = found.shares }
@@ -176,15 +188,19 @@ new_first p true x firsts is shares = record { place = 0; item = x; at = refl; s
 new_first p false x firsts is shares = absurd (false≢true is)
 
 -- at a port of the subnet: it is the first member, or one before it shares the subnet
-at_first : (before : List Port) (x : Port) (xs : List Port) (p : Port) → shares_subnet p x ≡ true → is_broadcast x ≡ true → FirstOf p (first_members before (x ∷ xs)) ⊎ (list_any (shares_subnet p) before ≡ true)
+at_first : (before : List Port) (x : Port) (xs : List Port) (p : Port) → shares_subnet p x ≡ true →
+    is_broadcast x ≡ true → FirstOf p (first_members before (x ∷ xs)) ⊎ (list_any (shares_subnet p) before ≡ true)
 at_first before x xs p same broadcast =
     elim (cases_Bool (list_any (shares_subnet x) before)) [
-      | inl earlier ↦ inr (list_any-agree (shares_subnet p) (shares_subnet x) (shares_alike p x same) before ∙ earlier)
-      | inr fresh ↦ inl (new_first p (is_broadcast x && not (list_any (shares_subnet x) before)) x (first_members (x ∷ before) xs) (and_from _ _ broadcast (ap not fresh)) same)
+      | inl earlier ↦ inr (ap (λ (test : Port → Bool). list_any test before) (λ i q. shares_alike p x same q i) ∙ earlier)
+      | inr fresh ↦ inl (new_first p (is_broadcast x && not (list_any (shares_subnet x) before)) x
+          (first_members (x ∷ before) xs) (and_from _ _ broadcast (ap not fresh)) same)
     ]
 
 -- the subnet of a broadcast port has a first member, or one before it
-pub first_found : (before xs : List Port) (k : ℕ) (p : Port) → slice_get xs k ≡ Some p → All (λ q. shares_subnet p q ≡ true → is_broadcast q ≡ true) xs → FirstOf p (first_members before xs) ⊎ (list_any (shares_subnet p) before ≡ true)
+pub first_found : (before xs : List Port) (k : ℕ) (p : Port) → slice_get xs k ≡ Some p →
+    All (λ q. shares_subnet p q ≡ true → is_broadcast q ≡ true) xs → FirstOf p (first_members before xs)
+    ⊎ (list_any (shares_subnet p) before ≡ true)
 first_found before [] k p at all = absurd (none-some p at)
 first_found before (x ∷ xs) zero p at all =
     let is_same : shares_subnet p x ≡ true = ap (shares_subnet p) (same_Some x p at) ∙ shares_itself p in

@@ -13,7 +13,7 @@ use Rattle.lsdb_build.specs.Tallies.{count_of, IsTally, subnet_of, same_subnet, 
 use Rattle.lsdb_build.specs.Topology.{is_second_of_router, is_second_of_address, is_mismatch, lacks_designated, same_kind}
 use Rattle.interface_model.specs.declared.Kind.{Kind}
 use Rattle.interface_model.specs.declared.Kind.TheVariants.{PointToPoint, Broadcast}
-use Rattle.lsdb_build.proofs.Firsts.{reverse_more, count_by-reverse}
+use Rattle.lsdb_build.proofs.FirstPlaces.{reverse_more, count_by-reverse}
 use Rattle.lsdb_build.proofs.Pairs.{count_by-cons, count_agree}
 use Rattle.lsdb_build.proofs.Subnets.{shares_swap}
 
@@ -22,7 +22,8 @@ module _ {K S : Type 0} (eq : K → K → Bool) (laws : IsEquivalence eq) (old n
   count_alike : (other : K) → eq key other ≡ true → count_of eq old key ≡ count_of eq old other
   count_alike other same = ap (λ (test : K → Bool). unwrap_or (get_by test old) 0) (λ i x. laws.congr key other x same i)
 
-  pub tally_more : (n : ℕ) → n ≡ count_of eq old key → Updates eq old new key (Some (n + 1)) → (keys : List K) → IsTally eq old keys → IsTally eq new (key ∷ keys)
+  pub tally_more : (n : ℕ) → n ≡ count_of eq old key → Updates eq old new key (Some (n + 1)) → (keys : List K) →
+      IsTally eq old keys → IsTally eq new (key ∷ keys)
   tally_more n is updates keys tally other =
       elim (cases_Bool (eq key other)) [
         | inl same ↦
@@ -38,14 +39,23 @@ module _ {K S : Type 0} (eq : K → K → Bool) (laws : IsEquivalence eq) (old n
 
 module _ {X K S : Type 0} (eq : K → K → Bool) (of : X → K) (counts : IndexMap K ℕ S) (xs : List X) (i : ℕ) where
   -- one more element that was told apart by its key
-  pub tally_on : (x : X) → i < length xs → x ≡ get_or xs i x → (key : K) → key ≡ of x → IsTally eq counts (key ∷ map of (reverse (take i xs))) → IsTally eq counts (map of (reverse (take (i + 1) xs)))
+  pub tally_on : (x : X) → i < length xs → x ≡ get_or xs i x → (key : K) → key ≡ of x →
+      IsTally eq counts (key ∷ map of (reverse (take i xs))) → IsTally eq counts (map of (reverse (take (i + 1) xs)))
   tally_on x within is key key_is tally =
-      subst (λ ys. IsTally eq counts (map of ys)) (reverse_more xs i x within is) (subst (λ k. IsTally eq counts (k ∷ map of (reverse (take i xs)))) key_is tally)
+      subst (λ ys. IsTally eq counts (map of ys)) (reverse_more xs i x within is)
+      (subst (λ k. IsTally eq counts (k ∷ map of (reverse (take i xs)))) key_is tally)
 
   -- no key came more often than there are elements
   pub tally_few : IsTally eq counts (map of (reverse (take i xs))) → length xs ≤ 4000 → (key : K) → count_of eq counts key < 2 ^ 31
   tally_few tally few key =
-      omega (arith, tally key, count_by-le-length (λ k. eq k key) (map of (reverse (take i xs))), length-map (reverse (take i xs)) of, length-reverse (take i xs), length-take i xs)
+      omega (
+        arith,
+        tally key,
+        count_by-le-length (λ k. eq k key) (map of (reverse (take i xs))),
+        length-map (reverse (take i xs)) of,
+        length-reverse (take i xs),
+        length-take i xs,
+      )
 
 -- a count of what a function gives
 pub count_by-map : {X K : Type 0} (f : K → Bool) (of : X → K) (xs : List X) → count_by f (map of xs) ≡ count_by (λ x. f (of x)) xs
@@ -58,17 +68,17 @@ pub count_by-keys : {X K : Type 0} (f : K → Bool) (of : X → K) (xs : List X)
 count_by-keys f of xs = count_by-map f of (reverse xs) ∙ count_by-reverse (λ x. f (of x)) xs
 
 -- all elements in order
-pub tally_whole : {X K S : Type 0} (eq : K → K → Bool) (of : X → K) (counts : IndexMap K ℕ S) (xs : List X) → IsTally eq counts (map of (reverse xs)) → IsTally eq counts (map of xs)
+pub tally_whole : {X K S : Type 0} (eq : K → K → Bool) (of : X → K) (counts : IndexMap K ℕ S) (xs : List X) →
+    IsTally eq counts (map of (reverse xs)) → IsTally eq counts (map of xs)
 tally_whole eq of counts xs tally key = tally key ∙ count_by-keys (λ k. eq k key) of xs ∙ sym (count_by-map (λ k. eq k key) of xs)
 
 -- how many ports share a port's subnet
-pub members_counted : {S : Type 0} (counts : IndexMap Subnet ℕ S) (all : List Port) (p : Port) → IsTally same_subnet counts (map subnet_of all) → count_of same_subnet counts (subnet_of p) ≡ count_by (shares_subnet p) all
+pub members_counted : {S : Type 0} (counts : IndexMap Subnet ℕ S) (all : List Port) (p : Port) →
+    IsTally same_subnet counts (map subnet_of all) →
+    count_of same_subnet counts (subnet_of p) ≡ count_by (shares_subnet p) all
 members_counted counts all p tally =
-    tally (subnet_of p) ∙ count_by-map (λ k. same_subnet k (subnet_of p)) subnet_of all ∙ count_agree (λ q. shares_subnet q p) (shares_subnet p) (λ q. shares_swap q p) all
-
--- tests that agree find alike
-any_agree : {X : Type 0} (f g : X → Bool) → ((x : X) → f x ≡ g x) → (xs : List X) → list_any f xs ≡ list_any g xs
-any_agree f g same xs = ap (λ h. list_any h xs) (λ i x. same x i)
+    tally (subnet_of p) ∙ count_by-map (λ k. same_subnet k (subnet_of p)) subnet_of all
+    ∙ count_agree (λ q. shares_subnet q p) (shares_subnet p) (λ q. shares_swap q p) all
 
 -- no element passes where each fails
 none_any : {X : Type 0} (f g : X → Bool) → ((x : X) → not (f x) ≡ g x) → (xs : List X) → not (list_any f xs) ≡ list_all g xs
@@ -96,19 +106,23 @@ none_counted f xs = by_count (count_by f xs) ∙ ap not (any_counted f xs)
     by_count zero = refl
     by_count (suc n) = ne_eqb (suc n) 0 (λ h. omega arith) ∙ sym (ap not (lt-ltb 0 (suc n) (omega arith)))
 
--- whether an earlier port of the same router is on the same subnet, by the count of members
-pub router_counted : {S : Type 0} (counts : IndexMap (ℕ × Subnet) ℕ S) (before : List Port) (p : Port) → IsTally same_member counts (map member_of before) → nat_lt 0 (count_of same_member counts (member_of p)) ≡ is_second_of_router before p
-router_counted counts before p tally =
-    ap (nat_lt 0) (tally (member_of p) ∙ count_by-map (λ k. same_member k (member_of p)) member_of before) ∙ any_counted (λ q. same_member (member_of q) (member_of p)) before
-
-pub address_counted : {S : Type 0} (counts : IndexMap ℕ ℕ S) (before : List Port) (p : Port) → IsTally nat_eq counts (map address_of before) → nat_lt 0 (count_of nat_eq counts (address_of p)) ≡ is_second_of_address before p
-address_counted counts before p tally =
-    ap (nat_lt 0) (tally (address_of p) ∙ count_by-map (λ k. nat_eq k (address_of p)) address_of before) ∙ any_counted (λ q. nat_eq (address_of q) (address_of p)) before
+-- whether an earlier port has the key, by how often it came
+pub any_tallied : {K S : Type 0} (eq : K → K → Bool) (of : Port → K) (counts : IndexMap K ℕ S) (before : List Port)
+    (p : Port) (key : K) (n : ℕ) → n ≡ count_of eq counts key → key ≡ of p →
+    IsTally eq counts (map of before) → list_any (λ q. eq (of q) (of p)) before ≡ nat_lt 0 n
+any_tallied eq of counts before p key n count_is key_is tally =
+    sym (ap (nat_lt 0) (count_is ∙ ap (count_of eq counts) key_is ∙ tally (of p)
+    ∙ count_by-map (λ k. eq k (of p)) of before) ∙ any_counted (λ q. eq (of q) (of p)) before)
 
 -- whether an earlier port of the other kind is on the same subnet
-pub kinds_counted : {S : Type 0} (counts : IndexMap (Bool × Subnet) ℕ S) (before : List Port) (p : Port) → IsTally same_trait counts (map kind_on before) → nat_lt 0 (count_of same_trait counts (not (is_broadcast p), subnet_of p)) ≡ is_mismatch before p
+pub kinds_counted : {S : Type 0} (counts : IndexMap (Bool × Subnet) ℕ S) (before : List Port) (p : Port) →
+    IsTally same_trait counts (map kind_on before) →
+    nat_lt 0 (count_of same_trait counts (not (is_broadcast p), subnet_of p)) ≡ is_mismatch before p
 kinds_counted counts before p tally =
-    ap (nat_lt 0) (tally other ∙ count_by-map (λ k. same_trait k other) kind_on before) ∙ any_counted (λ q. same_trait (kind_on q) other) before ∙ any_agree _ _ (λ q. by_kinds q.interface.kind p.interface.kind (shares_subnet q p)) before
+    ap (nat_lt 0) (tally other ∙ count_by-map (λ k. same_trait k other) kind_on before)
+    ∙ any_counted (λ q. same_trait (kind_on q) other) before
+    ∙ ap (λ (test : Port → Bool). list_any test before)
+    (λ i q. by_kinds q.interface.kind p.interface.kind (shares_subnet q p) i)
   where
     other : Bool × Subnet
     other = (not (is_broadcast p), subnet_of p)
@@ -124,9 +138,14 @@ kinds_counted counts before p tally =
     by_kinds Broadcast Broadcast false = refl
 
 -- whether no port on the subnet may become its designated router
-pub designated_counted : {S : Type 0} (counts : IndexMap (Bool × Subnet) ℕ S) (all : List Port) (p : Port) → IsTally same_trait counts (map rank_on all) → nat_eq (count_of same_trait counts (true, subnet_of p)) 0 ≡ lacks_designated all p
+pub designated_counted : {S : Type 0} (counts : IndexMap (Bool × Subnet) ℕ S) (all : List Port) (p : Port) →
+    IsTally same_trait counts (map rank_on all) → nat_eq (count_of same_trait counts (true, subnet_of p)) 0
+    ≡ lacks_designated all p
 designated_counted counts all p tally =
-    ap (λ n. nat_eq n 0) (tally able ∙ count_by-map (λ k. same_trait k able) rank_on all) ∙ none_counted (λ q. same_trait (rank_on q) able) all ∙ none_any _ _ (λ q. ap (λ b. not (beq (nat_lt 0 q.interface.priority) true && b)) (shares_swap q p) ∙ by_priority q.interface.priority (shares_subnet p q)) all
+    ap (λ n. nat_eq n 0) (tally able ∙ count_by-map (λ k. same_trait k able) rank_on all)
+    ∙ none_counted (λ q. same_trait (rank_on q) able) all
+    ∙ none_any _ _ (λ q. ap (λ b. not (beq (nat_lt 0 q.interface.priority) true && b)) (shares_swap q p)
+    ∙ by_priority q.interface.priority (shares_subnet p q)) all
   where
     able : Bool × Subnet
     able = (true, subnet_of p)
@@ -138,7 +157,8 @@ designated_counted counts all p tally =
     by_priority (suc n) false = ap (λ b. not (beq b true && false)) (lt-ltb 0 (suc n) (omega arith))
 
 -- those of either trait, counted together
-both_traits : {X : Type 0} (trait f : X → Bool) (xs : List X) → count_by (λ x. beq (trait x) true && f x) xs + count_by (λ x. beq (trait x) false && f x) xs ≡ count_by f xs
+both_traits : {X : Type 0} (trait f : X → Bool) (xs : List X) →
+    count_by (λ x. beq (trait x) true && f x) xs + count_by (λ x. beq (trait x) false && f x) xs ≡ count_by f xs
 both_traits trait f [] = refl
 both_traits trait f (x ∷ xs) =
     let yes_more = count_by-cons (λ y. beq (trait y) true && f y) x xs in
@@ -159,6 +179,8 @@ both_traits trait f (x ∷ xs) =
 pub both_counted : {S : Type 0} (counts : IndexMap (Bool × Subnet) ℕ S) (before : List Port) (p : Port) → IsTally same_trait counts (map kind_on before) →
     count_of same_trait counts (true, subnet_of p) + count_of same_trait counts (false, subnet_of p) ≡ count_by (λ q. shares_subnet q p) before
 both_counted counts before p tally =
-    ap (λ n. n + count_of same_trait counts (false, subnet_of p)) (tally (true, subnet_of p) ∙ count_by-map (λ k. same_trait k (true, subnet_of p)) kind_on before)
-    ∙ ap (λ n. count_by (λ q. same_trait (kind_on q) (true, subnet_of p)) before + n) (tally (false, subnet_of p) ∙ count_by-map (λ k. same_trait k (false, subnet_of p)) kind_on before)
+    ap (λ n. n + count_of same_trait counts (false, subnet_of p)) (tally (true, subnet_of p)
+    ∙ count_by-map (λ k. same_trait k (true, subnet_of p)) kind_on before)
+    ∙ ap (λ n. count_by (λ q. same_trait (kind_on q) (true, subnet_of p)) before + n) (tally (false, subnet_of p)
+    ∙ count_by-map (λ k. same_trait k (false, subnet_of p)) kind_on before)
     ∙ both_traits is_broadcast (λ q. shares_subnet q p) before

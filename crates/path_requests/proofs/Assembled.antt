@@ -6,7 +6,7 @@ use Rattle.std.proofs.lemmas.List.Elements.{All-nil, All-cons, All-head, All-tai
 use Rattle.area_graph.specs.declared.Price.{Price}
 use Rattle.area_graph.specs.Area.{Area}
 use Rattle.lsdb_build.specs.declared.Linked.{Linked}
-use Rattle.lsdb_build.specs.Graphs.{Database, IsLink, IsCost, IsLinkPrice, graph_at}
+use Rattle.lsdb_build.specs.Graphs.{Database, IsLink, IsLinkPrice, graph_at}
 use Rattle.path_rows.specs.declared.problem.VarName.{VarName}
 use Rattle.path_rows.specs.declared.problem.Request.{Request}
 use Rattle.path_rows.specs.Problems.{DesignProblem}
@@ -15,24 +15,28 @@ use Rattle.path_requests.specs.Meaning.{Range, Within, AsItIs, range_of, low_of,
 use Rattle.wanted_paths.specs.Paths.{request_of}
 use Rattle.path_requests.specs.Resolving.{lacks_cost, cost_faults}
 use Rattle.wanted_paths.specs.Paths.{outline}
-use Rattle.wanted_paths.proofs.Walks.{no_parts}
+use Rattle.cost_base.proofs.ListLemmas.{append-none}
+use Rattle.interface_model.specs.Records.{IsCost}
 use Rattle.wanted_paths.proofs.Outline.{as_outline, requests_same}
 use Rattle.path_requests.proofs.ProblemLaws.{same_whole_problem}
 use Rattle.wanted_paths.specs.declared.stop.ResolutionFault.TheVariants.{NoCost}
 use Rattle.path_requests.proofs.WholeProblems.{prices_count}
 
 -- where each fixed link has a cost, each price is one that a link may have
-pub prices_link : (a : Asked) (d : Database) (l : ℕ) (links : List Linked) → IsAsked a → All (IsLink d) links → cost_faults a d l links ≡ [] → All IsLinkPrice (prices_from a d l links)
+pub prices_link : (a : Asked) (d : Database) (l : ℕ) (links : List Linked) → IsAsked a → All (IsLink d) links →
+    cost_faults a d l links ≡ [] → All IsLinkPrice (prices_from a d l links)
 prices_link a d l [] asked each none = All-nil IsLinkPrice
 prices_link a d l (link ∷ links) asked each none =
-    let parts = no_parts (if lacks_cost a link (range_of a d link) then NoCost l ∷ [] else []) (cost_faults a d (l + 1) links) none in
+    let parts = append-none (if lacks_cost a link (range_of a d link) then NoCost l ∷ [] else []) (cost_faults a d (l + 1) links) none in
     All-cons IsLinkPrice (price_of a d l link (range_of a d link)) (prices_from a d (l + 1) links)
     (by_range (range_of a d link) parts.0) (prices_link a d (l + 1) links asked (All-tail (IsLink d) link links each) parts.1)
   where
     clash : (NoCost l ∷ []) ≡ [] → ⊥
     clash h = cc
 
-    by_cost : (cost default : Option ℕ) → IsCost cost → IsDefault default → (if lacks_cost (record a { default_cost = default }) (record link { cost = cost }) AsItIs then NoCost l ∷ [] else []) ≡ [] → 0 < unwrap_or cost (unwrap_or default 0)
+    by_cost : (cost default : Option ℕ) → IsCost cost → IsDefault default →
+        (if lacks_cost (record a { default_cost = default }) (record link { cost = cost }) AsItIs then
+        NoCost l ∷ [] else []) ≡ [] → 0 < unwrap_or cost (unwrap_or default 0)
     by_cost (Some c) default here other none = here
     by_cost None (Some c) here other none = other
     by_cost None None here other none = absurd (clash none)
@@ -41,7 +45,12 @@ prices_link a d l (link ∷ links) asked each none =
     by_range (Within lo hi) none = tt
     by_range AsItIs none = by_cost link.cost a.default_cost (All-head (IsLink d) link links each).cost asked.default none
 
-pub assembled : (a : Asked) (d : Database) (prices : List Price) (graph : Area) (vars : List VarName) (low high : List ℕ) (paths : List Request) → prices ≡ prices_from a d 0 d.links → graph ≡ graph_at d prices → vars ≡ names_from a d 0 d.links → low ≡ map low_of (ranges a d) → high ≡ map high_of (ranges a d) → paths ≡ filter_map (λ item. request_of d (outline d) item.what) a.items → ◌≡◌ {A = DesignProblem} (record { graph = graph; vars = vars; low = low; high = high; paths = paths }) (problem_of a d)
+pub assembled : (a : Asked) (d : Database) (prices : List Price) (graph : Area) (vars : List VarName)
+    (low high : List ℕ) (paths : List Request) → prices ≡ prices_from a d 0 d.links → graph ≡ graph_at d prices →
+    vars ≡ names_from a d 0 d.links → low ≡ map low_of (ranges a d) → high ≡ map high_of (ranges a d) →
+    paths ≡ filter_map (λ item. request_of d (outline d) item.what) a.items →
+    ◌≡◌ {A = DesignProblem} (record { graph = graph; vars = vars; low = low; high = high; paths = paths })
+    (problem_of a d)
 assembled a d prices graph vars low high paths are is names lows highs wanted =
     let g = graph_at d (prices_from a d 0 d.links) in
     same_whole_problem (record { graph = graph; vars = vars; low = low; high = high; paths = paths }) (problem_of a d)

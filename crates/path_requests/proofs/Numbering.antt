@@ -28,7 +28,8 @@ count_before test a (suc k) (suc n) within =
     let rest : count_by (λ m. nat_lt m (a + suc k)) (passing test (a + 1) n) ≡ length (passing test (a + 1) k)
     = ap (λ o. count_by (λ m. nat_lt m o) (passing test (a + 1) n)) (sym next) ∙ count_before test (a + 1) k n (omega arith) in
     elim (cases_Bool (test a)) [
-      | inl passes ↦ rw passes (count_by-cons (λ m. nat_lt m (a + suc k)) a (passing test (a + 1) n) ∙ rw (lt-ltb a (a + suc k) (omega arith)) (omega (arith, rest)))
+      | inl passes ↦ rw passes (count_by-cons (λ m. nat_lt m (a + suc k)) a (passing test (a + 1) n)
+          ∙ rw (lt-ltb a (a + suc k) (omega arith)) (omega (arith, rest)))
       | inr fails ↦ rw fails rest
     ]
 
@@ -63,19 +64,34 @@ numbered test a (suc n) j below = by_test (numbered test (a + 1) n) (test a) ref
     here : a + 0 ≡ a
     here = omega arith
 
-    by_test : ((k : ℕ) → k < length (passing test (a + 1) n) → IsNumbered test (a + 1) n k) → (b : Bool) → test a ≡ b → (j : ℕ) → j < length (cond b (a ∷ passing test (a + 1) n) (passing test (a + 1) n)) → IsNumbered test a (suc n) j
+    by_test : ((k : ℕ) → k < length (passing test (a + 1) n) → IsNumbered test (a + 1) n k) → (b : Bool) → test a ≡ b →
+        (j : ℕ) → j < length (cond b (a ∷ passing test (a + 1) n) (passing test (a + 1) n)) →
+        IsNumbered test a (suc n) j
     by_test more true passes zero below = record { place = 0; within = omega arith; passes = ap test here ∙ passes; number = refl }
     by_test more true passes (suc j) below =
         let rest = more j (omega arith) in
-        record { place = suc rest.place; within = omega (arith, rest.within); passes = ap test (sym (next rest.place)) ∙ rest.passes; number = rw passes (omega (arith, rest.number)) }
+        record {
+          place = suc rest.place;
+          within = omega (arith, rest.within);
+          passes = ap test (sym (next rest.place))
+              ∙ rest.passes;
+          number = rw passes (omega (arith, rest.number));
+        }
     by_test more false fails j below =
         let rest = more j below in
-        record { place = suc rest.place; within = omega (arith, rest.within); passes = ap test (sym (next rest.place)) ∙ rest.passes; number = rw fails rest.number }
+        record {
+          place = suc rest.place;
+          within = omega (arith, rest.within);
+          passes = ap test (sym (next rest.place))
+              ∙ rest.passes;
+          number = rw fails rest.number;
+        }
 
 pub passing_all : (test : ℕ → Bool) (a n : ℕ) → All (λ l. (l < a + n) × (test l ≡ true)) (passing test a n)
 passing_all test a zero = All-nil (λ l. (l < a + 0) × (test l ≡ true))
 passing_all test a (suc n) =
-    let rest = All-weaker (λ l. (l < a + 1 + n) × (test l ≡ true)) (λ l. (l < a + suc n) × (test l ≡ true)) (λ l h. (omega (arith, h.0), h.1)) (passing test (a + 1) n) (passing_all test (a + 1) n) in
+    let rest = All-weaker (λ l. (l < a + 1 + n) × (test l ≡ true)) (λ l. (l < a + suc n) × (test l ≡ true))
+    (λ l h. (omega (arith, h.0), h.1)) (passing test (a + 1) n) (passing_all test (a + 1) n) in
     elim (cases_Bool (test a)) [
       | inl passes ↦ rw passes (All-cons (λ l. (l < a + suc n) × (test l ≡ true)) a (passing test (a + 1) n) (omega arith, passes) rest)
       | inr fails ↦ rw fails rest

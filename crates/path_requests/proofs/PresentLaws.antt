@@ -19,7 +19,7 @@ use Rattle.path_requests.specs.Meaning.{Range, AsItIs, range_said, range_of, own
 use Rattle.wanted_paths.specs.Paths.{request_of}
 use Rattle.path_requests.specs.Resolving.{says_freedom, present_asked, ends_differ, ends_differ_at, ties_different, ends_faults}
 use Rattle.wanted_paths.specs.LineFaults.{wish_faults, line_faults}
-use Rattle.wanted_paths.proofs.Walks.{no_parts}
+use Rattle.cost_base.proofs.ListLemmas.{append-none}
 use Rattle.wanted_paths.proofs.LookUps.{none_passing}
 
 abbrev kept : Item → Bool
@@ -53,9 +53,12 @@ none_owned a d = none_passing (own (present_asked a) d) 0 (length d.links) (λ l
     by_link l None at = rw at refl
     by_link l (Some link) at = rw (at, fixed a d link) refl
 
-pub present_prices_are : (a : Asked) (d : Database) (l : ℕ) (links : List Linked) → prices_from (present_asked a) d l links ≡ map (λ link. Fixed (present_cost a link)) links
+pub present_prices_are : (a : Asked) (d : Database) (l : ℕ) (links : List Linked) →
+    prices_from (present_asked a) d l links ≡ map (λ link. Fixed (present_cost a link)) links
 present_prices_are a d l [] = refl
-present_prices_are a d l (link ∷ links) = rw (fixed a d link) (ap (λ (ps : List Price). Fixed (present_cost a link) ∷ ps) (present_prices_are a d (l + 1) links))
+present_prices_are a d l (link ∷ links) =
+    rw (fixed a d link) (ap (λ (ps : List Price). Fixed (present_cost a link) ∷ ps)
+    (present_prices_are a d (l + 1) links))
 
 pub none_named : (a : Asked) (d : Database) (l : ℕ) (links : List Linked) → names_from (present_asked a) d l links ≡ []
 none_named a d l [] = refl
@@ -70,7 +73,9 @@ request_none d g SymmetricAll says = absurd (false≢true says)
 request_none d g (Symmetric router interface) says = absurd (false≢true says)
 
 -- the paths are the same
-pub present_paths : (d : Database) (g : Area) (items : List Item) → filter_map (λ item. request_of d g item.what) items ≡ filter_map (λ item. request_of d g item.what) (filter kept items)
+pub present_paths : (d : Database) (g : Area) (items : List Item) →
+    filter_map (λ item. request_of d g item.what) items ≡ filter_map (λ item. request_of d g item.what)
+    (filter kept items)
 present_paths d g [] = refl
 present_paths d g (item ∷ items) =
     elim (cases_Bool (says_freedom item.what)) [
@@ -82,7 +87,7 @@ present_paths d g (item ∷ items) =
 pub present_lines : (d : Database) (items : List Item) → line_faults d items ≡ [] → line_faults d (filter kept items) ≡ []
 present_lines d [] none = refl
 present_lines d (item ∷ items) none =
-    let parts = no_parts (wish_faults d item.line item.what) (line_faults d items) none in
+    let parts = append-none (wish_faults d item.line item.what) (line_faults d items) none in
     elim (cases_Bool (says_freedom item.what)) [
       | inl says ↦ rw says (present_lines d items parts.1)
       | inr silent ↦ rw silent (rw parts.0 (present_lines d items parts.1))
@@ -126,7 +131,8 @@ bounds_kept (item ∷ items) keeps =
     let rest = bounds_kept items (All-tail (λ (i : Item). KeepsBounds i.what) item items keeps) in
     elim (cases_Bool (says_freedom item.what)) [
       | inl says ↦ rw says rest
-      | inr silent ↦ rw silent (All-cons (λ (i : Item). KeepsBounds i.what) item (filter kept items) (All-head (λ (i : Item). KeepsBounds i.what) item items keeps) rest)
+      | inr silent ↦ rw silent (All-cons (λ (i : Item). KeepsBounds i.what) item (filter kept items)
+          (All-head (λ (i : Item). KeepsBounds i.what) item items keeps) rest)
     ]
 
 count_cons : (item : Item) (items : List Item) → count_by is_path (item ∷ items) ≡ cond (is_path item) 1 0 + count_by is_path items

@@ -11,10 +11,13 @@ use Rattle.path_rows.specs.Problems.{DesignProblem}
 use Rattle.path_rows.proofs.RestrictedProblems.{same_problem}
 
 -- edges out of subnets have no variable
-pub subnets_priced : (n : ℕ) (links : List Linked) (vertex : ℕ) (subnets : List (List ℕ)) → All (λ edge. IsPriced n edge.price) (subnet_edges links vertex subnets)
+pub subnets_priced : (n : ℕ) (links : List Linked) (vertex : ℕ) (subnets : List (List ℕ)) →
+    All (λ edge. IsPriced n edge.price) (subnet_edges links vertex subnets)
 subnets_priced n links vertex [] = All-nil (λ (edge : Edge). IsPriced n edge.price)
 subnets_priced n links vertex (members ∷ subnets) =
-    All-append (λ (edge : Edge). IsPriced n edge.price) (map (λ l. record { from = vertex; to = router_of links l; price = Zero }) members) (subnet_edges links (vertex + 1) subnets)
+    All-append (λ (edge : Edge). IsPriced n edge.price)
+    (map (λ l. record { from = vertex; to = router_of links l; price = Zero }) members)
+    (subnet_edges links (vertex + 1) subnets)
     (All-map (λ (edge : Edge). IsPriced n edge.price) (λ (l : ℕ). record { from = vertex; to = router_of links l; price = Zero }) members (λ k d below. tt))
     (subnets_priced n links (vertex + 1) subnets)
 

@@ -6,6 +6,7 @@ use Rattle.std.specs.List.{filter_map, cons_option}
 use Rattle.std.proofs.lemmas.List.{drop_more}
 use Rattle.std.proofs.lemmas.Simd.{map-map}
 use Rattle.cost_base.specs.Lists.{last_of}
+use Rattle.cost_base.proofs.ListLemmas.{last_of-cons, option_or-none}
 use Rattle.lsdb_build.specs.declared.Linked.{Linked}
 use Rattle.lsdb_build.specs.Graphs.{Database}
 use Rattle.request_reader.specs.declared.Wish.{Wish}
@@ -23,7 +24,8 @@ last_or : {X : Type 0} (x y : X) (xs : List X) → unwrap_or (last_of (x ∷ xs)
 last_or x y [] = refl
 last_or x y (z ∷ xs) = last_or z y xs ∙ sym (last_or z x xs)
 
-pub range_is : (d : Database) (link : Linked) (items : List Item) (range : Range) → range_after d link range items ≡ unwrap_or (last_of (filter_map (λ item. range_said d link item.what) items)) range
+pub range_is : (d : Database) (link : Linked) (items : List Item) (range : Range) →
+    range_after d link range items ≡ unwrap_or (last_of (filter_map (λ item. range_said d link item.what) items)) range
 range_is d link [] range = refl
 range_is d link (item ∷ items) range = range_is d link items (unwrap_or (range_said d link item.what) range) ∙ by_said (range_said d link item.what)
   where
@@ -36,24 +38,16 @@ range_is d link (item ∷ items) range = range_is d link items (unwrap_or (range
 
 -- Backwards: what a line says counts where no later one says anything.
 
-last_before : {X : Type 0} (x : X) (xs : List X) → last_of (x ∷ xs) ≡ option_or (last_of xs) (Some x)
-last_before x [] = refl
-last_before x (y ∷ []) = refl
-last_before x (y ∷ z ∷ xs) = last_before x (z ∷ xs) ∙ ap (λ o. option_or o (Some x)) refl
-
-last_more : (d : Database) (link : Linked) (item : Item) (items : List Item) → last_said d link (item ∷ items) ≡ option_or (last_said d link items) (range_said d link item.what)
+last_more : (d : Database) (link : Linked) (item : Item) (items : List Item) →
+    last_said d link (item ∷ items) ≡ option_or (last_said d link items) (range_said d link item.what)
 last_more d link item items = by_said (range_said d link item.what)
   where
     rest : List Range
     rest = filter_map (λ item. range_said d link item.what) items
 
-    by_last : (o : Option Range) → o ≡ option_or o None
-    by_last None = refl
-    by_last (Some x) = refl
-
     by_said : (said : Option Range) → last_of (cons_option said rest) ≡ option_or (last_of rest) said
-    by_said None = by_last (last_of rest)
-    by_said (Some x) = last_before x rest
+    by_said None = sym (option_or-none (last_of rest))
+    by_said (Some x) = last_of-cons x rest
 
 -- a line that doesn't speak of all links speaks of the one that it names
 one_said : (d : Database) (link : Linked) (wish : Wish) → said_of_all wish ≡ None → range_said d link wish ≡ said_of_one d link wish
@@ -76,7 +70,10 @@ all_said d link SymmetricAll range is = absurd (cc)
 all_said d link (Symmetric router interface) range is = absurd (cc)
 
 -- one line more, going backwards, that doesn't speak of all links
-pub decided_more : (d : Database) (items : List Item) (i next : ℕ) (other : Item) → next ≡ i + 1 → i < length items → said_of_all (get_or items i other).what ≡ None → map (λ link. option_or (last_said d link (drop next items)) (said_of_one d link (get_or items i other).what)) d.links ≡ map (λ link. last_said d link (drop i items)) d.links
+pub decided_more : (d : Database) (items : List Item) (i next : ℕ) (other : Item) → next ≡ i + 1 → i < length items →
+    said_of_all (get_or items i other).what ≡ None →
+    map (λ link. option_or (last_said d link (drop next items)) (said_of_one d link (get_or items i other).what))
+    d.links ≡ map (λ link. last_said d link (drop i items)) d.links
 decided_more d items i next other step within none =
     ap (λ (f : Linked → Option Range). map f d.links) (λ t link. each link t)
   where
@@ -91,7 +88,9 @@ decided_more d items i next other step within none =
         ∙ ap (last_said d link) (sym (drop_more items i other within))
 
 -- from a line on that speaks of all links, only what comes later counts
-from_all : (d : Database) (link : Linked) (items : List Item) (i : ℕ) (other : Item) (range before : Range) → i < length items → said_of_all (get_or items i other).what ≡ Some range → range_after d link before items ≡ unwrap_or (last_said d link (drop (i + 1) items)) range
+from_all : (d : Database) (link : Linked) (items : List Item) (i : ℕ) (other : Item) (range before : Range) →
+    i < length items → said_of_all (get_or items i other).what ≡ Some range →
+    range_after d link before items ≡ unwrap_or (last_said d link (drop (i + 1) items)) range
 from_all d link [] i other range before within all = absurd (omega (arith, within))
 from_all d link (item ∷ items) zero other range before within all =
     ap (λ o. range_after d link (unwrap_or o before) items) (all_said d link item.what range all) ∙ range_is d link items range
@@ -100,7 +99,10 @@ from_all d link (item ∷ items) (suc i) other range before within all =
     from_all d link items i other range (unwrap_or (range_said d link item.what) before) (omega (arith, within)) all
     ∙ ap (λ n. unwrap_or (last_said d link (drop n (item ∷ items))) range) next
 
-pub decided_by_all : (d : Database) (items : List Item) (i next : ℕ) (other : Item) (range : Range) → next ≡ i + 1 → i < length items → said_of_all (get_or items i other).what ≡ Some range → map (λ said. unwrap_or said range) (map (λ link. last_said d link (drop next items)) d.links) ≡ map (λ link. range_by d link items) d.links
+pub decided_by_all : (d : Database) (items : List Item) (i next : ℕ) (other : Item) (range : Range) → next ≡ i + 1 →
+    i < length items → said_of_all (get_or items i other).what ≡ Some range →
+    map (λ said. unwrap_or said range) (map (λ link. last_said d link (drop next items)) d.links)
+    ≡ map (λ link. range_by d link items) d.links
 decided_by_all d items i next other range step within all =
     map-map (λ said. unwrap_or said range) (λ link. last_said d link (drop next items)) d.links
     ∙ ap (λ (f : Linked → Range). map f d.links) (λ t link. each link t)
@@ -111,5 +113,7 @@ decided_by_all d items i next other range step within all =
         ∙ sym (from_all d link items i other range AsItIs within all) ∙ range_is d link items AsItIs
 
 -- once all lines were asked, the links that are undecided are fixed
-pub decided_by_none : (d : Database) (items : List Item) → map (λ said. unwrap_or said AsItIs) (map (λ link. last_said d link items) d.links) ≡ map (λ link. range_by d link items) d.links
+pub decided_by_none : (d : Database) (items : List Item) →
+    map (λ said. unwrap_or said AsItIs) (map (λ link. last_said d link items) d.links)
+    ≡ map (λ link. range_by d link items) d.links
 decided_by_none d items = map-map (λ said. unwrap_or said AsItIs) (λ link. last_said d link items) d.links

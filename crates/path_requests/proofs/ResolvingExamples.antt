@@ -21,7 +21,8 @@ link_to r name far mate = record { router = r; interface = name; line = 1; cost 
 abbrev triangle : Database
 triangle = record {
   routers = codes "A" ∷ codes "B" ∷ codes "C" ∷ [];
-  links = link_to 0 (codes "0") 1 3 ∷ link_to 0 (codes "1") 2 4 ∷ link_to 1 (codes "0") 2 5 ∷ link_to 1 (codes "1") 0 0 ∷ link_to 2 (codes "0") 0 1 ∷ link_to 2 (codes "1") 1 2 ∷ [];
+  links = link_to 0 (codes "0") 1 3 ∷ link_to 0 (codes "1") 2 4 ∷ link_to 1 (codes "0") 2 5 ∷ link_to 1 (codes "1") 0 0
+      ∷ link_to 2 (codes "0") 0 1 ∷ link_to 2 (codes "1") 1 2 ∷ [];
   subnets = [];
 }
 
@@ -61,35 +62,49 @@ not_a_link = refl
 broken_path : resolution_fault (asked (line 4 (ab_to (codes "A")) ∷ [])) triangle ≡ Some (BrokenPath 4 2)
 broken_path = refl
 
-loop_path : resolution_fault (asked (line 4 (Path (record { hops = (codes "A", codes "0") ∷ (codes "B", codes "1") ∷ []; last = codes "A" }) []) ∷ [])) triangle ≡ Some (LoopPath 4)
+loop_path : resolution_fault (asked
+    (line 4 (Path (record { hops = (codes "A", codes "0") ∷ (codes "B", codes "1") ∷ []; last = codes "A" }) [])
+    ∷ [])) triangle ≡ Some (LoopPath 4)
 loop_path = refl
 
 -- over the same subnet twice
 loop_over_lan : resolution_fault (asked (line 4 (ab_to (codes "C")) ∷ [])) lan ≡ Some (LoopPath 4)
 loop_over_lan = refl
 
-unknown_part : resolution_fault (asked (line 4 (Path (record { hops = []; last = codes "A" }) (InterfacePart (codes "Z") (codes "0") ∷ [])) ∷ [])) triangle ≡ Some (UnknownRouter 4)
+unknown_part : resolution_fault
+    (asked (line 4 (Path (record { hops = []; last = codes "A" }) (InterfacePart (codes "Z") (codes "0") ∷ [])) ∷ []))
+    triangle ≡ Some (UnknownRouter 4)
 unknown_part = refl
 
 -- the link is taken away in both directions
-path_gone : resolution_fault (asked (line 4 (Path (record { hops = (codes "A", codes "0") ∷ []; last = codes "B" }) (InterfacePart (codes "B") (codes "1") ∷ [])) ∷ [])) triangle ≡ Some (PathGone 4)
+path_gone : resolution_fault (asked
+    (line 4 (Path (record { hops = (codes "A", codes "0") ∷ []; last = codes "B" })
+    (InterfacePart (codes "B") (codes "1") ∷ [])) ∷ [])) triangle ≡ Some (PathGone 4)
 path_gone = refl
 
 start_gone : resolution_fault (asked (line 4 (Path (record { hops = []; last = codes "A" }) (RouterPart (codes "A") ∷ [])) ∷ [])) triangle ≡ Some (PathGone 4)
 start_gone = refl
 
-start_stays : resolution_fault (asked (line 4 (Path (record { hops = []; last = codes "A" }) (InterfacePart (codes "A") (codes "0") ∷ [])) ∷ [])) triangle ≡ None
+start_stays : resolution_fault
+    (asked (line 4 (Path (record { hops = []; last = codes "A" }) (InterfacePart (codes "A") (codes "0") ∷ [])) ∷ []))
+    triangle ≡ None
 start_stays = refl
 
 -- at the first line that names such a link
-one_end_fixed : resolution_fault (asked (line 4 (Symmetric (codes "B") (codes "0")) ∷ line 5 SymmetricAll ∷ line 6 (Fix (codes "A") (codes "0")) ∷ [])) triangle ≡ Some (EndsDiffer 5)
+one_end_fixed : resolution_fault
+    (asked (line 4 (Symmetric (codes "B") (codes "0")) ∷ line 5 SymmetricAll ∷ line 6 (Fix (codes "A") (codes "0"))
+    ∷ [])) triangle ≡ Some (EndsDiffer 5)
 one_end_fixed = refl
 
-other_bounds : resolution_fault (asked (line 4 (Symmetric (codes "B") (codes "1")) ∷ line 5 (Free (codes "A") (codes "0") 1 8) ∷ [])) triangle ≡ Some (EndsDiffer 4)
+other_bounds : resolution_fault
+    (asked (line 4 (Symmetric (codes "B") (codes "1")) ∷ line 5 (Free (codes "A") (codes "0") 1 8) ∷ [])) triangle
+    ≡ Some (EndsDiffer 4)
 other_bounds = refl
 
 -- the last line on an interface counts
-no_cost : resolution_fault (asked (line 4 (Fix (codes "B") (codes "0")) ∷ line 5 (Fix (codes "C") (codes "0")) ∷ line 6 (Free (codes "B") (codes "0") 2 3) ∷ [])) triangle ≡ Some (NoCost 4)
+no_cost : resolution_fault (asked
+    (line 4 (Fix (codes "B") (codes "0")) ∷ line 5 (Fix (codes "C") (codes "0"))
+    ∷ line 6 (Free (codes "B") (codes "0") 2 3) ∷ [])) triangle ≡ Some (NoCost 4)
 no_cost = refl
 
 present_no_cost : present_fault (asked []) triangle ≡ Some (NoCost 0)
@@ -99,14 +114,22 @@ abbrev pair : Database
 pair = record { routers = codes "A" ∷ codes "B" ∷ []; links = link_to 0 (codes "0") 1 1 ∷ link_to 1 (codes "0") 0 0 ∷ []; subnets = [] }
 
 abbrev pair_asked : Asked
-pair_asked = record { area = 0; default_cost = Some 5; items = line 3 (FreeAll 1 9) ∷ line 4 (Path (record { hops = (codes "A", codes "0") ∷ []; last = codes "B" }) []) ∷ [] }
+pair_asked = record {
+  area = 0;
+  default_cost = Some 5;
+  items = line 3 (FreeAll 1 9)
+      ∷ line 4 (Path (record { hops = (codes "A", codes "0") ∷ []; last = codes "B" }) []) ∷ [];
+}
 
 present_resolves : present_fault pair_asked pair ≡ None
 present_resolves = refl
 
 -- in the present every interface is fixed, whatever is free in the request
 present_problem : present_problem_of pair_asked pair ≡ record {
-  graph = record { vertices = RouterVertex 0 ∷ RouterVertex 1 ∷ []; edges = record { from = 0; to = 1; price = Fixed 5 } ∷ record { from = 1; to = 0; price = Fixed 5 } ∷ [] };
+  graph = record {
+    vertices = RouterVertex 0 ∷ RouterVertex 1 ∷ [];
+    edges = record { from = 0; to = 1; price = Fixed 5 } ∷ record { from = 1; to = 0; price = Fixed 5 } ∷ [];
+  };
   vars = [];
   low = [];
   high = [];

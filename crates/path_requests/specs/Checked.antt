@@ -1,4 +1,4 @@
--- What stands once no fault was found after all lines.
+-- What stands once no fault was found after all lines. No public clause cites it.
 use Rattle.std.specs.Prelude.{◌≡◌, ◌≤◌, ℕ, List, [], length}
 use Rattle.lsdb_build.specs.Graphs.{Database}
 use Rattle.request_reader.specs.Asked.{Asked}

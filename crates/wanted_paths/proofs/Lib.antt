@@ -1,7 +1,7 @@
 pub mod RouteLaws
 pub mod LookUps
 pub mod Walks
-pub mod Gone
+pub mod TakenEdges
 pub mod GoneLaws
 pub mod Withouts
 pub mod Outline

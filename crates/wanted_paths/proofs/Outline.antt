@@ -4,6 +4,7 @@ use Rattle.std.specs.Prelude.{filter, slice_get, unwrap_or, ◌&&◌, ◌==◌}
 use Rattle.std.specs.List.{filter_map, list_any}
 use Rattle.std.proofs.lemmas.List.{length-map}
 use Rattle.cost_base.specs.Lists.{numbers_from, first_of}
+use Rattle.cost_base.proofs.ListLemmas.{filter-numbers_from-agree}
 use Rattle.area_graph.specs.declared.Price.{Price}
 use Rattle.area_graph.specs.declared.Price.TheVariants.{Fixed}
 use Rattle.area_graph.specs.declared.Edge.{Edge}
@@ -22,7 +23,6 @@ use Rattle.request_reader.specs.Wishes.{Route}
 use Rattle.wanted_paths.specs.Paths.{next_name, router_number, link_number, edge_to, hop_edges, route_edges, link_takes, takes, gone_edges, request_of}
 use Rattle.wanted_paths.specs.Resolution.{is_none_twice, is_loop_free}
 use Rattle.wanted_paths.specs.Paths.{outline}
-use Rattle.wanted_paths.proofs.Gone.{kept_alike}
 
 -- the edges of two graphs join the same vertices
 pub record SameEnds (g h : Area) : Type 0 where
@@ -30,20 +30,25 @@ pub record SameEnds (g h : Area) : Type 0 where
   pub from : (e : ℕ) → (edge_at g e).from ≡ (edge_at h e).from
   pub to : (e : ℕ) → (edge_at g e).to ≡ (edge_at h e).to
 
-link_count : (n : ℕ) (links : List Linked) (p q : List Price) (more : List Edge) → length p ≡ length links → length q ≡ length links → length (link_edges n links p ++ more) ≡ length (link_edges n links q ++ more)
+link_count : (n : ℕ) (links : List Linked) (p q : List Price) (more : List Edge) → length p ≡ length links →
+    length q ≡ length links → length (link_edges n links p ++ more) ≡ length (link_edges n links q ++ more)
 link_count n [] p q more first second = refl
 link_count n (link ∷ links) [] q more first second = absurd (omega arith)
 link_count n (link ∷ links) (x ∷ p) [] more first second = absurd (omega arith)
 link_count n (link ∷ links) (x ∷ p) (y ∷ q) more first second = ap suc (link_count n links p q more (omega arith) (omega arith))
 
-link_from : (n : ℕ) (links : List Linked) (p q : List Price) (more : List Edge) (e : ℕ) → length p ≡ length links → length q ≡ length links → (get_or (link_edges n links p ++ more) e no_edge).from ≡ (get_or (link_edges n links q ++ more) e no_edge).from
+link_from : (n : ℕ) (links : List Linked) (p q : List Price) (more : List Edge) (e : ℕ) → length p ≡ length links →
+    length q ≡ length links → (get_or (link_edges n links p ++ more) e no_edge).from
+    ≡ (get_or (link_edges n links q ++ more) e no_edge).from
 link_from n [] p q more e first second = refl
 link_from n (link ∷ links) [] q more e first second = absurd (omega arith)
 link_from n (link ∷ links) (x ∷ p) [] more e first second = absurd (omega arith)
 link_from n (link ∷ links) (x ∷ p) (y ∷ q) more zero first second = refl
 link_from n (link ∷ links) (x ∷ p) (y ∷ q) more (suc e) first second = link_from n links p q more e (omega arith) (omega arith)
 
-link_to : (n : ℕ) (links : List Linked) (p q : List Price) (more : List Edge) (e : ℕ) → length p ≡ length links → length q ≡ length links → (get_or (link_edges n links p ++ more) e no_edge).to ≡ (get_or (link_edges n links q ++ more) e no_edge).to
+link_to : (n : ℕ) (links : List Linked) (p q : List Price) (more : List Edge) (e : ℕ) → length p ≡ length links →
+    length q ≡ length links → (get_or (link_edges n links p ++ more) e no_edge).to
+    ≡ (get_or (link_edges n links q ++ more) e no_edge).to
 link_to n [] p q more e first second = refl
 link_to n (link ∷ links) [] q more e first second = absurd (omega arith)
 link_to n (link ∷ links) (x ∷ p) [] more e first second = absurd (omega arith)
@@ -65,7 +70,9 @@ as_outline d prices same =
 edge_to_same : (g h : Area) (source target : ℕ) → SameEnds g h → edge_to g source target ≡ edge_to h source target
 edge_to_same g h source target same =
     ap (λ (es : List ℕ). unwrap_or (first_of es) 0)
-    (kept_alike (λ e. (edge_at g e).from == source && (edge_at g e).to == target) (λ e. (edge_at h e).from == source && (edge_at h e).to == target) 0 (length g.edges) (λ e below. rw (same.from e, same.to e) refl)
+    (filter-numbers_from-agree (λ e. (edge_at g e).from == source && (edge_at g e).to == target)
+    (λ e. (edge_at h e).from == source && (edge_at h e).to == target) 0 (length g.edges)
+    (λ e above below. rw (same.from e, same.to e) refl)
     ∙ ap (λ n. filter (λ e. (edge_at h e).from == source && (edge_at h e).to == target) (numbers_from 0 n)) same.count)
 
 hop_same : (d : Database) (g h : Area) (l : ℕ) (o : Option Linked) (next : ℕ) → SameEnds g h → hop_edges d g l o next ≡ hop_edges d h l o next
@@ -76,7 +83,8 @@ hop_same d g h l (Some link) next same = by_far link.to
     by_far (ToRouter r) = refl
     by_far (ToSubnet s) = ap (λ e. l ∷ e ∷ []) (edge_to_same g h (length d.routers + s) next same)
 
-pub route_same : (d : Database) (g h : Area) (hops : List (List ℕ × List ℕ)) (last : List ℕ) → SameEnds g h → route_edges d g hops last ≡ route_edges d h hops last
+pub route_same : (d : Database) (g h : Area) (hops : List (List ℕ × List ℕ)) (last : List ℕ) → SameEnds g h →
+    route_edges d g hops last ≡ route_edges d h hops last
 route_same d g h [] last same = refl
 route_same d g h (hop ∷ hops) last same =
     let l = link_number d hop.0 hop.1 in
@@ -86,7 +94,8 @@ link_takes_same : (d : Database) (g h : Area) (l : ℕ) (o : Option Linked) (e :
 link_takes_same d g h l None e same = refl
 link_takes_same d g h l (Some link) e same = by_far link.mate link.to
   where
-    by_far : (mate : Option ℕ) (far : Far) → link_takes d g l (Some (record link { mate = mate; to = far })) e ≡ link_takes d h l (Some (record link { mate = mate; to = far })) e
+    by_far : (mate : Option ℕ) (far : Far) → link_takes d g l (Some (record link { mate = mate; to = far })) e
+        ≡ link_takes d h l (Some (record link { mate = mate; to = far })) e
     by_far None (ToRouter r) = refl
     by_far (Some m) (ToRouter r) = refl
     by_far None (ToSubnet s) = rw (same.from e, same.to e) refl
@@ -104,7 +113,8 @@ any_takes_same d g h e (part ∷ parts) same = rw (takes_same d g h e part same,
 
 pub gone_same : (d : Database) (g h : Area) (parts : List Part) → SameEnds g h → gone_edges d g parts ≡ gone_edges d h parts
 gone_same d g h parts same =
-    kept_alike (λ e. list_any (takes d g e) parts) (λ e. list_any (takes d h e) parts) 0 (length g.edges) (λ e below. any_takes_same d g h e parts same)
+    filter-numbers_from-agree (λ e. list_any (takes d g e) parts) (λ e. list_any (takes d h e) parts) 0 (length g.edges)
+    (λ e above below. any_takes_same d g h e parts same)
     ∙ ap (λ n. filter (λ e. list_any (takes d h e) parts) (numbers_from 0 n)) same.count
 
 request_same : (d : Database) (g h : Area) (wish : Wish) → SameEnds g h → request_of d g wish ≡ request_of d h wish
@@ -116,7 +126,8 @@ request_same d g h SymmetricAll same = refl
 request_same d g h (Symmetric router interface) same = refl
 
 -- the requests of lines are the same in both graphs
-pub requests_same : (d : Database) (g h : Area) (items : List Item) → SameEnds g h → filter_map (λ item. request_of d g item.what) items ≡ filter_map (λ item. request_of d h item.what) items
+pub requests_same : (d : Database) (g h : Area) (items : List Item) → SameEnds g h →
+    filter_map (λ item. request_of d g item.what) items ≡ filter_map (λ item. request_of d h item.what) items
 requests_same d g h [] same = refl
 requests_same d g h (item ∷ items) same = rw (request_same d g h item.what same, requests_same d g h items same) refl
 

@@ -4,7 +4,8 @@ use Rattle.std.specs.Prelude.{IsTrue, not, ◌&&◌, ◌==◌, if◌then◌else�
 use Rattle.std.specs.List.{list_any}
 use Rattle.std.proofs.lemmas.List.{length-map}
 use Rattle.std.proofs.lemmas.Bool.{and_from, or_from, ne_eqb, not_from_false}
-use Rattle.cost_base.specs.Lists.{first_of, Lacks, NoneTwice}
+use Rattle.cost_base.specs.Lists.{first_of, NoneTwice}
+use Rattle.cost_base.proofs.ListLemmas.{append-none, same_test}
 use Rattle.area_graph.specs.declared.Price.{Price}
 use Rattle.area_graph.specs.declared.Price.TheVariants.{Fixed}
 use Rattle.area_graph.specs.Paths.{visited, IsSimple}
@@ -18,19 +19,10 @@ use Rattle.wanted_paths.specs.declared.stop.ResolutionFault.{ResolutionFault}
 use Rattle.wanted_paths.specs.LineFaults.{fault_unless, router_faults, interface_faults, hop_faults, leads_on, broken_faults, walk_faults, TellsResolution}
 use Rattle.wanted_paths.specs.Paths.{outline}
 use Rattle.wanted_paths.specs.Walks.{IsWalk}
-use Rattle.wanted_paths.proofs.RouteLaws.{route_simple}
+use Rattle.wanted_paths.proofs.RouteLaws.{route_simple, lacks_test}
 use Rattle.wanted_paths.specs.declared.stop.ResolutionFault.TheVariants.{UnknownRouter, UnknownInterface, LoopPath, BrokenPath, NoCost}
 use Rattle.wanted_paths.specs.declared.stop.ResolutionStop.{ResolutionStop}
 use Rattle.wanted_paths.specs.declared.stop.ResolutionStop.TheVariants.{Refused, OutOfMemory}
-use Rattle.wanted_paths.proofs.LookUps.{same_test}
-
--- no element in two lists together
-pub no_parts : {X : Type 0} (xs ys : List X) → xs ++ ys ≡ [] → (xs ≡ []) × (ys ≡ [])
-no_parts [] ys none = (refl, none)
-no_parts (x ∷ xs) ys none = absurd (clash none)
-  where
-    clash : (x ∷ (xs ++ ys)) ≡ [] → ⊥
-    clash h = cc
 
 pub well_from : (well : Bool) (fault : ResolutionFault) → fault_unless well fault ≡ [] → well ≡ true
 well_from true fault none = refl
@@ -46,16 +38,19 @@ tells_front [] ys OutOfMemory tells = tt
 tells_front (x ∷ xs) ys stop tells = tells
 
 -- and so where none come before them
-pub tells_back : (xs ys : List ResolutionFault) (stop : ResolutionStop) → xs ≡ [] → TellsResolution (first_of ys) stop → TellsResolution (first_of (xs ++ ys)) stop
+pub tells_back : (xs ys : List ResolutionFault) (stop : ResolutionStop) → xs ≡ [] → TellsResolution (first_of ys) stop →
+    TellsResolution (first_of (xs ++ ys)) stop
 tells_back xs ys stop none tells = rw none tells
 
 pub words_known : (d : Database) (line : ℕ) (hops : List (List ℕ × List ℕ)) (last : List ℕ) → hop_faults d line hops last ≡ [] → is_known d hops last ≡ true
 words_known d line [] last none = well_from (knows_router d last) (UnknownRouter line) none
 words_known d line (hop ∷ hops) last none =
-    let parts = no_parts (interface_faults d line hop.0 hop.1) (hop_faults d line hops last) none in
-    let names = no_parts (router_faults d line hop.0) (fault_unless (knows_link d hop.0 hop.1) (UnknownInterface line)) parts.0 in
+    let parts = append-none (interface_faults d line hop.0 hop.1) (hop_faults d line hops last) none in
+    let names = append-none (router_faults d line hop.0) (fault_unless (knows_link d hop.0 hop.1) (UnknownInterface line)) parts.0 in
     and_from (knows_router d hop.0 && knows_link d hop.0 hop.1) (is_known d hops last)
-    (and_from (knows_router d hop.0) (knows_link d hop.0 hop.1) (well_from (knows_router d hop.0) (UnknownRouter line) names.0) (well_from (knows_link d hop.0 hop.1) (UnknownInterface line) names.1))
+    (and_from (knows_router d hop.0) (knows_link d hop.0 hop.1)
+    (well_from (knows_router d hop.0) (UnknownRouter line) names.0)
+    (well_from (knows_link d hop.0 hop.1) (UnknownInterface line) names.1))
     (words_known d line hops last parts.1)
 
 leads_from : (leads : Bool) (line number : ℕ) → (if leads then [] else BrokenPath line number ∷ []) ≡ [] → leads ≡ true
@@ -65,32 +60,37 @@ leads_from false line number some = absurd (clash some)
     clash : (BrokenPath line number ∷ []) ≡ [] → ⊥
     clash h = cc
 
-pub hops_joined : (d : Database) (line number : ℕ) (hops : List (List ℕ × List ℕ)) (last : List ℕ) → broken_faults d line number hops last ≡ [] → is_joined d hops last ≡ true
+pub hops_joined : (d : Database) (line number : ℕ) (hops : List (List ℕ × List ℕ)) (last : List ℕ) →
+    broken_faults d line number hops last ≡ [] → is_joined d hops last ≡ true
 hops_joined d line number [] last none = refl
 hops_joined d line number (hop ∷ hops) last none =
     let leads = leads_on d hop (next_name hops last) in
-    let parts = no_parts (if leads then [] else BrokenPath line number ∷ []) (broken_faults d line (number + 1) hops last) none in
+    let parts = append-none (if leads then [] else BrokenPath line number ∷ []) (broken_faults d line (number + 1) hops last) none in
     and_from leads (is_joined d hops last) (leads_from leads line number parts.0) (hops_joined d line (number + 1) hops last parts.1)
-
-lacks_test : (ys : List ℕ) (x : ℕ) → Lacks ys x → list_any (λ y. x == y) ys ≡ false
-lacks_test [] x lacks = refl
-lacks_test (y ∷ ys) x lacks = or_from (x == y) (list_any (λ z. x == z) ys) (ne_eqb x y lacks.0) (lacks_test ys x lacks.1)
 
 -- a list in which nothing comes twice passes the test
 none_twice_test : (xs : List ℕ) → NoneTwice xs → is_none_twice xs ≡ true
 none_twice_test [] once = refl
 none_twice_test (x ∷ xs) once =
-    and_from (not (list_any (λ y. x == y) xs)) (is_none_twice xs) (not_from_false (list_any (λ y. x == y) xs) (lacks_test xs x once.0)) (none_twice_test xs once.1)
+    and_from (not (list_any (λ y. x == y) xs)) (is_none_twice xs)
+    (not_from_false (list_any (λ y. x == y) xs) (lacks_test xs x once.0)) (none_twice_test xs once.1)
 
 -- a route whose words are known and whose hops join is a simple path of the outline where no vertex comes twice
-pub outline_simple : (d : Database) (route : Route) → IsDatabase d → is_known d route.hops route.last ≡ true → is_joined d route.hops route.last ≡ true → is_loop_free d (outline d) route ≡ true → IsSimple (outline d) (router_number d (next_name route.hops route.last)) (route_edges d (outline d) route.hops route.last) (router_number d route.last)
+pub outline_simple : (d : Database) (route : Route) → IsDatabase d → is_known d route.hops route.last ≡ true →
+    is_joined d route.hops route.last ≡ true → is_loop_free d (outline d) route ≡ true →
+    IsSimple (outline d) (router_number d (next_name route.hops route.last))
+    (route_edges d (outline d) route.hops route.last) (router_number d route.last)
 outline_simple d route base known joined free =
     let prices : List Price = map (λ (link : Linked). Fixed 1) d.links in
     route_simple d prices route base (length-map {B = Price} d.links (λ (link : Linked). Fixed 1))
-    (and_from (is_known d route.hops route.last && is_joined d route.hops route.last) (is_loop_free d (outline d) route) (and_from (is_known d route.hops route.last) (is_joined d route.hops route.last) known joined) free)
+    (and_from (is_known d route.hops route.last && is_joined d route.hops route.last) (is_loop_free d (outline d) route)
+    (and_from (is_known d route.hops route.last) (is_joined d route.hops route.last) known joined) free)
 
 -- the walk's one fault where its words are known and its hops join
-pub walk_faults_are : (d : Database) (line : ℕ) (route : Route) (walk : Walk) (simple : Bool) → IsDatabase d → hop_faults d line route.hops route.last ≡ [] → broken_faults d line 1 route.hops route.last ≡ [] → IsWalk d route walk → (IsTrue simple ↔ IsSimple (outline d) walk.path.start walk.path.edges walk.end) → walk_faults d line route ≡ fault_unless simple (LoopPath line)
+pub walk_faults_are : (d : Database) (line : ℕ) (route : Route) (walk : Walk) (simple : Bool) → IsDatabase d →
+    hop_faults d line route.hops route.last ≡ [] → broken_faults d line 1 route.hops route.last ≡ [] →
+    IsWalk d route walk → (IsTrue simple ↔ IsSimple (outline d) walk.path.start walk.path.edges walk.end) →
+    walk_faults d line route ≡ fault_unless simple (LoopPath line)
 walk_faults_are d line route walk simple base words hops is test =
     let known = words_known d line route.hops route.last words in
     let joined = hops_joined d line 1 route.hops route.last hops in
@@ -100,5 +100,6 @@ walk_faults_are d line route walk simple base words hops is test =
     let same : is_loop_free d (outline d) route ≡ simple
     = same_test (is_loop_free d (outline d) route) simple
     (λ free. test.1 (rw (is.start, is.edges, is.end) (outline_simple d route base known joined free)))
-    (λ holds. let path : IsSimple (outline d) start edges end = rw (is.start, is.edges, is.end) at (test.0 holds) in none_twice_test (visited (outline d) start edges) path.none_twice) in
+    (λ holds. let path : IsSimple (outline d) start edges end = rw (is.start, is.edges, is.end) at (test.0 holds) in
+    none_twice_test (visited (outline d) start edges) path.none_twice) in
     rw (words, hops, same) refl

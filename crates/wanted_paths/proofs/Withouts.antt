@@ -1,8 +1,11 @@
 -- The faults of what a path goes without.
-use Rattle.std.proofs.Common.{◌≡◌, ℕ, refl, sym, ◌∙◌, ap, List, [], ◌++◌, length, Bool, false}
+use Rattle.std.proofs.Common.{◌≡◌, ℕ, refl, sym, ◌∙◌, ap, subst, List, [], ◌++◌, length, Bool, false}
 use Rattle.std.specs.Prelude.{slice_index_or, not, ◌||◌}
 use Rattle.std.specs.List.{list_any}
+use Rattle.cost_base.proofs.ListLemmas.{append-none}
+use Rattle.area_graph.specs.Area.{Area}
 use Rattle.area_graph.specs.Distances.{AreMarks}
+use Rattle.area_graph.proofs.Visits.{joined_known}
 use Rattle.lsdb_build.specs.Graphs.{Database, IsDatabase}
 use Rattle.request_reader.specs.declared.Part.{Part}
 use Rattle.wanted_paths.specs.declared.routes.Walk.{Walk}
@@ -13,27 +16,54 @@ use Rattle.wanted_paths.specs.LineFaults.{fault_unless, hop_faults, broken_fault
 use Rattle.wanted_paths.specs.Paths.{outline}
 use Rattle.wanted_paths.specs.Walks.{IsWalk}
 use Rattle.wanted_paths.specs.Taken.{taken_by_all}
-use Rattle.wanted_paths.proofs.Walks.{no_parts, well_from, words_known, hops_joined, outline_simple}
-use Rattle.wanted_paths.proofs.Gone.{joins_within, path_marked}
+use Rattle.wanted_paths.proofs.Walks.{well_from, words_known, hops_joined, outline_simple}
+use Rattle.wanted_paths.proofs.TakenEdges.{path_marked}
 use Rattle.wanted_paths.specs.declared.stop.ResolutionFault.TheVariants.{LoopPath, PathGone}
 use Rattle.area_graph.specs.Paths.{IsSimple}
 
 -- a walk without a fault is a simple path of the outline
-pub walk_simple : (d : Database) (line : ℕ) (route : Route) → IsDatabase d → walk_faults d line route ≡ [] → IsSimple (outline d) (router_number d (next_name route.hops route.last)) (route_edges d (outline d) route.hops route.last) (router_number d route.last)
+pub walk_simple : (d : Database) (line : ℕ) (route : Route) → IsDatabase d → walk_faults d line route ≡ [] →
+    IsSimple (outline d) (router_number d (next_name route.hops route.last))
+    (route_edges d (outline d) route.hops route.last) (router_number d route.last)
 walk_simple d line route base none =
     let words = hop_faults d line route.hops route.last in
     let joins = broken_faults d line 1 route.hops route.last in
     let free = is_loop_free d (outline d) route in
-    let whole = no_parts (words ++ joins) (fault_unless free (LoopPath line)) none in
-    let parts = no_parts words joins whole.0 in
-    outline_simple d route base (words_known d line route.hops route.last parts.0) (hops_joined d line 1 route.hops route.last parts.1) (well_from free (LoopPath line) whole.1)
+    let whole = append-none (words ++ joins) (fault_unless free (LoopPath line)) none in
+    let parts = append-none words joins whole.0 in
+    outline_simple d route base (words_known d line route.hops route.last parts.0)
+    (hops_joined d line 1 route.hops route.last parts.1) (well_from free (LoopPath line) whole.1)
 
-pub without_faults_are : (d : Database) (line : ℕ) (route : Route) (walk : Walk) (parts : List Part) (taken : List ℕ) (marks : List Bool) (gone : Bool) → IsDatabase d → IsWalk d route walk → walk_faults d line route ≡ [] → parts_faults d line parts ≡ [] → AreMarks taken marks → taken ≡ taken_by_all d (outline d) parts → length marks ≡ length (outline d).edges → gone ≡ (list_any (is_router_part (next_name route.hops route.last)) parts || list_any (λ e. slice_index_or marks e false) walk.path.edges) → without_faults d line route parts ≡ fault_unless (not gone) (PathGone line)
-without_faults_are d line route walk parts taken marks gone base is walks words are all count tests =
+-- what is taken away of the outline, as a list and as marks
+pub record AreGone (d : Database) (parts : List Part) (taken : List ℕ) (marks : List Bool) : Type 0 where
+  pub are : AreMarks taken marks
+  pub all : taken ≡ taken_by_all d (outline d) parts
+  pub count : length marks ≡ length (outline d).edges
+
+-- the marks that were set by a list as it was lent
+pub gone_marks : (d : Database) (g : Area) (parts : List Part) (lent taken : List ℕ) (old marks : List Bool) →
+    g ≡ outline d → lent ≡ taken → AreMarks lent marks → taken ≡ taken_by_all d g parts →
+    length marks ≡ length old → length old ≡ length g.edges → AreGone d parts taken marks
+gone_marks d g parts lent taken old marks graph same are all kept count = record {
+  are = subst (λ (xs : List ℕ). AreMarks xs marks) same are;
+  all = all ∙ ap (λ (h : Area). taken_by_all d h parts) graph;
+  count = kept ∙ count ∙ ap (λ (h : Area). length h.edges) graph;
+}
+
+pub without_faults_are : (d : Database) (line : ℕ) (route : Route) (walk : Walk) (parts : List Part) (taken : List ℕ)
+    (marks : List Bool) (gone : Bool) → IsDatabase d → IsWalk d route walk → walk_faults d line route ≡ [] →
+    parts_faults d line parts ≡ [] → AreGone d parts taken marks →
+    gone ≡ (list_any (is_router_part (next_name route.hops route.last)) parts
+    || list_any (λ e. slice_index_or marks e false) walk.path.edges) →
+    without_faults d line route parts ≡ fault_unless (not gone) (PathGone line)
+without_faults_are d line route walk parts taken marks gone base is walks words taken_are tests =
     let simple = walk_simple d line route base walks in
     let edges = route_edges d (outline d) route.hops route.last in
     let start = list_any (is_router_part (next_name route.hops route.last)) parts in
-    let within = joins_within (outline d) (router_number d (next_name route.hops route.last)) edges (router_number d route.last) simple.joins in
+    let within = joined_known (outline d) (router_number d (next_name route.hops route.last)) edges (router_number d route.last) simple.joins in
     let same : is_path_gone d route parts ≡ gone
-    = ap (λ b. start || b) (sym (path_marked d (outline d) parts taken marks edges are all count within) ∙ ap (λ (es : List ℕ). list_any (λ e. slice_index_or marks e false) es) (sym is.edges)) ∙ sym tests in
+    =
+    ap (λ b. start || b) (sym (path_marked d (outline d) parts taken marks edges taken_are.are taken_are.all
+    taken_are.count within)
+    ∙ ap (λ (es : List ℕ). list_any (λ e. slice_index_or marks e false) es) (sym is.edges)) ∙ sym tests in
     rw (words, same) refl

@@ -1,4 +1,4 @@
--- By what a link is looked up.
+-- By what a link is looked up. No public clause cites it.
 use Rattle.std.specs.Prelude.{ℕ, List}
 use Rattle.lsdb_build.specs.declared.Linked.{Linked}
 

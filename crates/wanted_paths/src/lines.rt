@@ -83,6 +83,10 @@ fn push_request(
 }
 
 /// The requests of the lines that want a path, in order; the first line's fault where one doesn't resolve.
+///
+/// # Errors
+///
+/// The first fault of a line, or `OutOfMemory`.
 pub fn resolve_lines(
     alloc: Global,
     names: &Names,

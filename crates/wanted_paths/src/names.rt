@@ -105,6 +105,10 @@ fn ones(alloc: Global, links: &[Linked]) -> Result<Vec<Price>, OutOfMemory>
 
 impl<'a> Names<'a> {
     /// The names of an area's routers and links.
+    ///
+    /// # Errors
+    ///
+    /// `OutOfMemory`.
     pub fn new(alloc: Global, lsdb: &'a Lsdb) -> Result<Names<'a>, OutOfMemory>
         ensures { IfOk result (λ names. names ≡ lsdb.now) }
     {
@@ -168,6 +172,10 @@ impl<'a> Names<'a> {
     }
 
     /// The number of the router of a name; where there is none, the fault of the line.
+    ///
+    /// # Errors
+    ///
+    /// The fault of a line that names an unknown router.
     pub fn router(&self, line: u32, name: &[u8]) -> Result<u32, ResolutionStop>
         ensures made { IfOk result (λ r. (router_faults self.now line name.now ≡ []) × (r ≡ router_number self.now name.now)) }
         ensures refused { IfErr result (TellsResolution (first_of (router_faults self.now line name.now))) }
@@ -179,6 +187,10 @@ impl<'a> Names<'a> {
     }
 
     /// The number of the link of an interface; where there is none, the fault of the line.
+    ///
+    /// # Errors
+    ///
+    /// The fault of a line that names an unknown router or interface.
     pub fn link(&self, line: u32, router: &[u8], interface: &[u8]) -> Result<u32, ResolutionStop>
         ensures made { IfOk result (λ l. (interface_faults self.now line router.now interface.now ≡ []) × (l ≡ link_number self.now router.now interface.now)) }
         ensures refused { IfErr result (TellsResolution (first_of (interface_faults self.now line router.now interface.now))) }
@@ -218,6 +230,10 @@ impl<'a> Names<'a> {
     }
 
     /// The graph of the area at given prices of its links, as `graph_of` makes it.
+    ///
+    /// # Errors
+    ///
+    /// `OutOfMemory`.
     pub fn graph(&self, alloc: Global, prices: &[Price]) -> Result<Graph, OutOfMemory>
         requires one_each { length prices.now ≡ length self.now.links }
         requires priced { All IsLinkPrice prices.now }
@@ -227,6 +243,10 @@ impl<'a> Names<'a> {
     }
 
     /// The graph of the area with cost 1 at each link, which tells what an edge joins.
+    ///
+    /// # Errors
+    ///
+    /// `OutOfMemory`.
     pub fn outline(&self, alloc: Global) -> Result<Graph, OutOfMemory>
         ensures { IfOk result (λ graph. graph ≡ outline self.now) }
     {

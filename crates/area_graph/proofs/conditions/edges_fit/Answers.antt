@@ -16,7 +16,8 @@ returns-then-not-fits_edge c =
 
 pub loop-edge-preserved : goal.loop-edge-preserved
 loop-edge-preserved c =
-    All-more (FitsEdge (record { vertices = c.args.vertices.now; edges = c.args.edges.now })) c.args.edges.now c.loop-edge.edge-index first_edge c.loop-edge-test.true c.loop-edge.invariant
+    All-more (FitsEdge (record { vertices = c.args.vertices.now; edges = c.args.edges.now })) c.args.edges.now
+    c.loop-edge.edge-index first_edge c.loop-edge-test.true c.loop-edge.invariant
     ((c.if-not-fits_edge.ensures c.args.edges.now).0 refl)
 
 pub returns : goal.returns

@@ -12,5 +12,7 @@ returns c =
     let d = c.in_ok-distances.distances.items in
     let ends : Ends = record { start = c.args.path.now.start; end = c.args.end; gone = c.args.gone.now } in
     let leads = subst (λ (ds : List ℕ). IsTrue c.leads.result ↔ Leads graph point c.args.gone.now ds path) c.as_slice-2.ensures.value c.leads.ensures.leads in
-    let only = leads_only graph point ends d path c.keeps_conditions.ensures.fits c.requires.fits c.in_ok-distances.ensures.count c.in_ok-distances.ensures.reached c.in_ok-distances.ensures.settled c.leads.ensures.below c.requires.path in
+    let only = leads_only graph point ends d path c.keeps_conditions.ensures.fits c.requires.fits
+    c.in_ok-distances.ensures.count c.in_ok-distances.ensures.reached c.in_ok-distances.ensures.settled
+    c.leads.ensures.below c.requires.path in
     (λ yes. only.0 (leads.0 yes), λ is_only. leads.1 (only.1 is_only))

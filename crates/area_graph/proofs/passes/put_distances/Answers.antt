@@ -17,7 +17,8 @@ loop-target-init c =
     record {
       count = subst (λ (d : List ℕ). length (set d t 0) ≡ length c.args.graph.now.vertices) (sym filled) (kept ∙ size ∙ c.requires.count);
       bounded = subst (λ (d : List ℕ). All (λ x. x ≤ far c.args.point.now) (set d t 0)) (sym filled)
-          (All-set (λ x. x ≤ far c.args.point.now) (replicate n limit) t 0 (omega arith) (All-replicate (λ x. x ≤ far c.args.point.now) n limit c.requires.limit));
+          (All-set (λ x. x ≤ far c.args.point.now) (replicate n limit) t 0 (omega arith)
+          (All-replicate (λ x. x ≤ far c.args.point.now) n limit c.requires.limit));
       reached = subst (λ (d : List ℕ). AreReached c.args.graph.now c.args.point.now c.args.removal.now t limit (set d t 0)) (sym filled)
           (reached_none c.args.graph.now c.args.point.now c.args.removal.now t limit n within);
     }

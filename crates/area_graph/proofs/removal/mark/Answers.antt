@@ -1,5 +1,5 @@
 use Rattle.std.proofs.Common.{rules, ◌<◌, ◌≤◌, length}
-use Rattle.area_graph.proofs.Marks.{marks_more, marks_past}
+use Rattle.area_graph.proofs.GoneMarks.{marks_more, marks_past}
 use Rattle.area_graph.proofs.removal.mark.Goals as goal
 
 pub returns-then-edge-len-clause-marks : goal.returns-then-edge-len-clause-marks

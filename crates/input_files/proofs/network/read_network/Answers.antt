@@ -20,7 +20,9 @@ returns-in_err-configs-clause-read g c =
     let b = c.read_request.new.shelf in
     let d = c.read_configs.new.shelf in
     let p = err_from_is_err_and c.from_residual-in_err-configs.result c.from_residual-in_err-configs.ensures.1 in
-    rw (p.1, p.2) (configs_stop (g.S.Shelf.gave a b) (g.S.Shelf.gave b d) (g.S.Shelf.gave a d) c.args.view (files_named c.args.words) c.in_ok-requests.requests _ (g.met.S.Shelf.gave_more a b d) c.in_ok-requests.ensures c.in_err-configs.ensures)
+    rw (p.1, p.2) (configs_stop (g.S.Shelf.gave a b) (g.S.Shelf.gave b d) (g.S.Shelf.gave a d) c.args.view
+    (files_named c.args.words) c.in_ok-requests.requests _ (g.met.S.Shelf.gave_more a b d)
+    c.in_ok-requests.ensures c.in_err-configs.ensures)
 
 pub returns-in_err-lsdb-clause-read : goal.returns-in_err-lsdb-clause-read
 returns-in_err-lsdb-clause-read g c =
@@ -30,7 +32,8 @@ returns-in_err-lsdb-clause-read g c =
     let names = files_named c.args.words in
     let routers = c.deref.result.now in
     let p = err_from_is_err_and c.from_residual-in_err-lsdb.result c.from_residual-in_err-lsdb.ensures.1 in
-    rw (p.1, p.2) (topology_stops (g.S.Shelf.gave a b) (g.S.Shelf.gave b d) (g.S.Shelf.gave a d) c.args.view names c.in_ok-requests.requests routers _ (g.met.S.Shelf.gave_more a b d) c.in_ok-requests.ensures
+    rw (p.1, p.2) (topology_stops (g.S.Shelf.gave a b) (g.S.Shelf.gave b d) (g.S.Shelf.gave a d) c.args.view names
+    c.in_ok-requests.requests routers _ (g.met.S.Shelf.gave_more a b d) c.in_ok-requests.ensures
     (routers_of_vector (g.S.Shelf.gave b d) names c.in_ok-configs.configs routers c.deref.ensures.value c.in_ok-configs.ensures)
     (subst (λ (x : Asked). StopsAs (topology_read names x.area routers) [] c.in_err-lsdb.field-0.0) c.requests.view_is c.in_err-lsdb.ensures))
 
@@ -42,11 +45,14 @@ returns-in_err-problem-clause-read g c =
     let names = files_named c.args.words in
     let routers = c.deref.result.now in
     let p = err_from_is_err_and c.from_residual-in_err-problem.result c.from_residual-in_err-problem.ensures.1 in
-    rw (p.1, p.2) (problem_is (g.S.Shelf.gave a b) (g.S.Shelf.gave b d) (g.S.Shelf.gave a d) c.args.view names c.in_ok-requests.requests routers c.in_ok-lsdb.lsdb (Err c.in_err-problem.field-0.0) (g.met.S.Shelf.gave_more a b d)
+    rw (p.1, p.2) (problem_is (g.S.Shelf.gave a b) (g.S.Shelf.gave b d) (g.S.Shelf.gave a d) c.args.view names
+    c.in_ok-requests.requests routers c.in_ok-lsdb.lsdb (Err c.in_err-problem.field-0.0)
+    (g.met.S.Shelf.gave_more a b d)
     (subst (λ (e : Database). IsDatabase e) c.lsdb.view_is c.lsdb.invariant)
     c.in_ok-requests.ensures
     (routers_of_vector (g.S.Shelf.gave b d) names c.in_ok-configs.configs routers c.deref.ensures.value c.in_ok-configs.ensures)
-    (subst (λ (x : Asked). IsReady (topology_read names x.area routers) [] (λ made read. made ≡ read) c.in_ok-lsdb.lsdb) c.requests.view_is c.in_ok-lsdb.ensures)
+    (subst (λ (x : Asked). IsReady (topology_read names x.area routers) [] (λ made read. made ≡ read) c.in_ok-lsdb.lsdb)
+    c.requests.view_is c.in_ok-lsdb.ensures)
     c.in_err-problem.ensures.read)
 
 pub returns-clause-read : goal.returns-clause-read
@@ -56,11 +62,13 @@ returns-clause-read g c =
     let d = c.read_configs.new.shelf in
     let names = files_named c.args.words in
     let routers = c.deref.result.now in
-    network_is (g.S.Shelf.gave a b) (g.S.Shelf.gave b d) (g.S.Shelf.gave a d) c.args.view names _ c.in_ok-requests.requests routers c.in_ok-lsdb.lsdb c.in_ok-problem.problem (g.met.S.Shelf.gave_more a b d)
+    network_is (g.S.Shelf.gave a b) (g.S.Shelf.gave b d) (g.S.Shelf.gave a d) c.args.view names _
+    c.in_ok-requests.requests routers c.in_ok-lsdb.lsdb c.in_ok-problem.problem (g.met.S.Shelf.gave_more a b d)
     (subst (λ (e : Database). IsDatabase e) c.lsdb.view_is c.lsdb.invariant)
     (subst (λ (x : Asked). IsLawful x) c.requests.view_is c.requests.invariant)
     (record { requests = refl; configs = sym c.deref.ensures.value; lsdb = refl; problem = refl })
     c.in_ok-requests.ensures
     (routers_of_vector (g.S.Shelf.gave b d) names c.in_ok-configs.configs routers c.deref.ensures.value c.in_ok-configs.ensures)
-    (subst (λ (x : Asked). IsReady (topology_read names x.area routers) [] (λ made read. made ≡ read) c.in_ok-lsdb.lsdb) c.requests.view_is c.in_ok-lsdb.ensures)
+    (subst (λ (x : Asked). IsReady (topology_read names x.area routers) [] (λ made read. made ≡ read) c.in_ok-lsdb.lsdb)
+    c.requests.view_is c.in_ok-lsdb.ensures)
     c.in_ok-problem.ensures.read

@@ -11,4 +11,5 @@ returns-in_err-network-clause-read g c =
 
 pub returns-clause-read : goal.returns-clause-read
 returns-clause-read g c =
-    problem_in (g.S.Shelf.gave c.args.shelf.now c.read_network.new.shelf) c.args.view (files_named c.args.words) c.in_ok-network.network c.in_ok-network.ensures.read
+    problem_in (g.S.Shelf.gave c.args.shelf.now c.read_network.new.shelf) c.args.view (files_named c.args.words)
+    c.in_ok-network.network c.in_ok-network.ensures.read

@@ -24,6 +24,8 @@ pub new-requires : goal.new-requires
 new-requires c =
     let same : c.in_ok-vertices.vertices ≡ c.args.database.now = c.in_ok-vertices.ensures ∙ c.as_slice.ensures.items in
     subst FitsGraph
-    (sym (graph_made c.in_ok-vertices.vertices c.args.database.now c.router_count-routers.result c.network_count.result c.in_ok-made.made.items c.new-edges.result.items c.push_edges.new.edges.items c.push_edges-2.new.edges.items
-    same c.router_count-routers.ensures c.network_count.ensures c.in_ok-made.ensures c.new-edges.ensures.items c.in_ok-push_edges.ensures c.in_ok-push_edges-2.ensures))
+    (sym (graph_made c.in_ok-vertices.vertices c.args.database.now c.router_count-routers.result c.network_count.result
+    c.in_ok-made.made.items c.new-edges.result.items c.push_edges.new.edges.items c.push_edges-2.new.edges.items
+    same c.router_count-routers.ensures c.network_count.ensures c.in_ok-made.ensures c.new-edges.ensures.items
+    c.in_ok-push_edges.ensures c.in_ok-push_edges-2.ensures))
     (graph_fits c.args.database.now c.as_slice.ensures.kept)

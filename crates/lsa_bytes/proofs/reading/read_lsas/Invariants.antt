@@ -1,5 +1,5 @@
 use Rattle.std.proofs.Common.{length}
-use Rattle.lsa_bytes.proofs.Underway.{IsUnderway}
+use Rattle.lsa_bytes.proofs.ReadSoFar.{IsUnderway}
 use Rattle.lsa_bytes.proofs.reading.read_lsas.Given as goal
 
 abbrev pub invariant-loop-rest : goal.invariant-loop-rest

@@ -9,4 +9,5 @@ returns-in-None c d same = ids_ready (files_named c.args.words) d _ (sym c.in-No
 
 pub returns-in-Some : goal.returns-in-Some
 returns-in-Some c d same =
-    subst (λ f. StopsAs (if_identified (files_named c.args.words) d f) [] c.stop_of_id.result) c.in-Some.ensures (ids_stop (files_named c.args.words) d c.in-Some.found c.stop_of_id.result c.stop_of_id.ensures)
+    subst (λ f. StopsAs (if_identified (files_named c.args.words) d f) [] c.stop_of_id.result) c.in-Some.ensures
+    (ids_stop (files_named c.args.words) d c.in-Some.found c.stop_of_id.result c.stop_of_id.ensures)

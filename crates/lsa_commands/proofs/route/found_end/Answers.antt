@@ -20,23 +20,32 @@ route_end-requires-clause-fits c = subst (λ (g : Area). FitsPoint g (at_costs [
 pub route_end-requires-clause-start : goal.route_end-requires-clause-start
 route_end-requires-clause-start c =
     subst (λ (g : Area). c.vertex_of-start.result < length g.vertices) (sym c.in_ok-graph.ensures)
-    (subst (λ v. v < length (lsa_graph c.args.database.now).vertices) (sym (c.vertex_of-start.ensures ∙ ap (λ (ls : List Lsa). vertex_of ls c.args.from) c.as_slice-lsas.ensures.items)) (vertex_within c.args.database.now c.args.from c.requires.from))
+    (subst (λ v. v < length (lsa_graph c.args.database.now).vertices)
+    (sym (c.vertex_of-start.ensures
+    ∙ ap (λ (ls : List Lsa). vertex_of ls c.args.from) c.as_slice-lsas.ensures.items))
+    (vertex_within c.args.database.now c.args.from c.requires.from))
 
 pub route_end-requires-clause-end : goal.route_end-requires-clause-end
 route_end-requires-clause-end c =
     subst (λ (g : Area). c.vertex_of-end.result < length g.vertices) (sym c.in_ok-graph.ensures)
-    (subst (λ v. v < length (lsa_graph c.args.database.now).vertices) (sym (c.vertex_of-end.ensures ∙ ap (λ (ls : List Lsa). vertex_of ls c.args.to) c.as_slice-lsas.ensures.items)) (vertex_within c.args.database.now c.args.to c.requires.to))
+    (subst (λ v. v < length (lsa_graph c.args.database.now).vertices)
+    (sym (c.vertex_of-end.ensures ∙ ap (λ (ls : List Lsa). vertex_of ls c.args.to) c.as_slice-lsas.ensures.items))
+    (vertex_within c.args.database.now c.args.to c.requires.to))
 
 pub returns-then-is_same : goal.returns-then-is_same
 returns-then-is_same c =
     let lsas = c.args.database.now in
-    found_own lsas c.in_ok-graph.graph c.deref.result.now c.args.from c.args.to c.vertex_of-start.result c.vertex_of-end.result c.in_ok-words.words.items c.in_ok-own.own.items c.in_ok-graph.ensures
-    (c.vertex_of-end.ensures ∙ ap (λ (ls : List Lsa). vertex_of ls c.args.to) c.as_slice-lsas.ensures.items) (sym c.is_same.ensures ∙ c.if-is_same.true) c.in_ok-own.ensures c.in_ok-words.ensures
+    found_own lsas c.in_ok-graph.graph c.deref.result.now c.args.from c.args.to c.vertex_of-start.result
+    c.vertex_of-end.result c.in_ok-words.words.items c.in_ok-own.own.items c.in_ok-graph.ensures
+    (c.vertex_of-end.ensures ∙ ap (λ (ls : List Lsa). vertex_of ls c.args.to) c.as_slice-lsas.ensures.items)
+    (sym c.is_same.ensures ∙ c.if-is_same.true) c.in_ok-own.ensures c.in_ok-words.ensures
 
 pub returns : goal.returns
 returns c =
     let lsas = c.args.database.now in
-    found_between lsas c.in_ok-graph.graph c.deref.result.now c.args.from c.args.to c.vertex_of-start.result c.vertex_of-end.result c.in_ok-words.words.items c.in_ok-graph.ensures
+    found_between lsas c.in_ok-graph.graph c.deref.result.now c.args.from c.args.to c.vertex_of-start.result
+    c.vertex_of-end.result c.in_ok-words.words.items c.in_ok-graph.ensures
     (c.deref.ensures.value ∙ c.in_ok-ids.ensures ∙ ap vertex_ids c.as_slice-lsas.ensures.items)
     (c.vertex_of-start.ensures ∙ ap (λ (ls : List Lsa). vertex_of ls c.args.from) c.as_slice-lsas.ensures.items)
-    (c.vertex_of-end.ensures ∙ ap (λ (ls : List Lsa). vertex_of ls c.args.to) c.as_slice-lsas.ensures.items) (sym c.is_same.ensures ∙ c.if-is_same.false) c.in_ok-words.ensures
+    (c.vertex_of-end.ensures ∙ ap (λ (ls : List Lsa). vertex_of ls c.args.to) c.as_slice-lsas.ensures.items)
+    (sym c.is_same.ensures ∙ c.if-is_same.false) c.in_ok-words.ensures

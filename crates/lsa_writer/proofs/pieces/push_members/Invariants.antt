@@ -8,4 +8,5 @@ use Rattle.lsa_writer.proofs.pieces.push_members.Given as goal
 
 abbrev pub invariant-loop-member : goal.invariant-loop-member
 invariant-loop-member l =
-    l.bytes.items ++ flat_map (to_be_bytes w32) (routers_in (member_ends l.ends (drop l.member-index l.members))) ≡ l.fn.bytes.items ++ flat_map (to_be_bytes w32) (routers_in (member_ends l.ends l.members))
+    l.bytes.items ++ flat_map (to_be_bytes w32) (routers_in (member_ends l.ends (drop l.member-index l.members)))
+    ≡ l.fn.bytes.items ++ flat_map (to_be_bytes w32) (routers_in (member_ends l.ends l.members))

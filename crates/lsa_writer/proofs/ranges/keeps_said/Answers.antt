@@ -10,4 +10,5 @@ pub loop-link-preserved : goal.loop-link-preserved
 loop-link-preserved c = All-more IsRangedLink c.args.said.now c.loop-link.link-index _ c.loop-link-test.true c.loop-link.invariant c.keeps_link.ensures
 
 pub returns : goal.returns
-returns c = subst (λ (left : List OwnedLink). All IsRangedLink left) (take_all c.loop-link.link-index c.args.said.now c.loop-link-test.false) c.loop-link.invariant
+returns c = subst (λ (left : List OwnedLink). All IsRangedLink left)
+    (take_all c.loop-link.link-index c.args.said.now c.loop-link-test.false) c.loop-link.invariant

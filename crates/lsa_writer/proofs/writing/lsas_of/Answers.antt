@@ -8,8 +8,8 @@ use Rattle.lsa_writer.specs.declared.said.OwnedLink.{OwnedLink}
 use Rattle.lsa_writer.specs.Ends.{ends_of, designated_ends}
 use Rattle.lsa_writer.specs.OneGraph.{SayGraph, IsRangedEnd, IsRangedLink}
 use Rattle.lsa_writer.specs.WrittenLsas.{all_said}
-use Rattle.lsa_writer.proofs.Groups.{AreInOrder}
-use Rattle.lsa_writer.proofs.Told.{said_order, said_length}
+use Rattle.lsa_writer.proofs.LinkGroups.{AreInOrder}
+use Rattle.lsa_writer.proofs.ToldLinks.{said_order, said_length}
 use Rattle.lsa_writer.proofs.Written.{said_is, written_is, written_graph}
 use Rattle.lsa_writer.proofs.writing.lsas_of.Goals.{After-deref-6}
 use Rattle.lsa_writer.proofs.writing.lsas_of.Goals as goal
@@ -30,9 +30,12 @@ said : (c : After-deref-6) → c.deref-6.result.now ≡ all_said c.args.configs.
 said c =
     let configs = c.args.configs.now in
     let d = c.args.lsdb.now in
-    said_is configs d c.as_slice-links.result.now c.as_slice-subnets.result.now c.args.costs.now c.in_ok-ends.ends.items c.deref-2.result.now c.deref-6.result.now
+    said_is configs d c.as_slice-links.result.now c.as_slice-subnets.result.now c.args.costs.now c.in_ok-ends.ends.items
+    c.deref-2.result.now c.deref-6.result.now
     (links_are c) (subnets_are c) c.in_ok-ends.ensures
-    (c.deref-2.ensures.value ∙ c.in_ok-designated.ensures ∙ ap (λ (es : List LinkEnd). designated_ends es c.as_slice-subnets.result.now) c.deref.ensures.value) (c.deref-6.ensures.value ∙ c.in_ok-said.ensures)
+    (c.deref-2.ensures.value ∙ c.in_ok-designated.ensures
+    ∙ ap (λ (es : List LinkEnd). designated_ends es c.as_slice-subnets.result.now) c.deref.ensures.value)
+    (c.deref-6.ensures.value ∙ c.in_ok-said.ensures)
 
 pub push_router_lsas-requires-clause-in_order : goal.push_router_lsas-requires-clause-in_order
 push_router_lsas-requires-clause-in_order c =
@@ -60,8 +63,11 @@ push_network_lsas-requires-clause-few_members c =
 pub returns-clause-written : goal.returns-clause-written
 returns-clause-written c =
     let at = (goal.at.returns-clause-written c).After-deref-6 in
-    written_is c.args.configs.now c.args.lsdb.now c.as_slice-links.result.now c.as_slice-subnets.result.now c.args.costs.now c.deref-7.result.now c.deref-6.result.now c.new-bytes.result.items c.push_router_lsas.new.bytes.items c.push_network_lsas.new.bytes.items
-    (links_are at) (subnets_are at) (c.deref-7.ensures.value ∙ c.in_ok-ends.ensures) (said at) c.new-bytes.ensures.items c.in_ok-push_router_lsas.ensures c.in_ok-push_network_lsas.ensures
+    written_is c.args.configs.now c.args.lsdb.now c.as_slice-links.result.now c.as_slice-subnets.result.now
+    c.args.costs.now c.deref-7.result.now c.deref-6.result.now c.new-bytes.result.items
+    c.push_router_lsas.new.bytes.items c.push_network_lsas.new.bytes.items
+    (links_are at) (subnets_are at) (c.deref-7.ensures.value ∙ c.in_ok-ends.ensures) (said at) c.new-bytes.ensures.items
+    c.in_ok-push_router_lsas.ensures c.in_ok-push_network_lsas.ensures
 
 pub returns-clause-one_graph : goal.returns-clause-one_graph
 returns-clause-one_graph c =
@@ -69,9 +75,15 @@ returns-clause-one_graph c =
     let configs = c.args.configs.now in
     let costs = c.args.costs.now in
     let at = (goal.at.returns-clause-one_graph c).After-deref-6 in
-    let bytes = written_is configs d c.as_slice-links.result.now c.as_slice-subnets.result.now costs c.deref-7.result.now c.deref-6.result.now c.new-bytes.result.items c.push_router_lsas.new.bytes.items c.push_network_lsas.new.bytes.items
-    (links_are at) (subnets_are at) (c.deref-7.ensures.value ∙ c.in_ok-ends.ensures) (said at) c.new-bytes.ensures.items c.in_ok-push_router_lsas.ensures c.in_ok-push_network_lsas.ensures in
+    let bytes = written_is configs d c.as_slice-links.result.now c.as_slice-subnets.result.now costs
+    c.deref-7.result.now c.deref-6.result.now c.new-bytes.result.items c.push_router_lsas.new.bytes.items
+    c.push_network_lsas.new.bytes.items
+    (links_are at) (subnets_are at) (c.deref-7.ensures.value ∙ c.in_ok-ends.ensures) (said at) c.new-bytes.ensures.items
+    c.in_ok-push_router_lsas.ensures c.in_ok-push_network_lsas.ensures in
     let ends : c.deref-4.result.now ≡ ends_of configs d.links = c.deref-4.ensures.value ∙ c.in_ok-ends.ensures ∙ ap (ends_of configs) (links_are at) in
     subst (λ (bs : List ℕ). SayGraph bs (graph_at d (map Fixed costs))) (sym bytes)
-    (written_graph configs d costs c.requires.built c.keeps_configs.ensures.valid c.requires.ids c.requires.one_each c.requires.priced c.keeps_configs.ensures.ids
-    (subst (λ (es : List LinkEnd). All IsRangedEnd es) ends c.keeps_ends.ensures) (subst (λ (xs : List OwnedLink). All IsRangedLink xs) (c.deref-5.ensures.value ∙ sym c.deref-6.ensures.value ∙ said at) c.keeps_said.ensures))
+    (written_graph configs d costs c.requires.built c.keeps_configs.ensures.valid c.requires.ids c.requires.one_each
+    c.requires.priced c.keeps_configs.ensures.ids
+    (subst (λ (es : List LinkEnd). All IsRangedEnd es) ends c.keeps_ends.ensures)
+    (subst (λ (xs : List OwnedLink). All IsRangedLink xs) (c.deref-5.ensures.value ∙ sym c.deref-6.ensures.value
+    ∙ said at) c.keeps_said.ensures))

@@ -2,7 +2,7 @@ use Rattle.std.proofs.Common.{◌≡◌, ◌∙◌, ◌-◌, ◌++◌, take, dro
 use Rattle.cost_base.specs.Lists.{numbers_from}
 use Rattle.lsa_bytes.specs.Written.{bytes_of_all}
 use Rattle.lsa_writer.specs.WrittenLsas.{own_links, own_lsa}
-use Rattle.lsa_writer.proofs.Steps.{all_from_on, count_within, taken_off, own_within, router_turn, router_end}
+use Rattle.lsa_writer.proofs.WritingSteps.{all_from_on, count_within, taken_off, own_within, router_turn, router_end}
 use Rattle.lsa_writer.proofs.writing.push_router_lsas.Goals as goal
 
 pub loop-router-init : goal.loop-router-init
@@ -32,8 +32,11 @@ loop-router-preserved c =
     let own : c.split_at.result.0.now ≡ own_links router c.args.said.now = c.split_at.ensures.front ∙ ap (λ n. take n rest) c.own_count.ensures ∙ parts.0 in
     record {
       rest = c.split_at.ensures.back ∙ ap (λ n. drop n rest) c.own_count.ensures ∙ parts.1;
-      bytes = router_turn c.args.configs.now c.args.said.now c.split_at.result.0.now router c.id_of.result c.loop-router.bytes.items c.push_router_lsa.new.bytes.items _ c.loop-router-test.true c.id_of.ensures own c.in_ok-push_router_lsa.ensures c.loop-router.invariant.bytes;
+      bytes = router_turn c.args.configs.now c.args.said.now c.split_at.result.0.now router c.id_of.result
+          c.loop-router.bytes.items c.push_router_lsa.new.bytes.items _ c.loop-router-test.true c.id_of.ensures own
+          c.in_ok-push_router_lsa.ensures c.loop-router.invariant.bytes;
     }
 
 pub returns : goal.returns
-returns c = router_end c.args.configs.now c.args.said.now c.loop-router.router c.loop-router.bytes.items _ c.loop-router-test.false c.loop-router.invariant.bytes
+returns c = router_end c.args.configs.now c.args.said.now c.loop-router.router c.loop-router.bytes.items _
+    c.loop-router-test.false c.loop-router.invariant.bytes

@@ -1,33 +1,42 @@
 use Rattle.std.proofs.Common.{reverse, take, map, ap, sym, ◌∙◌}
-use Rattle.std.proofs.lemmas.List.{at_drop_all}
-use Rattle.lsdb_build.specs.Topology.{first_where, at_port}
+use Rattle.lsdb_build.specs.Topology.{at_port}
 use Rattle.lsdb_build.specs.SubnetChecks.{fails, fault_of}
 use Rattle.lsdb_build.specs.Tallies.{same_trait, kind_on}
-use Rattle.lsdb_build.proofs.Firsts.{first_where-more}
+use Rattle.lsdb_build.proofs.FirstPlaces.{left_on, first_met, none_met}
 use Rattle.lsdb_build.proofs.Tallies.{tally_on, tally_few}
 use Rattle.lsdb_build.proofs.checks.refuse_on_subnet.Goals as goal
 
 pub add-requires : goal.add-requires
-add-requires c = record { few = tally_few same_trait kind_on c.loop-port.seen.counts c.args.ports.now c.loop-port.port-index c.loop-port.invariant.seen c.requires c.kind_on.result }
+add-requires c = record {
+  few = tally_few same_trait kind_on c.loop-port.seen.counts c.args.ports.now
+      c.loop-port.port-index c.loop-port.invariant.seen c.requires c.kind_on.result;
+}
 
 pub loop-port-preserved : goal.loop-port-preserved
 loop-port-preserved c =
     let ports = c.args.ports.now in
     let i = c.loop-port.port-index in
+    let p = c.port-item.result in
     let before = reverse (take i ports) in
     record {
-      seen = tally_on same_trait kind_on c.add.new.self.counts ports i c.port-item.result c.loop-port-test.true c.port-item.is c.kind_on.result c.kind_on.ensures (c.in_ok-add.ensures.added (map kind_on before) c.loop-port.invariant.seen);
-      left = c.loop-port.invariant.left ∙ first_where-more (fails c.args.check) ports i c.port-item.result c.loop-port-test.true c.port-item.is _ (sym (c.fails.ensures before c.loop-port.invariant.seen) ∙ c.if-fails.false);
+      seen = tally_on same_trait kind_on c.add.new.self.counts ports i p c.loop-port-test.true c.port-item.is
+          c.kind_on.result c.kind_on.ensures
+          (c.in_ok-add.ensures.added (map kind_on before) c.loop-port.invariant.seen);
+      left = left_on (fails c.args.check) ports i c.loop-port.invariant.left p c.loop-port-test.true c.port-item.is
+          (sym (c.fails.ensures before c.loop-port.invariant.seen) ∙ c.if-fails.false);
     }
 
 pub returns-then-fails : goal.returns-then-fails
 returns-then-fails c =
     let ports = c.args.ports.now in
     let i = c.loop-port.port-index in
-    let before = reverse (take i ports) in
     rw (c.refusal_at.ensures, c.fault_of.ensures)
-    (ap (at_port (fault_of c.args.check)) (c.loop-port.invariant.left ∙ first_where-more (fails c.args.check) ports i c.port-item.result c.loop-port-test.true c.port-item.is _ (sym (c.fails.ensures before c.loop-port.invariant.seen) ∙ c.if-fails.true)))
+    (ap (at_port (fault_of c.args.check))
+    (first_met (fails c.args.check) ports i c.loop-port.invariant.left c.port-item.result c.loop-port-test.true
+    c.port-item.is
+    (sym (c.fails.ensures (reverse (take i ports)) c.loop-port.invariant.seen) ∙ c.if-fails.true)))
 
 pub returns : goal.returns
-returns c =
-    ap (at_port (fault_of c.args.check)) (c.loop-port.invariant.left ∙ at_drop_all (first_where (fails c.args.check) (reverse (take c.loop-port.port-index c.args.ports.now))) c.args.ports.now c.loop-port.port-index c.loop-port-test.false)
+returns c = ap (at_port (fault_of c.args.check))
+    (none_met (fails c.args.check) c.args.ports.now c.loop-port.port-index c.loop-port.invariant.left
+    c.loop-port-test.false)

@@ -3,7 +3,7 @@ use Rattle.std.specs.List.{list_any}
 use Rattle.std.proofs.lemmas.Bool.{not-true}
 use Rattle.std.proofs.lemmas.List.{map-append}
 use Rattle.cost_base.specs.Lists.{same_bytes}
-use Rattle.lsdb_build.proofs.Firsts.{list_any-map}
+use Rattle.cost_base.proofs.ListLemmas.{list_any-map}
 use Rattle.lsdb_build.proofs.checks.see.Goals as goal
 
 pub returns-clause-new : goal.returns-clause-new
@@ -11,7 +11,8 @@ returns-clause-new c =
     let now : Bor (List ℕ) → List ℕ = λ n. n.now in
     let keys = c.args.seen.now.keys in
     c.in_ok-insert.ensures.added
-    ∙ ap not (ap (λ (name : List ℕ). list_any (λ (key : Bor (List ℕ)). same_bytes name key.now) keys) c.as_bytes.ensures ∙ sym (list_any-map (same_bytes c.args.name.now) now keys))
+    ∙ ap not (ap (λ (name : List ℕ). list_any (λ (key : Bor (List ℕ)). same_bytes name key.now) keys) c.as_bytes.ensures
+    ∙ sym (list_any-map (same_bytes c.args.name.now) now keys))
 
 pub returns-clause-added : goal.returns-clause-added
 returns-clause-added c = λ new.

@@ -7,4 +7,5 @@ abbrev pub invariant-loop-router : goal.invariant-loop-router
 invariant-loop-router l = l.vertices.items ++ map Router (numbers_from l.router (l.fn.routers - l.router)) ≡ map Router (numbers_from 0 l.fn.routers)
 
 abbrev pub invariant-loop-subnet : goal.invariant-loop-subnet
-invariant-loop-subnet l = l.vertices.items ++ map Subnet (numbers_from l.subnet (l.fn.subnets - l.subnet)) ≡ map Router (numbers_from 0 l.fn.routers) ++ map Subnet (numbers_from 0 l.fn.subnets)
+invariant-loop-subnet l = l.vertices.items ++ map Subnet (numbers_from l.subnet (l.fn.subnets - l.subnet))
+    ≡ map Router (numbers_from 0 l.fn.routers) ++ map Subnet (numbers_from 0 l.fn.subnets)

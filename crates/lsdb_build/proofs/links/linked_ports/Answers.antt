@@ -1,6 +1,6 @@
 use Rattle.std.proofs.Common.{◌≡◌, not, true, is_ok, ap, sym, ◌∙◌}
 use Rattle.lsdb_build.specs.Neighbours.{is_linked}
-use Rattle.lsdb_build.proofs.Firsts.{filter_kept, filter_passed}
+use Rattle.lsdb_build.proofs.FirstPlaces.{filter_kept, filter_passed}
 use Rattle.lsdb_build.proofs.links.linked_ports.Goals as goal
 use Rattle.lsdb_build.proofs.links.linked_ports.Goals.{else-is_linked-via-then-is_linked+else-is_err, else-is_linked-via-else-is_linked}
 
@@ -16,5 +16,7 @@ loop-port-preserved c =
           rw (w.found-is, w.push.ensures.items, pushed, w.again.ensures, c.loop-port.invariant)
           (sym (filter_kept (is_linked ports) ports i p c.loop-port-test.true c.port-item.is (is ∙ w.if-is_linked.true)))
       | else-is_linked-via-else-is_linked w ↦
-          rw (w.found-is, c.loop-port.invariant) (sym (filter_passed (is_linked ports) ports i p c.loop-port-test.true c.port-item.is (is ∙ w.if-is_linked.false)))
+          rw (w.found-is, c.loop-port.invariant)
+          (sym (filter_passed (is_linked ports) ports i p c.loop-port-test.true c.port-item.is
+          (is ∙ w.if-is_linked.false)))
     ]

@@ -12,7 +12,9 @@ returns-in_err-refuse_undesignated-clause-refused c =
     rw (p.1, p.2)
     (tells_designated c.args.area c.args.configs.now c.deref.result.now c.deref-4.result.now c.deref-5.result.now c.in_err-refuse_undesignated.field-0.0
     c.in_ok-refuse_many_configs.ensures.fault (c.deref.ensures.value ∙ found) c.in_ok-refuse_ports.ensures.fault (c.deref-4.ensures.value ∙ found)
-    (c.deref-5.ensures.value ∙ c.in_ok-transit.ensures ∙ ap (first_members []) (c.deref-3.ensures.value ∙ c.in_ok-links.ensures ∙ ap linked (c.deref-2.ensures.value ∙ found)))
+    (c.deref-5.ensures.value ∙ c.in_ok-transit.ensures
+    ∙ ap (first_members []) (c.deref-3.ensures.value ∙ c.in_ok-links.ensures
+    ∙ ap linked (c.deref-2.ensures.value ∙ found)))
     c.in_err-refuse_undesignated.ensures)
 
 pub returns-in_err-refuse_overlap-clause-refused : goal.returns-in_err-refuse_overlap-clause-refused
@@ -20,9 +22,12 @@ returns-in_err-refuse_overlap-clause-refused c =
     let found = c.in_ok-ports.ensures.ports in
     let p = err_from_is_err_and c.from_residual-in_err-refuse_overlap.result c.from_residual-in_err-refuse_overlap.ensures.1 in
     rw (p.1, p.2)
-    (tells_overlap c.args.area c.args.configs.now c.deref.result.now c.deref-4.result.now c.deref-5.result.now c.deref-6.result.now c.in_err-refuse_overlap.field-0.0
+    (tells_overlap c.args.area c.args.configs.now c.deref.result.now c.deref-4.result.now c.deref-5.result.now
+    c.deref-6.result.now c.in_err-refuse_overlap.field-0.0
     c.in_ok-refuse_many_configs.ensures.fault (c.deref.ensures.value ∙ found) c.in_ok-refuse_ports.ensures.fault (c.deref-4.ensures.value ∙ found)
-    (c.deref-5.ensures.value ∙ c.in_ok-transit.ensures ∙ ap (first_members []) (c.deref-3.ensures.value ∙ c.in_ok-links.ensures ∙ ap linked (c.deref-2.ensures.value ∙ found)))
+    (c.deref-5.ensures.value ∙ c.in_ok-transit.ensures
+    ∙ ap (first_members []) (c.deref-3.ensures.value ∙ c.in_ok-links.ensures
+    ∙ ap linked (c.deref-2.ensures.value ∙ found)))
     c.in_ok-refuse_undesignated.ensures (c.deref-6.ensures.value ∙ found) c.in_err-refuse_overlap.ensures)
 
 pub assemble-requires-clause-fits : goal.assemble-requires-clause-fits

@@ -29,22 +29,34 @@ pub invariant_of-result : goal.invariant_of-result
 invariant_of-result c =
     let a = c.args.requests.now in
     let d = c.args.names.now in
-    let made = assembled (present_asked a) d c.as_slice.result.now c.in_ok-graph.graph c.from_items.result c.from_items-2.result c.from_items-3.result c.from_items-4.result
+    let made = assembled (present_asked a) d c.as_slice.result.now c.in_ok-graph.graph c.from_items.result
+    c.from_items-2.result c.from_items-3.result c.from_items-4.result
     (c.as_slice.ensures.value ∙ c.in_ok-prices.ensures ∙ sym (present_prices_are a d 0 d.links)) c.in_ok-graph.ensures
     (c.from_items.ensures ∙ c.new.ensures.items ∙ sym (none_named a d 0 d.links))
-    (c.from_items-2.ensures ∙ c.new-2.ensures.items ∙ sym (ap (λ (os : List ℕ). map low_of (filter_map (λ l. range_at (present_asked a) d (slice_get d.links l)) os)) (none_owned a d)))
-    (c.from_items-3.ensures ∙ c.new-3.ensures.items ∙ sym (ap (λ (os : List ℕ). map high_of (filter_map (λ l. range_at (present_asked a) d (slice_get d.links l)) os)) (none_owned a d)))
+    (c.from_items-2.ensures ∙ c.new-2.ensures.items
+    ∙ sym (ap (λ (os : List ℕ).
+    map low_of (filter_map (λ l. range_at (present_asked a) d (slice_get d.links l)) os)) (none_owned a d)))
+    (c.from_items-3.ensures ∙ c.new-3.ensures.items
+    ∙ sym (ap (λ (os : List ℕ).
+    map high_of (filter_map (λ l. range_at (present_asked a) d (slice_get d.links l)) os)) (none_owned a d)))
     (c.from_items-4.ensures ∙ c.requires.paths ∙ present_paths d (outline d) a.items) in
     subst (λ (p : DesignProblem). IsProblem p) (sym made)
-    (whole_is_problem (present_asked a) d (present_is_asked a c.items-lines.ensures.asked) c.links-links.ensures.base (present_lines d a.items c.requires.lines) (present_ends a d (present_asked a).items) (omega (arith, ap length (none_owned a d))))
+    (whole_is_problem (present_asked a) d (present_is_asked a c.items-lines.ensures.asked) c.links-links.ensures.base
+    (present_lines d a.items c.requires.lines) (present_ends a d (present_asked a).items)
+    (omega (arith, ap length (none_owned a d))))
 
 pub returns : goal.returns
 returns c =
     let a = c.args.requests.now in
     let d = c.args.names.now in
-    assembled (present_asked a) d c.as_slice.result.now c.in_ok-graph.graph c.from_items.result c.from_items-2.result c.from_items-3.result c.from_items-4.result
+    assembled (present_asked a) d c.as_slice.result.now c.in_ok-graph.graph c.from_items.result c.from_items-2.result
+    c.from_items-3.result c.from_items-4.result
     (c.as_slice.ensures.value ∙ c.in_ok-prices.ensures ∙ sym (present_prices_are a d 0 d.links)) c.in_ok-graph.ensures
     (c.from_items.ensures ∙ c.new.ensures.items ∙ sym (none_named a d 0 d.links))
-    (c.from_items-2.ensures ∙ c.new-2.ensures.items ∙ sym (ap (λ (os : List ℕ). map low_of (filter_map (λ l. range_at (present_asked a) d (slice_get d.links l)) os)) (none_owned a d)))
-    (c.from_items-3.ensures ∙ c.new-3.ensures.items ∙ sym (ap (λ (os : List ℕ). map high_of (filter_map (λ l. range_at (present_asked a) d (slice_get d.links l)) os)) (none_owned a d)))
+    (c.from_items-2.ensures ∙ c.new-2.ensures.items
+    ∙ sym (ap (λ (os : List ℕ).
+    map low_of (filter_map (λ l. range_at (present_asked a) d (slice_get d.links l)) os)) (none_owned a d)))
+    (c.from_items-3.ensures ∙ c.new-3.ensures.items
+    ∙ sym (ap (λ (os : List ℕ).
+    map high_of (filter_map (λ l. range_at (present_asked a) d (slice_get d.links l)) os)) (none_owned a d)))
     (c.from_items-4.ensures ∙ c.requires.paths ∙ present_paths d (outline d) a.items)

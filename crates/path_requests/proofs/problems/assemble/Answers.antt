@@ -13,7 +13,8 @@ pub graph-requires-clause-one_each : goal.graph-requires-clause-one_each
 graph-requires-clause-one_each c =
     let a = c.args.choices.now.asked in
     let d = c.args.choices.now.database in
-    ap length (c.as_slice.ensures.value ∙ c.in_ok-prices.ensures) ∙ prices_count a d 0 d.links ∙ ap (λ (base : Database). length base.links) (sym c.names.ensures)
+    ap length (c.as_slice.ensures.value ∙ c.in_ok-prices.ensures) ∙ prices_count a d 0 d.links
+    ∙ ap (λ (base : Database). length base.links) (sym c.names.ensures)
 
 pub graph-requires-clause-priced : goal.graph-requires-clause-priced
 graph-requires-clause-priced c =
@@ -27,19 +28,28 @@ invariant_of-result c =
     let a = c.args.choices.now.asked in
     let d = c.args.choices.now.database in
     let made = assembled a d c.as_slice.result.now c.in_ok-graph.graph c.from_items.result c.from_items-2.result c.from_items-3.result c.from_items-4.result
-    (c.as_slice.ensures.value ∙ c.in_ok-prices.ensures) (c.in_ok-graph.ensures ∙ ap (λ (base : Database). graph_at base c.as_slice.result.now) c.names.ensures) (c.from_items.ensures ∙ c.in_ok-vars.ensures)
+    (c.as_slice.ensures.value ∙ c.in_ok-prices.ensures) (c.in_ok-graph.ensures
+    ∙ ap (λ (base : Database). graph_at base c.as_slice.result.now) c.names.ensures) (c.from_items.ensures
+    ∙ c.in_ok-vars.ensures)
     (c.from_items-2.ensures ∙ c.in_ok-low.ensures ∙ ap (λ (own : List ℕ). map low_of (filter_map (λ l. range_at a d (slice_get d.links l)) own)) c.requires.own)
-    (c.from_items-3.ensures ∙ c.in_ok-high.ensures ∙ ap (λ (own : List ℕ). map high_of (filter_map (λ l. range_at a d (slice_get d.links l)) own)) c.requires.own)
+    (c.from_items-3.ensures ∙ c.in_ok-high.ensures
+    ∙ ap (λ (own : List ℕ). map high_of (filter_map (λ l. range_at a d (slice_get d.links l)) own))
+    c.requires.own)
     (c.from_items-4.ensures ∙ c.requires.paths) in
     subst (λ (p : DesignProblem). IsProblem p) (sym made)
-    (whole_is_problem a d c.requests-requests.ensures.asked c.links-links.ensures.base c.requires.lines c.requires.ends (omega (arith, ap length c.requires.own, c.requires.few)))
+    (whole_is_problem a d c.requests-requests.ensures.asked c.links-links.ensures.base c.requires.lines c.requires.ends
+    (omega (arith, ap length c.requires.own, c.requires.few)))
 
 pub returns : goal.returns
 returns c =
     let a = c.args.choices.now.asked in
     let d = c.args.choices.now.database in
     assembled a d c.as_slice.result.now c.in_ok-graph.graph c.from_items.result c.from_items-2.result c.from_items-3.result c.from_items-4.result
-    (c.as_slice.ensures.value ∙ c.in_ok-prices.ensures) (c.in_ok-graph.ensures ∙ ap (λ (base : Database). graph_at base c.as_slice.result.now) c.names.ensures) (c.from_items.ensures ∙ c.in_ok-vars.ensures)
+    (c.as_slice.ensures.value ∙ c.in_ok-prices.ensures) (c.in_ok-graph.ensures
+    ∙ ap (λ (base : Database). graph_at base c.as_slice.result.now) c.names.ensures) (c.from_items.ensures
+    ∙ c.in_ok-vars.ensures)
     (c.from_items-2.ensures ∙ c.in_ok-low.ensures ∙ ap (λ (own : List ℕ). map low_of (filter_map (λ l. range_at a d (slice_get d.links l)) own)) c.requires.own)
-    (c.from_items-3.ensures ∙ c.in_ok-high.ensures ∙ ap (λ (own : List ℕ). map high_of (filter_map (λ l. range_at a d (slice_get d.links l)) own)) c.requires.own)
+    (c.from_items-3.ensures ∙ c.in_ok-high.ensures
+    ∙ ap (λ (own : List ℕ). map high_of (filter_map (λ l. range_at a d (slice_get d.links l)) own))
+    c.requires.own)
     (c.from_items-4.ensures ∙ c.requires.paths)

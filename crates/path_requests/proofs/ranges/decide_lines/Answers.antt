@@ -12,7 +12,8 @@ returns-in-Some c =
     let place = c.loop-place.place in
     let range = c.in-Some.range in
     ap (λ (said : List (Option Range)). map (λ o. unwrap_or o range) said) c.loop-place.invariant
-    ∙ decided_by_all d items (place - 1) place c.index-items-place.result range (omega (arith, c.loop-place-test.true)) (omega (arith, c.loop-place-test.true, c.loop-place.auto.place)) (sym c.in-Some.ensures)
+    ∙ decided_by_all d items (place - 1) place c.index-items-place.result range (omega (arith, c.loop-place-test.true))
+    (omega (arith, c.loop-place-test.true, c.loop-place.auto.place)) (sym c.in-Some.ensures)
 
 pub loop-place-preserved : goal.loop-place-preserved
 loop-place-preserved c =
@@ -20,7 +21,8 @@ loop-place-preserved c =
     let items = c.args.items.now in
     let place = c.loop-place.place in
     c.decide_named.ensures (λ link. last_said d link (drop place items)) c.loop-place.invariant
-    ∙ decided_more d items (place - 1) place c.index-items-place.result (omega (arith, c.loop-place-test.true)) (omega (arith, c.loop-place-test.true, c.loop-place.auto.place)) (sym c.in-None.ensures)
+    ∙ decided_more d items (place - 1) place c.index-items-place.result (omega (arith, c.loop-place-test.true))
+    (omega (arith, c.loop-place-test.true, c.loop-place.auto.place)) (sym c.in-None.ensures)
 
 pub returns : goal.returns
 returns c =

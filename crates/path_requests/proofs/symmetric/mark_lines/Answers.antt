@@ -4,7 +4,7 @@ use Rattle.std.specs.List.{list_any}
 use Rattle.std.proofs.lemmas.List.{take_all}
 use Rattle.request_reader.specs.declared.Item.{Item}
 use Rattle.path_requests.specs.Chosen.{ties_one}
-use Rattle.path_requests.proofs.Chosen.{tied_none, tied_more}
+use Rattle.path_requests.proofs.ChosenLinks.{tied_none, tied_more}
 use Rattle.path_requests.proofs.symmetric.mark_lines.Goals as goal
 
 pub loop-item-init : goal.loop-item-init

@@ -2,7 +2,7 @@ use Rattle.std.proofs.Common.{◌∙◌, ap, map}
 use Rattle.std.specs.Prelude.{◌&&◌, ◌||◌, is_some}
 use Rattle.std.specs.List.{list_any}
 use Rattle.path_requests.specs.Chosen.{ties_one}
-use Rattle.path_requests.proofs.Chosen.{all_apart}
+use Rattle.path_requests.proofs.ChosenLinks.{all_apart}
 use Rattle.path_requests.proofs.symmetric.symmetric_by.Goals as goal
 
 pub returns : goal.returns

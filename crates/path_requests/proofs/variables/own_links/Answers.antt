@@ -3,7 +3,7 @@ use Rattle.std.specs.Prelude.{filter}
 use Rattle.cost_base.specs.Lists.{numbers_from}
 use Rattle.lsdb_build.proofs.GraphLaws.{numbers_step}
 use Rattle.path_requests.specs.Meaning.{own}
-use Rattle.wanted_paths.proofs.Gone.{filter_head}
+use Rattle.wanted_paths.proofs.TakenEdges.{filter_head}
 use Rattle.path_requests.proofs.variables.own_links.Goals as goal
 
 pub loop-i-preserved : goal.loop-i-preserved
@@ -13,5 +13,7 @@ loop-i-preserved c =
     let i = c.loop-i.i in
     rw (c.in_ok-push_own.ensures, append_assoc)
     (ap (λ (ls : List ℕ). c.loop-i.made.items ++ ls) (sym (filter_head (own a d) i (numbers_from (i + 1) (length d.links - (i + 1))))
-    ∙ ap (λ (ns : List ℕ). filter (own a d) ns) (sym (numbers_step i (length d.links) (omega (arith, c.loop-i-test.true, ap length c.links-link-items.ensures.value)))))
+    ∙ ap (λ (ns : List ℕ). filter (own a d) ns)
+    (sym (numbers_step i (length d.links)
+    (omega (arith, c.loop-i-test.true, ap length c.links-link-items.ensures.value)))))
     ∙ c.loop-i.invariant)

@@ -5,4 +5,5 @@ use Rattle.path_requests.specs.Meaning.{own, owners}
 use Rattle.path_requests.proofs.variables.own_links.Given as goal
 
 abbrev pub invariant-loop-i : goal.invariant-loop-i
-invariant-loop-i l = l.made.items ++ filter (own l.choices.asked l.choices.database) (numbers_from l.i (length l.choices.database.links - l.i)) ≡ owners l.choices.asked l.choices.database
+invariant-loop-i l = l.made.items ++ filter (own l.choices.asked l.choices.database)
+    (numbers_from l.i (length l.choices.database.links - l.i)) ≡ owners l.choices.asked l.choices.database

@@ -6,4 +6,5 @@ use Rattle.wanted_paths.proofs.routes.first_into.Given as goal
 
 abbrev pub invariant-loop-edge : goal.invariant-loop-edge
 invariant-loop-edge l =
-    first_of (filter (λ e. (edge_at l.graph e).to == l.vertex) (drop l.edge-index l.edges)) ≡ first_of (filter (λ e. (edge_at l.graph e).to == l.vertex) l.edges)
+    first_of (filter (λ e. (edge_at l.graph e).to == l.vertex) (drop l.edge-index l.edges))
+    ≡ first_of (filter (λ e. (edge_at l.graph e).to == l.vertex) l.edges)

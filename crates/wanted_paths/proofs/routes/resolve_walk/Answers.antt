@@ -18,9 +18,11 @@ returns-then-not-is_simple_walk-clause-refused c =
     let hops = c.as_slice-hops.ensures in
     let last = c.as_bytes-last.ensures ∙ c.last.ensures in
     let words : hop_faults d line route.hops route.last ≡ []
-    = ap (λ hs. hop_faults d line hs route.last) (sym hops) ∙ ap (λ l. hop_faults d line c.as_slice-hops.result.now l) (sym last) ∙ c.in_ok-check_words.ensures.made in
+    = ap (λ hs. hop_faults d line hs route.last) (sym hops)
+    ∙ ap (λ l. hop_faults d line c.as_slice-hops.result.now l) (sym last) ∙ c.in_ok-check_words.ensures.made in
     let joined : broken_faults d line 1 route.hops route.last ≡ []
-    = ap (λ hs. broken_faults d line 1 hs route.last) (sym hops) ∙ ap (λ l. broken_faults d line 1 c.as_slice-hops.result.now l) (sym last) ∙ c.in_ok-check_hops.ensures.made in
+    = ap (λ hs. broken_faults d line 1 hs route.last) (sym hops)
+    ∙ ap (λ l. broken_faults d line 1 c.as_slice-hops.result.now l) (sym last) ∙ c.in_ok-check_hops.ensures.made in
     let test = subst (λ (g : Area). IsTrue c.is_simple_walk.result ↔ IsSimple g walk.path.start walk.path.edges walk.end) c.requires c.is_simple_walk.ensures in
     let are = walk_faults_are d line route walk c.is_simple_walk.result c.links-links.ensures.base words joined c.in_ok-walk.ensures test in
     ap first_of (are ∙ ap (λ b. fault_unless b (LoopPath line)) c.if-not-is_simple_walk.true)
@@ -34,9 +36,11 @@ returns-clause-made c =
     let hops = c.as_slice-hops.ensures in
     let last = c.as_bytes-last.ensures ∙ c.last.ensures in
     let words : hop_faults d line route.hops route.last ≡ []
-    = ap (λ hs. hop_faults d line hs route.last) (sym hops) ∙ ap (λ l. hop_faults d line c.as_slice-hops.result.now l) (sym last) ∙ c.in_ok-check_words.ensures.made in
+    = ap (λ hs. hop_faults d line hs route.last) (sym hops)
+    ∙ ap (λ l. hop_faults d line c.as_slice-hops.result.now l) (sym last) ∙ c.in_ok-check_words.ensures.made in
     let joined : broken_faults d line 1 route.hops route.last ≡ []
-    = ap (λ hs. broken_faults d line 1 hs route.last) (sym hops) ∙ ap (λ l. broken_faults d line 1 c.as_slice-hops.result.now l) (sym last) ∙ c.in_ok-check_hops.ensures.made in
+    = ap (λ hs. broken_faults d line 1 hs route.last) (sym hops)
+    ∙ ap (λ l. broken_faults d line 1 c.as_slice-hops.result.now l) (sym last) ∙ c.in_ok-check_hops.ensures.made in
     let test = subst (λ (g : Area). IsTrue c.is_simple_walk.result ↔ IsSimple g walk.path.start walk.path.edges walk.end) c.requires c.is_simple_walk.ensures in
     let are = walk_faults_are d line route walk c.is_simple_walk.result c.links-links.ensures.base words joined c.in_ok-walk.ensures test in
     (are ∙ ap (λ b. fault_unless b (LoopPath line)) c.if-not-is_simple_walk.false, c.in_ok-walk.ensures)

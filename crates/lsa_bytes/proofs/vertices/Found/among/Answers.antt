@@ -10,7 +10,10 @@ loop-place-preserved c =
     let place = c.loop-place.place in
     let lsas = c.args.lsas.now in
     let lsa = c.index-lsas-place.result in
-    let adds : Adds c.loop-place.found c.add.new.self _ place = subst (λ (name : Option ℕ). Adds c.loop-place.found c.add.new.self name place) c.name_as.ensures c.in_ok-add.ensures in
+    let adds : Adds c.loop-place.found c.add.new.self _ place =
+    subst (λ (name : Option ℕ). Adds c.loop-place.found c.add.new.self name place) c.name_as.ensures
+    c.in_ok-add.ensures in
     subst (λ (ls : List Lsa). HasFound c.args.kind ls c.add.new.self)
     (ap (λ (l : Lsa). take place lsas ++ l ∷ []) c.index-lsas-place.is ∙ sym (take_more lsas place lsa c.loop-place-test.true))
-    (found_push c.args.kind (take place lsas) lsa c.loop-place.found c.add.new.self place c.loop-place.invariant adds (sym (length-take-le place lsas (omega (arith, c.loop-place-test.true)))))
+    (found_push c.args.kind (take place lsas) lsa c.loop-place.found c.add.new.self place c.loop-place.invariant adds
+    (sym (length-take-le place lsas (omega (arith, c.loop-place-test.true)))))

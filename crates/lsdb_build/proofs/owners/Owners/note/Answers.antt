@@ -1,6 +1,6 @@
 use Rattle.std.proofs.Common.{ap, ◌∙◌}
 use Rattle.lsdb_build.specs.Owners.{joined}
-use Rattle.lsdb_build.proofs.Noting.{noted_there, noted_kept}
+use Rattle.lsdb_build.proofs.NotedRouters.{noted_there, noted_kept}
 use Rattle.lsdb_build.proofs.owners.Owners.note.Goals as goal
 
 pub returns-clause-noted : goal.returns-clause-noted

@@ -14,9 +14,11 @@ returns-in-Some c = λ name known is.
     let base = subst IsDatabase c.self.view_is c.self.invariant.base in
     let are = c.self.invariant.links ∙ ap (λ (d : Database). map link_key d.links) c.self.view_is in (
       sym (link_found c.args.self.now name c.args.interface.now now keys base known are)
-          ∙ ap (λ r. list_any (λ (key : ℕ × Bor (List ℕ)). r == key.0 && same_bytes c.args.interface.now key.1.now) keys) (sym is) ∙ sym c.in-Some.ensures.found,
+          ∙ ap (λ r. list_any (λ (key : ℕ × Bor (List ℕ)). r == key.0 && same_bytes c.args.interface.now key.1.now)
+          keys) (sym is) ∙ sym c.in-Some.ensures.found,
       sym (link_placed c.args.self.now name c.args.interface.now now keys (c.args.router, c.args.interface) c.in-Some.place base known are
-          (ap (λ r. position (λ (key : ℕ × Bor (List ℕ)). r == key.0 && same_bytes c.args.interface.now key.1.now) keys) (sym is) ∙ sym c.in-Some.ensures.index)),
+          (ap (λ r. position (λ (key : ℕ × Bor (List ℕ)). r == key.0 && same_bytes c.args.interface.now key.1.now) keys)
+          (sym is) ∙ sym c.in-Some.ensures.index)),
     )
 
 pub returns-in-None : goal.returns-in-None

@@ -10,4 +10,5 @@ returns c =
     let router = c.args.router.now in
     let interface = c.args.interface.now in
     c.unwrap_or.ensures
-    ∙ number_or_zero c.find_interface.result (link_number d router interface) (knows_link d router interface) c.find_interface.ensures.found (link_unknown d router interface)
+    ∙ number_or_zero c.find_interface.result (link_number d router interface) (knows_link d router interface)
+    c.find_interface.ensures.found (link_unknown d router interface)

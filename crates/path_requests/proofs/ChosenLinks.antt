@@ -43,7 +43,10 @@ known_there d router interface base known =
     record { link = any.1; there = ap (slice_get d.links) is ∙ at; named = any.4 }
 
 -- another value at that number is another value for the one link that is named
-pub set_named : {X : Type 0} (d : Database) (router interface : List ℕ) (f g : Linked → X) (x : X) → IsDatabase d → (is : IsThere d router interface) → x ≡ g is.link → ((link : Linked) → is_named d router interface link ≡ false → f link ≡ g link) → set (map f d.links) (link_number d router interface) x ≡ map g d.links
+pub set_named : {X : Type 0} (d : Database) (router interface : List ℕ) (f g : Linked → X) (x : X) → IsDatabase d →
+    (is : IsThere d router interface) → x ≡ g is.link →
+    ((link : Linked) → is_named d router interface link ≡ false → f link ≡ g link) →
+    set (map f d.links) (link_number d router interface) x ≡ map g d.links
 set_named {X} d router interface f g x base is here other =
     same_lists (set (map f d.links) l x) (map g d.links)
     (length-set (map f d.links) l x ∙ length-map d.links f ∙ sym (length-map d.links g))
@@ -74,28 +77,41 @@ or_none None = refl
 or_none (Some x) = refl
 
 -- a range for the link that is named, where it has none
-pub decided_named : {X : Type 0} (d : Database) (router interface : List ℕ) (f : Linked → Option X) (range : X) (y : Option X) → IsDatabase d → knows_link d router interface ≡ true → set (map f d.links) (link_number d router interface) (option_or (get_or (map f d.links) (link_number d router interface) y) (Some range)) ≡ map (λ link. option_or (f link) (if is_named d router interface link then Some range else None)) d.links
+pub decided_named : {X : Type 0} (d : Database) (router interface : List ℕ) (f : Linked → Option X) (range : X)
+    (y : Option X) → IsDatabase d → knows_link d router interface ≡ true →
+    set (map f d.links) (link_number d router interface)
+    (option_or (get_or (map f d.links) (link_number d router interface) y) (Some range))
+    ≡ map (λ link. option_or (f link) (if is_named d router interface link then Some range else None)) d.links
 decided_named {X} d router interface f range y base known =
     let is = known_there d router interface base known in
     let l = link_number d router interface in
-    let stands = get_or-map f d.links l no_link y (slice_get_within d.links l is.link is.there) ∙ ap f (get_or_from_slice_get d.links l is.link no_link is.there) in
-    set_named d router interface f (λ link. option_or (f link) (if is_named d router interface link then Some range else None)) (option_or (get_or (map f d.links) l y) (Some range)) base is
+    let stands = get_or-map f d.links l no_link y (slice_get_within d.links l is.link is.there)
+    ∙ ap f (get_or_from_slice_get d.links l is.link no_link is.there) in
+    set_named d router interface f
+    (λ link. option_or (f link) (if is_named d router interface link then Some range else None))
+    (option_or (get_or (map f d.links) l y) (Some range)) base is
     (ap (λ (o : Option X). option_or o (Some range)) stands ∙ ap (λ b. option_or (f is.link) (if b then Some range else None)) (sym is.named))
     (λ link unnamed. or_none (f link) ∙ ap (λ b. option_or (f link) (if b then Some range else None)) (sym unnamed))
 
 -- an interface that is unknown decides nothing
-pub decided_unknown : {X : Type 0} (d : Database) (router interface : List ℕ) (f : Linked → Option X) (range : X) → knows_link d router interface ≡ false → map f d.links ≡ map (λ link. option_or (f link) (if is_named d router interface link then Some range else None)) d.links
+pub decided_unknown : {X : Type 0} (d : Database) (router interface : List ℕ) (f : Linked → Option X) (range : X) →
+    knows_link d router interface ≡ false →
+    map f d.links ≡ map (λ link.
+    option_or (f link) (if is_named d router interface link then Some range else None)) d.links
 decided_unknown d router interface f range unknown =
     map_agree (is_named d router interface) f (λ link. option_or (f link) (if is_named d router interface link then Some range else None)) d.links unknown
     (λ link unnamed. or_none (f link) ∙ ap (λ b. option_or (f link) (if b then Some range else None)) (sym unnamed))
 
-pub number_within : (d : Database) (router interface : List ℕ) → IsDatabase d → knows_link d router interface ≡ true → link_number d router interface < length d.links
+pub number_within : (d : Database) (router interface : List ℕ) → IsDatabase d → knows_link d router interface ≡ true →
+    link_number d router interface < length d.links
 number_within d router interface base known =
     let is = known_there d router interface base known in
     slice_get_within d.links (link_number d router interface) is.link is.there
 
 -- a mark for the link that is named
-pub marked_named : (d : Database) (router interface : List ℕ) (f : Linked → Bool) → IsDatabase d → knows_link d router interface ≡ true → set (map f d.links) (link_number d router interface) true ≡ map (λ link. f link || is_named d router interface link) d.links
+pub marked_named : (d : Database) (router interface : List ℕ) (f : Linked → Bool) → IsDatabase d →
+    knows_link d router interface ≡ true → set (map f d.links) (link_number d router interface) true
+    ≡ map (λ link. f link || is_named d router interface link) d.links
 marked_named d router interface f base known =
     let is = known_there d router interface base known in
     set_named d router interface f (λ link. f link || is_named d router interface link) true base is
@@ -103,7 +119,9 @@ marked_named d router interface f base known =
     (λ link unnamed. sym (or-false (f link)) ∙ ap (λ b. f link || b) (sym unnamed))
 
 -- an interface that is unknown is no link's
-pub marked_unknown : (d : Database) (router interface : List ℕ) (f : Linked → Bool) → knows_link d router interface ≡ false → map f d.links ≡ map (λ link. f link || is_named d router interface link) d.links
+pub marked_unknown : (d : Database) (router interface : List ℕ) (f : Linked → Bool) →
+    knows_link d router interface ≡ false →
+    map f d.links ≡ map (λ link. f link || is_named d router interface link) d.links
 marked_unknown d router interface f unknown =
     map_agree (is_named d router interface) f (λ link. f link || is_named d router interface link) d.links unknown
     (λ link unnamed. sym (or-false (f link)) ∙ ap (λ b. f link || b) (sym unnamed))
@@ -130,24 +148,36 @@ regroup false true false x y = refl
 regroup false false false x y = refl
 
 -- all lines that make all links symmetric, and then those that name one
-pub any_apart : (d : Database) (link : Linked) (items : List Item) → list_any (λ item. says_symmetric d link item.what) items ≡ ((list_any (λ item. ties_all item.what) items && is_some link.mate) || list_any (λ item. ties_one d link item.what) items)
+pub any_apart : (d : Database) (link : Linked) (items : List Item) →
+    list_any (λ item. says_symmetric d link item.what) items
+    ≡ ((list_any (λ item. ties_all item.what) items && is_some link.mate)
+    || list_any (λ item. ties_one d link item.what) items)
 any_apart d link [] = refl
 any_apart d link (item ∷ items) =
     ap (λ b. b || list_any (λ item. says_symmetric d link item.what) items) (tied_apart d link item.what)
     ∙ ap (λ b. ((ties_all item.what && is_some link.mate) || ties_one d link item.what) || b) (any_apart d link items)
-    ∙ regroup (ties_all item.what) (list_any (λ item. ties_all item.what) items) (is_some link.mate) (ties_one d link item.what) (list_any (λ item. ties_one d link item.what) items)
+    ∙ regroup (ties_all item.what) (list_any (λ item. ties_all item.what) items) (is_some link.mate)
+    (ties_one d link item.what) (list_any (λ item. ties_one d link item.what) items)
 
-pub all_apart : (d : Database) (items : List Item) → map (λ link. (list_any (λ item. ties_all item.what) items && is_some link.mate) || list_any (λ item. ties_one d link item.what) items) d.links ≡ map (λ link. list_any (λ item. says_symmetric d link item.what) items) d.links
+pub all_apart : (d : Database) (items : List Item) →
+    map (λ link. (list_any (λ item. ties_all item.what) items && is_some link.mate)
+    || list_any (λ item. ties_one d link item.what) items) d.links
+    ≡ map (λ link. list_any (λ item. says_symmetric d link item.what) items) d.links
 all_apart d items = ap (λ (f : Linked → Bool). map f d.links) (λ t link. sym (any_apart d link items) t)
 
 -- before the first line, after one more, and after the last
 pub tied_none : (d : Database) (f : Linked → Bool) → map f d.links ≡ map (λ link. f link || false) d.links
 tied_none d f = ap (λ (g : Linked → Bool). map g d.links) (λ t link. sym (or-false (f link)) t)
 
-pub tied_more : (d : Database) (items : List Item) (i : ℕ) (item : Item) (f : Linked → Bool) → i < length items → item ≡ get_or items i item → map (λ link. (f link || list_any (λ other. ties_one d link other.what) (take i items)) || ties_one d link item.what) d.links ≡ map (λ link. f link || list_any (λ other. ties_one d link other.what) (take (i + 1) items)) d.links
+pub tied_more : (d : Database) (items : List Item) (i : ℕ) (item : Item) (f : Linked → Bool) → i < length items →
+    item ≡ get_or items i item →
+    map (λ link. (f link || list_any (λ other. ties_one d link other.what) (take i items)) || ties_one d link item.what)
+    d.links ≡ map (λ link. f link || list_any (λ other. ties_one d link other.what) (take (i + 1) items)) d.links
 tied_more d items i item f within is = ap (λ (g : Linked → Bool). map g d.links) (λ t link. each link t)
   where
-    each : (link : Linked) → ((f link || list_any (λ other. ties_one d link other.what) (take i items)) || ties_one d link item.what) ≡ (f link || list_any (λ other. ties_one d link other.what) (take (i + 1) items))
+    each : (link : Linked) → ((f link || list_any (λ other. ties_one d link other.what) (take i items))
+        || ties_one d link item.what)
+        ≡ (f link || list_any (λ other. ties_one d link other.what) (take (i + 1) items))
     each link =
         or_assoc (f link) (list_any (λ other. ties_one d link other.what) (take i items)) (ties_one d link item.what)
         ∙ ap (λ b. f link || b)

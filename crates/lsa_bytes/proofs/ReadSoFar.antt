@@ -36,7 +36,10 @@ pub record IsFirst (rest lsa behind : List ℕ) : Type 0 where
   pub begins : BeginsWhole rest
 
 pub first_parts : (rest lsa behind : List ℕ) → IsFirst rest lsa behind → rest ≡ lsa ++ behind
-first_parts rest lsa behind is = sym (ap (λ (front : List ℕ). front ++ behind) is.lsa_is ∙ ap (λ (back : List ℕ). take (length_of rest) rest ++ back) is.behind_is ∙ take-append-drop (length_of rest) rest)
+first_parts rest lsa behind is =
+    sym (ap (λ (front : List ℕ). front ++ behind) is.lsa_is
+    ∙ ap (λ (back : List ℕ). take (length_of rest) rest ++ back) is.behind_is
+    ∙ take-append-drop (length_of rest) rest)
 
 first_length : (rest lsa behind : List ℕ) → IsFirst rest lsa behind → length lsa ≡ length_of rest
 first_length rest lsa behind is = ap length is.lsa_is ∙ omega (arith, length-take (length_of rest) rest, is.begins.whole)
@@ -52,26 +55,48 @@ first_whole rest lsa behind is =
 
 -- the fault of that LSA is the fault of the bytes that are left
 pub first_fault : (before : List Lsa) (rest lsa behind : List ℕ) → IsFirst rest lsa behind → fault_at before rest ≡ fault_of before lsa
-first_fault before rest lsa behind is = ap (fault_at before) (first_parts rest lsa behind is) ∙ fault_in_front before lsa behind (first_whole rest lsa behind is)
+first_fault before rest lsa behind is = ap (fault_at before) (first_parts rest lsa behind is)
+    ∙ fault_in_front before lsa behind (first_whole rest lsa behind is)
 
-faultless_push : (before : List Lsa) (pieces : List (List ℕ)) (lsa : List ℕ) → AreFaultless before pieces → length_of lsa ≡ length lsa → fault_at (before ++ said_by_all pieces) lsa ≡ None → AreFaultless before (pieces ++ lsa ∷ [])
+faultless_push : (before : List Lsa) (pieces : List (List ℕ)) (lsa : List ℕ) → AreFaultless before pieces →
+    length_of lsa ≡ length lsa → fault_at (before ++ said_by_all pieces) lsa ≡ None →
+    AreFaultless before (pieces ++ lsa ∷ [])
 faultless_push before [] lsa are long none = (long, ap (λ (lsas : List Lsa). fault_at lsas lsa) (sym (append-nil before)) ∙ none, tt)
-faultless_push before (piece ∷ pieces) lsa are long none =
-    (are.0, are.1, faultless_push (before ++ said_by piece) pieces lsa are.2 long (ap (λ (lsas : List Lsa). fault_at lsas lsa) (append_assoc before (said_by piece) (said_by_all pieces)) ∙ none))
+faultless_push before (piece ∷ pieces) lsa are long none = (
+  are.0,
+  are.1,
+  faultless_push (before ++ said_by piece) pieces lsa are.2 long
+      (ap (λ (lsas : List Lsa). fault_at lsas lsa)
+      (append_assoc before (said_by piece) (said_by_all pieces)) ∙ none),
+)
 
 -- one LSA without a fault more
-pub next : (bytes rest lsa behind : List ℕ) (lsas : List Lsa) → IsUnderway bytes rest lsas → IsFirst rest lsa behind → fault_of lsas lsa ≡ None → IsUnderway bytes behind (lsas ++ said_by lsa)
+pub next : (bytes rest lsa behind : List ℕ) (lsas : List Lsa) → IsUnderway bytes rest lsas → IsFirst rest lsa behind →
+    fault_of lsas lsa ≡ None → IsUnderway bytes behind (lsas ++ said_by lsa)
 next bytes rest lsa behind lsas so_far is none =
     let whole = first_whole rest lsa behind is in
     let no_fault : fault_at (said_by_all so_far.pieces) lsa ≡ None =
-    ap (fault_at (said_by_all so_far.pieces)) (sym (append-nil lsa)) ∙ fault_in_front (said_by_all so_far.pieces) lsa [] whole ∙ ap (λ (ls : List Lsa). fault_of ls lsa) (sym so_far.said) ∙ none in
+    ap (fault_at (said_by_all so_far.pieces)) (sym (append-nil lsa))
+    ∙ fault_in_front (said_by_all so_far.pieces) lsa [] whole
+    ∙ ap (λ (ls : List Lsa). fault_of ls lsa) (sym so_far.said) ∙ none in
     record {
       pieces = so_far.pieces ++ lsa ∷ [];
       whole = so_far.whole ∙ ap (λ (back : List ℕ). concat so_far.pieces ++ back) (first_parts rest lsa behind is)
-          ∙ sym (ap (λ (front : List ℕ). front ++ behind) (concat-append so_far.pieces (lsa ∷ []) ∙ ap (λ (back : List ℕ). concat so_far.pieces ++ back) (append-nil lsa)) ∙ append_assoc (concat so_far.pieces) lsa behind);
+          ∙ sym (ap (λ (front : List ℕ). front ++ behind) (concat-append so_far.pieces (lsa ∷ [])
+          ∙ ap (λ (back : List ℕ). concat so_far.pieces ++ back) (append-nil lsa))
+          ∙ append_assoc (concat so_far.pieces) lsa behind);
       faultless = faultless_push [] so_far.pieces lsa so_far.faultless whole.long no_fault;
-      said = ap (λ (ls : List Lsa). ls ++ said_by lsa) so_far.said ∙ sym (flat_map-append said_by so_far.pieces (lsa ∷ []) ∙ ap (λ (ls : List Lsa). said_by_all so_far.pieces ++ ls) (append-nil (said_by lsa)));
-      small = omega (arith, so_far.small, sum_by-append size_of lsas (said_by lsa), said_small lsa, ap length (first_parts rest lsa behind is), length-append lsa behind);
+      said = ap (λ (ls : List Lsa). ls ++ said_by lsa) so_far.said
+          ∙ sym (flat_map-append said_by so_far.pieces (lsa ∷ [])
+          ∙ ap (λ (ls : List Lsa). said_by_all so_far.pieces ++ ls) (append-nil (said_by lsa)));
+      small = omega (
+        arith,
+        so_far.small,
+        sum_by-append size_of lsas (said_by lsa),
+        said_small lsa,
+        ap length (first_parts rest lsa behind is),
+        length-append lsa behind,
+      );
     }
 
 -- no bytes are left
@@ -88,7 +113,8 @@ pub is_database : (bytes rest : List ℕ) (lsas : List Lsa) → IsUnderway bytes
 is_database bytes rest lsas so_far few none = record { faultless = none; small = omega (arith, so_far.small) }
 
 -- the next LSA has a fault
-refused : (bytes rest : List ℕ) (lsas : List Lsa) (at : ℕ) (stop : LsaStop) → IsUnderway bytes rest lsas → 0 < length rest → at ≡ length bytes - length rest → Tells (fault_at lsas rest) at stop → Refuses bytes stop
+refused : (bytes rest : List ℕ) (lsas : List Lsa) (at : ℕ) (stop : LsaStop) → IsUnderway bytes rest lsas →
+    0 < length rest → at ≡ length bytes - length rest → Tells (fault_at lsas rest) at stop → Refuses bytes stop
 refused bytes rest lsas at (Refused fault offset) so_far some at_is told = record {
   pieces = so_far.pieces;
   rest = rest;
@@ -101,12 +127,17 @@ refused bytes rest lsas at (Refused fault offset) so_far some at_is told = recor
 refused bytes rest lsas at OutOfMemory so_far some at_is told = tt
 
 length_told : (before : List Lsa) (rest : List ℕ) (at : ℕ) (stop : LsaStop) → Tells (length_fault rest) at stop → Tells (fault_at before rest) at stop
-length_told before rest at (Refused fault offset) told = (ap (λ (found : Option LsaFault). option_or found (fault_of before (take (length_of rest) rest))) told.0, told.1)
+length_told before rest at (Refused fault offset) told =
+    (ap (λ (found : Option LsaFault). option_or found (fault_of before (take (length_of rest) rest))) told.0, told.1)
 length_told before rest at OutOfMemory told = tt
 
-pub length_refused : (bytes rest : List ℕ) (lsas : List Lsa) (at : ℕ) (stop : LsaStop) → IsUnderway bytes rest lsas → 0 < length rest → at ≡ length bytes - length rest → Tells (length_fault rest) at stop → Refuses bytes stop
+pub length_refused : (bytes rest : List ℕ) (lsas : List Lsa) (at : ℕ) (stop : LsaStop) → IsUnderway bytes rest lsas →
+    0 < length rest → at ≡ length bytes - length rest → Tells (length_fault rest) at stop → Refuses bytes stop
 length_refused bytes rest lsas at stop so_far some at_is told = refused bytes rest lsas at stop so_far some at_is (length_told lsas rest at stop told)
 
-pub lsa_refused : (bytes rest lsa behind : List ℕ) (lsas : List Lsa) (at : ℕ) (stop : LsaStop) → IsUnderway bytes rest lsas → 0 < length rest → at ≡ length bytes - length rest → IsFirst rest lsa behind → Tells (fault_of lsas lsa) at stop → Refuses bytes stop
+pub lsa_refused : (bytes rest lsa behind : List ℕ) (lsas : List Lsa) (at : ℕ) (stop : LsaStop) →
+    IsUnderway bytes rest lsas → 0 < length rest → at ≡ length bytes - length rest → IsFirst rest lsa behind →
+    Tells (fault_of lsas lsa) at stop → Refuses bytes stop
 lsa_refused bytes rest lsa behind lsas at stop so_far some at_is is told =
-    refused bytes rest lsas at stop so_far some at_is (subst (λ (found : Option LsaFault). Tells found at stop) (sym (first_fault lsas rest lsa behind is)) told)
+    refused bytes rest lsas at stop so_far some at_is
+    (subst (λ (found : Option LsaFault). Tells found at stop) (sym (first_fault lsas rest lsa behind is)) told)

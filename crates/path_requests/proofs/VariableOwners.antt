@@ -3,7 +3,8 @@ use Rattle.std.proofs.Common.{inl, inr, ◌≡◌, ℕ, ◌+◌, ◌<◌, ◌≤
 use Rattle.std.specs.Prelude.{slice_get, count_by, not, nat_lt, if◌then◌else◌, ◌&&◌, ◌==◌}
 use Rattle.std.specs.List.{list_any}
 use Rattle.std.proofs.lemmas.Option.{slice_get_within, get_or_from_slice_get}
-use Rattle.std.proofs.lemmas.Bool.{and_from, and_parts, and_right, eq-eqb, ltb-true, le-ltb, false≢true, cases_Bool}
+use Rattle.std.proofs.lemmas.Bool.{not-true, not-false, and_from, and_parts, and_right, eq-eqb, ltb-true, le-ltb, false≢true, cases_Bool}
+use Rattle.cost_base.proofs.ListLemmas.{append-none}
 use Rattle.lsdb_build.specs.declared.Far.{Far}
 use Rattle.lsdb_build.specs.declared.Far.TheVariants.{Router as ToRouter, Subnet as ToSubnet}
 use Rattle.lsdb_build.specs.declared.Linked.{Linked}
@@ -15,18 +16,10 @@ use Rattle.request_reader.specs.Asked.{Asked}
 use Rattle.path_requests.specs.Meaning.{Range, Within, AsItIs, range_of, is_free, is_free_at, says_symmetric, any_symmetric, is_symmetric, option_at, owner_by_mate, owner_at, owner, own, owners, variable_of}
 use Rattle.wanted_paths.specs.LineFaults.{fault_unless}
 use Rattle.path_requests.specs.Resolving.{same_range, ends_differ, ends_differ_at, ties_different, ends_faults}
-use Rattle.wanted_paths.proofs.Walks.{no_parts, well_from}
+use Rattle.wanted_paths.proofs.Walks.{well_from}
 use Rattle.wanted_paths.proofs.LookUps.{link_number_is, none_there}
 use Rattle.wanted_paths.specs.declared.stop.ResolutionFault.TheVariants.{EndsDiffer}
 use Rattle.path_requests.proofs.Numbering.{passing, count_before, fewer_before}
-
-not_false : (b : Bool) → not b ≡ true → b ≡ false
-not_false true h = sym h
-not_false false h = refl
-
-not_true : (b : Bool) → not b ≡ false → b ≡ true
-not_true true h = refl
-not_true false h = sym h
 
 -- the other end of a link
 pub record HasOther (d : Database) (l m : ℕ) : Type 0 where
@@ -45,15 +38,18 @@ other_end d l m link base there mate = by_far link.to (subst (λ (o : Option ℕ
     by_far (ToRouter r) h = by_other (slice_get d.links m) refl h.1
     by_far (ToSubnet s) h = absurd h
 
-ends_are : (a : Asked) (d : Database) (link other : Linked) (m : ℕ) → link.mate ≡ Some m → slice_get d.links m ≡ Some other → ends_differ a d link ≡ not (same_range (range_of a d link) (range_of a d other))
+ends_are : (a : Asked) (d : Database) (link other : Linked) (m : ℕ) → link.mate ≡ Some m →
+    slice_get d.links m ≡ Some other → ends_differ a d link ≡ not (same_range (range_of a d link) (range_of a d other))
 ends_are a d link other m mate there = rw (mate, there) refl
 
 -- a link that a line makes symmetric has ends that don't differ
-said_same : (a : Asked) (d : Database) (items : List Item) (l : ℕ) (link : Linked) → IsDatabase d → slice_get d.links l ≡ Some link → list_any (λ item. says_symmetric d link item.what) items ≡ true → ends_faults a d items ≡ [] → ends_differ a d link ≡ false
+said_same : (a : Asked) (d : Database) (items : List Item) (l : ℕ) (link : Linked) → IsDatabase d →
+    slice_get d.links l ≡ Some link → list_any (λ item. says_symmetric d link item.what) items ≡ true →
+    ends_faults a d items ≡ [] → ends_differ a d link ≡ false
 said_same a d [] l link base there said none = absurd (false≢true said)
 said_same a d (item ∷ items) l link base there said none =
-    let parts = no_parts (fault_unless (not (ties_different a d item.what)) (EndsDiffer item.line)) (ends_faults a d items) none in
-    let ties = not_false (ties_different a d item.what) (well_from (not (ties_different a d item.what)) (EndsDiffer item.line) parts.0) in
+    let parts = append-none (fault_unless (not (ties_different a d item.what)) (EndsDiffer item.line)) (ends_faults a d items) none in
+    let ties = not-true (ties_different a d item.what) (well_from (not (ties_different a d item.what)) (EndsDiffer item.line) parts.0) in
     elim (cases_Bool (says_symmetric d link item.what)) [
       | inl here ↦ by_wish item.what here ties
       | inr later ↦ said_same a d items l link base there (rw later at said) parts.1
@@ -61,7 +57,8 @@ said_same a d (item ∷ items) l link base there said none =
   where
     by_wish : (wish : Wish) → says_symmetric d link wish ≡ true → ties_different a d wish ≡ false → ends_differ a d link ≡ false
     by_wish SymmetricAll here ties =
-        ap (ends_differ a d) (sym (get_or_from_slice_get d.links l link link there)) ∙ none_there (ends_differ a d) d.links ties l link (slice_get_within d.links l link there)
+        ap (ends_differ a d) (sym (get_or_from_slice_get d.links l link link there))
+        ∙ none_there (ends_differ a d) d.links ties l link (slice_get_within d.links l link there)
     by_wish (Symmetric router interface) here ties =
         let is = link_number_is d l link router interface base there here in
         ap (ends_differ_at a d) (sym (ap (slice_get d.links) is ∙ there)) ∙ ties
@@ -77,17 +74,21 @@ same_free AsItIs (Within low high) same = absurd (false≢true same)
 same_free AsItIs AsItIs same = refl
 
 -- the ends of a symmetric link are both free or both fixed
-tied_free : (a : Asked) (d : Database) (l m : ℕ) (link other : Linked) → IsDatabase d → ends_faults a d a.items ≡ [] → slice_get d.links l ≡ Some link → slice_get d.links m ≡ Some other → link.mate ≡ Some m → other.mate ≡ Some l → is_symmetric a d link ≡ true → is_free (range_of a d link) ≡ is_free (range_of a d other)
+tied_free : (a : Asked) (d : Database) (l m : ℕ) (link other : Linked) → IsDatabase d → ends_faults a d a.items ≡ [] →
+    slice_get d.links l ≡ Some link → slice_get d.links m ≡ Some other → link.mate ≡ Some m → other.mate ≡ Some l →
+    is_symmetric a d link ≡ true → is_free (range_of a d link) ≡ is_free (range_of a d other)
 tied_free a d l m link other base none there at mate back tied =
     elim (cases_Bool (any_symmetric a d (Some link))) [
       | inl here ↦
           same_free (range_of a d link) (range_of a d other)
-          (not_true (same_range (range_of a d link) (range_of a d other)) (sym (ends_are a d link other m mate at) ∙ said_same a d a.items l link base there here none))
+          (not-false (same_range (range_of a d link) (range_of a d other)) (sym (ends_are a d link other m mate at)
+          ∙ said_same a d a.items l link base there here none))
       | inr far ↦
           let said : any_symmetric a d (option_at d.links link.mate) ≡ true = rw far at tied in
           let here : any_symmetric a d (Some other) ≡ true = rw (mate, at) at said in
           sym (same_free (range_of a d other) (range_of a d link)
-          (not_true (same_range (range_of a d other) (range_of a d link)) (sym (ends_are a d other link l back there) ∙ said_same a d a.items m other base at here none)))
+          (not-false (same_range (range_of a d other) (range_of a d link)) (sym (ends_are a d other link l back there)
+          ∙ said_same a d a.items m other base at here none)))
     ]
 
 -- the link that a free link's variable belongs to
@@ -95,7 +96,8 @@ pub record HasOwner (a : Asked) (d : Database) (l : ℕ) : Type 0 where
   pub within : owner a d l < length d.links
   pub owns : own a d (owner a d l) ≡ true
 
-pub has_owner : (a : Asked) (d : Database) (l : ℕ) (link : Linked) → IsDatabase d → ends_faults a d a.items ≡ [] → slice_get d.links l ≡ Some link → is_free (range_of a d link) ≡ true → HasOwner a d l
+pub has_owner : (a : Asked) (d : Database) (l : ℕ) (link : Linked) → IsDatabase d → ends_faults a d a.items ≡ [] →
+    slice_get d.links l ≡ Some link → is_free (range_of a d link) ≡ true → HasOwner a d l
 has_owner a d l link base none there free = by_mate link.mate refl
   where
     free_at : (k : ℕ) (x : Linked) → slice_get d.links k ≡ Some x → is_free (range_of a d x) ≡ true → is_free_at a d k ≡ true
@@ -127,7 +129,8 @@ has_owner a d l link base none there free = by_mate link.mate refl
               let off : (is_symmetric a d end.other && nat_lt l m) ≡ false = and_right (is_symmetric a d end.other) (nat_lt l m) later in
               let its : owner a d m ≡ m = owner_is m end.other l end.there end.back ∙ ap (λ c. if c then l else m) off in
               moved m (omega (arith, before, within)) (itself m end.other end.there other_free its) same
-          | inr alone ↦ let same : owner a d l ≡ l = owner_is l link m there mate ∙ ap (λ c. if c then m else l) alone in moved l within (itself l link there free same) same
+          | inr alone ↦ let same : owner a d l ≡ l = owner_is l link m there mate
+              ∙ ap (λ c. if c then m else l) alone in moved l within (itself l link there free same) same
         ]
 
 -- a variable's number is how many links have one of their own before its owner

@@ -31,11 +31,13 @@ module _ {E : Type 0} (told : OwnedLink → List E) where
   pub skip : (first n : ℕ) (s : OwnedLink) (said : List OwnedLink) → s.router < first → grouped first n (s ∷ said) ≡ grouped first n said
   skip first zero s said below = refl
   skip first (suc n) s said below =
-      ap (λ b. flat_map told (cond b (s ∷ own_links first said) (own_links first said)) ++ grouped (first + 1) n (s ∷ said)) (ne_eqb s.router first (λ same. omega (arith, below, same)))
+      ap (λ b. flat_map told (cond b (s ∷ own_links first said) (own_links first said))
+      ++ grouped (first + 1) n (s ∷ said)) (ne_eqb s.router first (λ same. omega (arith, below, same)))
       ∙ ap (λ later. flat_map told (own_links first said) ++ later) (skip (first + 1) n s said (omega arith))
 
   -- a link in front of those behind it comes first
-  pub front : (first n : ℕ) (s : OwnedLink) (said : List OwnedLink) → All (IsBehind s) said → first ≤ s.router → s.router < first + n → grouped first n (s ∷ said) ≡ told s ++ grouped first n said
+  pub front : (first n : ℕ) (s : OwnedLink) (said : List OwnedLink) → All (IsBehind s) said → first ≤ s.router →
+      s.router < first + n → grouped first n (s ∷ said) ≡ told s ++ grouped first n said
   front first zero s said behind from below = absurd (omega arith)
   front first (suc n) s said behind from below =
       elim (cases_Bool (s.router == first)) [
@@ -47,7 +49,9 @@ module _ {E : Type 0} (told : OwnedLink → List E) where
         | inr other ↦
             let apart = eqb-false s.router first other in
             let above : first < s.router = omega (arith, apart) in
-            let none : own_links first said ≡ [] = none_before first said (All-weaker (IsBehind s) (λ x. first < x.router) (λ x h. omega (arith, h, above)) said behind) in
+            let none : own_links first said ≡ [] =
+            none_before first said (All-weaker (IsBehind s) (λ x. first < x.router) (λ x h. omega (arith, h, above))
+            said behind) in
             ap (λ b. flat_map told (cond b (s ∷ own_links first said) (own_links first said)) ++ grouped (first + 1) n (s ∷ said)) other
             ∙ ap (λ (own : List OwnedLink). flat_map told own ++ grouped (first + 1) n (s ∷ said)) none
             ∙ front (first + 1) n s said behind (omega arith) (omega arith)
@@ -55,7 +59,8 @@ module _ {E : Type 0} (told : OwnedLink → List E) where
       ]
 
   -- router by router they tell what they tell one after another
-  pub in_groups : (first n : ℕ) (said : List OwnedLink) → AreInOrder said → All (λ s. (first ≤ s.router) × (s.router < first + n)) said → grouped first n said ≡ flat_map told said
+  pub in_groups : (first n : ℕ) (said : List OwnedLink) → AreInOrder said →
+      All (λ s. (first ≤ s.router) × (s.router < first + n)) said → grouped first n said ≡ flat_map told said
   in_groups first n [] order within = none first n
     where
       none : (first n : ℕ) → grouped first n [] ≡ []
@@ -64,4 +69,6 @@ module _ {E : Type 0} (told : OwnedLink → List E) where
   in_groups first n (s ∷ said) order within =
       let here = All-head (λ x. (first ≤ x.router) × (x.router < first + n)) s said within in
       front first n s said (pairs_head IsBehind s said order) here.0 here.1
-      ∙ ap (λ later. told s ++ later) (in_groups first n said (pairs_tail IsBehind s said order) (All-tail (λ x. (first ≤ x.router) × (x.router < first + n)) s said within))
+      ∙ ap (λ later. told s ++ later)
+      (in_groups first n said (pairs_tail IsBehind s said order)
+      (All-tail (λ x. (first ≤ x.router) × (x.router < first + n)) s said within))

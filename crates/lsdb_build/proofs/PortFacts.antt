@@ -6,9 +6,10 @@ use Rattle.std.proofs.lemmas.Option.{none-some}
 use Rattle.std.proofs.lemmas.List.Elements.{All-nil, All-cons, All-head, All-tail, All-append, All-weaker}
 use Rattle.std.proofs.lemmas.List.Kept.{AllPairs-cons}
 use Rattle.cost_base.specs.Lists.{same_bytes}
+use Rattle.cost_base.proofs.ByteLemmas.{same_bytes-refl}
 use Rattle.interface_model.specs.declared.Interface.{Interface}
 use Rattle.interface_model.specs.Records.{Router, IsInterface, IsRouter}
-use Rattle.interface_model.specs.Addresses.{takes_part}
+use Rattle.interface_model.specs.Addresses.{is_active}
 use Rattle.lsdb_build.specs.declared.stop.TopologyFault.{TopologyFault}
 use Rattle.lsdb_build.specs.Neighbours.{Port, port_of, ports_of, ports_from}
 use Rattle.lsdb_build.specs.Topology.{FaultyPlace, first_some, at_port, at_config, past, second_of_name}
@@ -26,9 +27,10 @@ pub record InOrder (a b : Port) : Type 0 where
   pub names : a.router ≡ b.router → a.interface.name ≢ b.interface.name
 
 -- what holds of the port of an interface
-port_all : (P : Port → Type 0) (area n : ℕ) (i : Interface) (address : Option ℕ) → ((a : ℕ) → P (record { router = n; interface = i; address = a })) → All P (port_of area n i address)
+port_all : (P : Port → Type 0) (area n : ℕ) (i : Interface) (address : Option ℕ) →
+    ((a : ℕ) → P (record { router = n; interface = i; address = a })) → All P (port_of area n i address)
 port_all P area n i None each = All-nil P
-port_all P area n i (Some a) each = by_test (takes_part i area && nat_le i.length 31)
+port_all P area n i (Some a) each = by_test (is_active i area && nat_le i.length 31)
   where
     by_test : (b : Bool) → All P (cond b (record { router = n; interface = i; address = a } ∷ []) [])
     by_test true = All-cons P (record { router = n; interface = i; address = a }) [] (each a) (All-nil P)
@@ -37,10 +39,11 @@ port_all P area n i (Some a) each = by_test (takes_part i area && nat_le i.lengt
 -- an interface has at most one port
 port_pairs : (R : Port → Port → Type 0) (area n : ℕ) (i : Interface) (address : Option ℕ) → AllPairs R (port_of area n i address)
 port_pairs R area n i None = pairs_nil R
-port_pairs R area n i (Some a) = by_test (takes_part i area && nat_le i.length 31)
+port_pairs R area n i (Some a) = by_test (is_active i area && nat_le i.length 31)
   where
     by_test : (b : Bool) → AllPairs R (cond b (record { router = n; interface = i; address = a } ∷ []) [])
-    by_test true = AllPairs-cons R (record { router = n; interface = i; address = a }) [] (All-nil (R (record { router = n; interface = i; address = a }))) (pairs_nil R)
+    by_test true = AllPairs-cons R (record { router = n; interface = i; address = a }) []
+        (All-nil (R (record { router = n; interface = i; address = a }))) (pairs_nil R)
     by_test false = pairs_nil R
 
 -- what holds of the interfaces of a router holds of its ports
@@ -65,7 +68,10 @@ ports_pairs area n (i ∷ is) pairs =
     (port_pairs InOrder area n i i.address)
     (ports_pairs area n is (pairs_tail differ i is pairs))
     (port_all (λ a. All (InOrder a) (ports_of area n is)) area n i i.address
-    (λ address. All-weaker (λ p. (p.router ≡ n) × differ i p.interface) (InOrder (record { router = n; interface = i; address = address })) (λ p h. in_order n (record { router = n; interface = i; address = address }) p refl h.0 h.1) (ports_of area n is) later))
+    (λ address. All-weaker (λ p. (p.router ≡ n) × differ i p.interface)
+    (InOrder (record { router = n; interface = i; address = address }))
+    (λ p h. in_order n (record { router = n; interface = i; address = address }) p refl h.0 h.1)
+    (ports_of area n is) later))
 
 pub ports_from_all : (area n : ℕ) (routers : List Router) → All IsRouter routers → All (IsPortFrom n (n + length routers)) (ports_from area n routers)
 ports_from_all area n [] all = All-nil (IsPortFrom n (n + 0))
@@ -73,8 +79,12 @@ ports_from_all area n (r ∷ routers) all =
     let here = ports_all IsInterface area n r.interfaces (All-head IsRouter r routers all).interfaces in
     let later = ports_from_all area (n + 1) routers (All-tail IsRouter r routers all) in
     All-append (IsPortFrom n (n + length (r ∷ routers))) (ports_of area n r.interfaces) (ports_from area (n + 1) routers)
-    (All-weaker (λ p. (p.router ≡ n) × IsInterface p.interface) (IsPortFrom n (n + length (r ∷ routers))) (λ p h. record { from = omega (arith, h.0); below = omega (arith, h.0); interface = h.1 }) (ports_of area n r.interfaces) here)
-    (All-weaker (IsPortFrom (n + 1) (n + 1 + length routers)) (IsPortFrom n (n + length (r ∷ routers))) (λ p h. record { from = omega (arith, h.from); below = omega (arith, h.below); interface = h.interface }) (ports_from area (n + 1) routers) later)
+    (All-weaker (λ p. (p.router ≡ n) × IsInterface p.interface) (IsPortFrom n (n + length (r ∷ routers)))
+    (λ p h. record { from = omega (arith, h.0); below = omega (arith, h.0); interface = h.1 })
+    (ports_of area n r.interfaces) here)
+    (All-weaker (IsPortFrom (n + 1) (n + 1 + length routers)) (IsPortFrom n (n + length (r ∷ routers)))
+    (λ p h. record { from = omega (arith, h.from); below = omega (arith, h.below); interface = h.interface })
+    (ports_from area (n + 1) routers) later)
 
 later_routers : (n below : ℕ) (a b : Port) → a.router ≡ n → IsPortFrom (n + 1) below b → InOrder a b
 later_routers n below a b here later = record { routers = omega (arith, later.from); names = λ same. absurd (omega (arith, later.from)) }
@@ -88,7 +98,10 @@ ports_from_pairs area n (r ∷ routers) all =
     pairs_append InOrder (ports_of area n r.interfaces) (ports_from area (n + 1) routers)
     (ports_pairs area n r.interfaces is_router.different)
     (ports_from_pairs area (n + 1) routers (All-tail IsRouter r routers all))
-    (All-weaker (λ p. (p.router ≡ n) × IsInterface p.interface) (λ a. All (InOrder a) (ports_from area (n + 1) routers)) (λ a h. All-weaker (IsPortFrom (n + 1) (n + 1 + length routers)) (InOrder a) (λ b k. later_routers n (n + 1 + length routers) a b h.0 k) (ports_from area (n + 1) routers) later) (ports_of area n r.interfaces) here)
+    (All-weaker (λ p. (p.router ≡ n) × IsInterface p.interface) (λ a. All (InOrder a) (ports_from area (n + 1) routers))
+    (λ a h. All-weaker (IsPortFrom (n + 1) (n + 1 + length routers)) (InOrder a)
+    (λ b k. later_routers n (n + 1 + length routers) a b h.0 k) (ports_from area (n + 1) routers) later)
+    (ports_of area n r.interfaces) here)
 
 -- without a first fault none of two has one
 pub no_first : (f : Option FaultyPlace) (more : List (Option FaultyPlace)) → first_some (f ∷ more) ≡ None → (f ≡ None) × (first_some more ≡ None)
@@ -117,11 +130,6 @@ none_past [] n h = omega arith
 none_past (x ∷ xs) zero h = absurd (none-some x (sym h))
 none_past (x ∷ xs) (suc n) h = omega (arith, none_past xs n h)
 
--- equal texts are the same by `same_bytes`
-pub same_bytes_itself : (xs : List ℕ) → same_bytes xs xs ≡ true
-same_bytes_itself [] = refl
-same_bytes_itself (x ∷ xs) = and_from (eqb x x) (same_bytes xs xs) (eq-eqb x x refl) (same_bytes_itself xs)
-
 -- what no second of a name tells: no name before is one of the names, and the names differ
 pub record NamesDiffer (before : List (List ℕ)) (routers : List Router) : Type 0 where
   pub fresh : All (λ r. list_any (same_bytes r) before ≡ false) (map (λ r. r.name) routers)
@@ -138,6 +146,12 @@ names_differ before n (r ∷ routers) h =
     let rest = names_differ (r.name ∷ before) (n + 1) routers step.1 in
     let names = map (λ (x : Router). x.name) routers in
     record {
-      fresh = All-cons (λ v. list_any (same_bytes v) before ≡ false) r.name names step.0 (All-weaker (λ v. list_any (same_bytes v) (r.name ∷ before) ≡ false) (λ v. list_any (same_bytes v) before ≡ false) (λ v k. (or_parts (same_bytes v r.name) (list_any (same_bytes v) before) k).1) names rest.fresh);
-      pairs = AllPairs-cons (λ a b. a ≢ b) r.name names (All-weaker (λ v. list_any (same_bytes v) (r.name ∷ before) ≡ false) (λ v. r.name ≢ v) (λ v k same. false≢true (sym (or_parts (same_bytes v r.name) (list_any (same_bytes v) before) k).0 ∙ ap (λ w. same_bytes v w) same ∙ same_bytes_itself v)) names rest.fresh) rest.pairs;
+      fresh = All-cons (λ v. list_any (same_bytes v) before ≡ false) r.name names step.0
+          (All-weaker (λ v. list_any (same_bytes v) (r.name ∷ before) ≡ false)
+          (λ v. list_any (same_bytes v) before ≡ false)
+          (λ v k. (or_parts (same_bytes v r.name) (list_any (same_bytes v) before) k).1) names rest.fresh);
+      pairs = AllPairs-cons (λ a b. a ≢ b) r.name names
+          (All-weaker (λ v. list_any (same_bytes v) (r.name ∷ before) ≡ false) (λ v. r.name ≢ v)
+          (λ v k same. false≢true (sym (or_parts (same_bytes v r.name) (list_any (same_bytes v) before) k).0
+          ∙ ap (λ w. same_bytes v w) same ∙ same_bytes-refl v)) names rest.fresh) rest.pairs;
     }

@@ -4,8 +4,10 @@ use Rattle.std.specs.Prelude.{All, filter, option_to_list, slice_get, slice_inde
 use Rattle.std.specs.List.{list_any}
 use Rattle.std.proofs.lemmas.List.Elements.{All-nil, All-cons, All-weaker}
 use Rattle.std.proofs.lemmas.List.{get_or_default}
+use Rattle.std.proofs.lemmas.List.Folds.{list_any-append}
 use Rattle.std.proofs.lemmas.Bool.{cases_Bool, cases_eq, eq-eqb, ne_eqb, eqb-false, or_parts, or_from, false≢true}
-use Rattle.cost_base.specs.Lists.{numbers_from, Lacks}
+use Rattle.cost_base.specs.Lists.{numbers_from}
+use Rattle.cost_base.proofs.ListLemmas.{filter-numbers_from-agree, list_any-agree}
 use Rattle.area_graph.specs.Area.{Area, edge_at, edges_out, edges_in}
 use Rattle.area_graph.specs.Paths.{Joins}
 use Rattle.area_graph.specs.Distances.{AreMarks}
@@ -17,7 +19,8 @@ use Rattle.request_reader.specs.declared.Part.{Part}
 use Rattle.request_reader.specs.declared.Part.TheVariants.{Router, Interface}
 use Rattle.wanted_paths.specs.Paths.{link_number, router_number, link_takes, takes, gone_edges}
 use Rattle.wanted_paths.specs.Taken.{taken_from, taken_at, taken_by, taken_by_all}
-use Rattle.wanted_paths.proofs.LookUps.{any_agree, filter_twice}
+use Rattle.wanted_paths.proofs.LookUps.{filter_twice}
+use Rattle.wanted_paths.proofs.RouteLaws.{lacks_from, lacks_test}
 
 pub filter_head : {X : Type 0} (p : X → Bool) (x : X) (xs : List X) → filter p (x ∷ xs) ≡ filter p (x ∷ []) ++ filter p xs
 filter_head p x xs = by_test (p x)
@@ -29,14 +32,6 @@ filter_head p x xs = by_test (p x)
 -- whether an edge stands in a list
 abbrev pub has : ℕ → List ℕ → Bool
 has e es = list_any (λ x. e == x) es
-
-has_append : (e : ℕ) (xs ys : List ℕ) → has e (xs ++ ys) ≡ (has e xs || has e ys)
-has_append e [] ys = refl
-has_append e (x ∷ xs) ys = rw (has_append e xs ys) (by_test (e == x))
-  where
-    by_test : (b : Bool) → (b || (has e xs || has e ys)) ≡ (b || has e xs || has e ys)
-    by_test true = refl
-    by_test false = refl
 
 -- where it stands in the run of numbers, it stands among the kept ones exactly where it passes
 pub has_kept : (test : ℕ → Bool) (a n e : ℕ) → a ≤ e → e < a + n → has e (filter test (numbers_from a n)) ≡ test e
@@ -64,7 +59,8 @@ has_kept test a (suc n) e from below =
 
     by_first : e ≡ a → (b : Bool) → test a ≡ b → has e (filter test (numbers_from a (suc n))) ≡ test e
     by_first same true passes = rw (passes, eq-eqb e a same, ap test same) (sym passes)
-    by_first same false fails = rw (fails, ap test same) (ap (λ k. has k (filter test (numbers_from (a + 1) n))) same ∙ later (a + 1) a n (omega arith) ∙ sym fails)
+    by_first same false fails = rw (fails, ap test same) (ap (λ k. has k (filter test (numbers_from (a + 1) n))) same
+        ∙ later (a + 1) a n (omega arith) ∙ sym fails)
 
 -- what a link takes away, part by part
 abbrev mate_takes_of : ℕ → Option ℕ → Bool
@@ -93,7 +89,7 @@ has_mate e (Some m) = or_false (e == m)
 has_link : (d : Database) (g : Area) (l e : ℕ) (o : Option Linked) → e < length g.edges → has e (taken_at d g l o) ≡ link_takes d g l o e
 has_link d g l e None within = refl
 has_link d g l e (Some link) within =
-    ap (λ b. e == l || b) (has_append e (option_to_list link.mate) (taken_from d g link.router link.to))
+    ap (λ b. e == l || b) (list_any-append (λ x. e == x) (option_to_list link.mate) (taken_from d g link.router link.to))
     ∙ by_parts (e == l) (has e (option_to_list link.mate)) (has e (taken_from d g link.router link.to))
     ∙ ap (λ b. e == l || b || has e (taken_from d g link.router link.to)) (has_mate e link.mate)
     ∙ ap (λ b. e == l || mate_takes_of e link.mate || b) (has_far d g e link.router link.to within)
@@ -103,7 +99,8 @@ has_link d g l e (Some link) within =
     by_parts true b c = refl
     by_parts false b c = refl
 
-    takes_is : (mate : Option ℕ) (far : Far) → link_takes d g l (Some (record link { mate = mate; to = far })) e ≡ (e == l || mate_takes_of e mate || far_takes_of d g e link.router far)
+    takes_is : (mate : Option ℕ) (far : Far) → link_takes d g l (Some (record link { mate = mate; to = far })) e
+        ≡ (e == l || mate_takes_of e mate || far_takes_of d g e link.router far)
     takes_is None (ToRouter r) = refl
     takes_is None (ToSubnet s) = refl
     takes_is (Some m) (ToRouter r) = refl
@@ -113,7 +110,7 @@ has_link d g l e (Some link) within =
 has_part : (d : Database) (g : Area) (e : ℕ) (part : Part) → e < length g.edges → has e (taken_by d g part) ≡ takes d g e part
 has_part d g e (Router name) within =
     let r = router_number d name in
-    has_append e (edges_out g r) (edges_in g r)
+    list_any-append (λ x. e == x) (edges_out g r) (edges_in g r)
     ∙ ap (λ b. b || has e (edges_in g r)) (has_kept (λ e. (edge_at g e).from == r) 0 (length g.edges) e (omega arith) (omega arith))
     ∙ ap (λ b. (edge_at g e).from == r || b) (has_kept (λ e. (edge_at g e).to == r) 0 (length g.edges) e (omega arith) (omega arith))
 has_part d g e (Interface router interface) within =
@@ -123,49 +120,42 @@ has_part d g e (Interface router interface) within =
 pub has_parts : (d : Database) (g : Area) (e : ℕ) (parts : List Part) → e < length g.edges → has e (taken_by_all d g parts) ≡ list_any (takes d g e) parts
 has_parts d g e [] within = refl
 has_parts d g e (part ∷ parts) within =
-    has_append e (taken_by d g part) (taken_by_all d g parts)
+    list_any-append (λ x. e == x) (taken_by d g part) (taken_by_all d g parts)
     ∙ ap (λ b. b || has e (taken_by_all d g parts)) (has_part d g e part within)
     ∙ ap (λ b. takes d g e part || b) (has_parts d g e parts within)
 
-lacks_has : (es : List ℕ) (e : ℕ) → Lacks es e → has e es ≡ false
-lacks_has [] e lacks = refl
-lacks_has (x ∷ es) e lacks = or_from (e == x) (has e es) (ne_eqb e x lacks.0) (lacks_has es e lacks.1)
-
-pub lacks_from : (es : List ℕ) (e : ℕ) → has e es ≡ false → Lacks es e
-lacks_from [] e none = tt
-lacks_from (x ∷ es) e none = let parts = or_parts (e == x) (has e es) none in (eqb-false e x parts.0, lacks_from es e parts.1)
-
 -- a mark tells whether the edge is taken away
-pub mark_is : (d : Database) (g : Area) (parts : List Part) (taken : List ℕ) (marks : List Bool) (e : ℕ) → AreMarks taken marks → taken ≡ taken_by_all d g parts → length marks ≡ length g.edges → e < length g.edges → slice_index_or marks e false ≡ list_any (takes d g e) parts
+pub mark_is : (d : Database) (g : Area) (parts : List Part) (taken : List ℕ) (marks : List Bool) (e : ℕ) →
+    AreMarks taken marks → taken ≡ taken_by_all d g parts → length marks ≡ length g.edges → e < length g.edges →
+    slice_index_or marks e false ≡ list_any (takes d g e) parts
 mark_is d g parts taken marks e are is count within =
     let here = are e (omega arith) in
     let same = get_or_default marks e false true (omega arith) in
-    by_mark (get_or marks e true) (has e taken) (λ clear. lacks_has taken e (here.0 clear)) (λ none. here.1 (lacks_from taken e none)) same
+    by_mark (get_or marks e true) (has e taken) (λ clear. lacks_test taken e (here.0 clear)) (λ none. here.1 (lacks_from taken e none)) same
     ∙ ap (has e) is ∙ has_parts d g e parts within
   where
-    by_mark : (mark found : Bool) → (mark ≡ false → found ≡ false) → (found ≡ false → mark ≡ false) → slice_index_or marks e false ≡ mark → slice_index_or marks e false ≡ found
+    by_mark : (mark found : Bool) → (mark ≡ false → found ≡ false) → (found ≡ false → mark ≡ false) →
+        slice_index_or marks e false ≡ mark → slice_index_or marks e false ≡ found
     by_mark true true to from same = same
     by_mark true false to from same = absurd (false≢true (sym (from refl)))
     by_mark false true to from same = absurd (false≢true (sym (to refl)))
     by_mark false false to from same = same
 
-pub kept_alike : (p q : ℕ → Bool) (a n : ℕ) → ((k : ℕ) → k < a + n → p k ≡ q k) → filter p (numbers_from a n) ≡ filter q (numbers_from a n)
-kept_alike p q a zero same = refl
-kept_alike p q a (suc n) same =
-    rw (same a (omega arith)) (ap (λ ks. cond (q a) (a ∷ ks) ks) (kept_alike p q (a + 1) n (λ k below. same k (omega arith))))
-
 -- the marked edges are those that the parts take away
-pub marked_are : (d : Database) (g : Area) (parts : List Part) (taken : List ℕ) (marks : List Bool) → AreMarks taken marks → taken ≡ taken_by_all d g parts → length marks ≡ length g.edges → filter (λ e. slice_index_or marks e false) (numbers_from 0 (length marks)) ≡ gone_edges d g parts
+pub marked_are : (d : Database) (g : Area) (parts : List Part) (taken : List ℕ) (marks : List Bool) →
+    AreMarks taken marks → taken ≡ taken_by_all d g parts → length marks ≡ length g.edges →
+    filter (λ e. slice_index_or marks e false) (numbers_from 0 (length marks)) ≡ gone_edges d g parts
 marked_are d g parts taken marks are is count =
-    kept_alike (λ e. slice_index_or marks e false) (λ e. list_any (takes d g e) parts) 0 (length marks) (λ e below. mark_is d g parts taken marks e are is count (omega arith))
+    filter-numbers_from-agree (λ e. slice_index_or marks e false) (λ e. list_any (takes d g e) parts) 0 (length marks)
+    (λ e above below. mark_is d g parts taken marks e are is count (omega arith))
     ∙ ap (λ n. filter (λ e. list_any (takes d g e) parts) (numbers_from 0 n)) count
 
-pub joins_within : (g : Area) (s : ℕ) (es : List ℕ) (t : ℕ) → Joins g s es t → All (λ e. e < length g.edges) es
-joins_within g s [] t joins = All-nil (λ e. e < length g.edges)
-joins_within g s (e ∷ es) t joins = All-cons (λ e. e < length g.edges) e es joins.0 (joins_within g (edge_at g e).to es t joins.2)
-
 -- a path has a marked edge exactly where one of its edges is taken away
-pub path_marked : (d : Database) (g : Area) (parts : List Part) (taken : List ℕ) (marks : List Bool) (es : List ℕ) → AreMarks taken marks → taken ≡ taken_by_all d g parts → length marks ≡ length g.edges → All (λ e. e < length g.edges) es → list_any (λ e. slice_index_or marks e false) es ≡ list_any (λ e. list_any (takes d g e) parts) es
+pub path_marked : (d : Database) (g : Area) (parts : List Part) (taken : List ℕ) (marks : List Bool) (es : List ℕ) →
+    AreMarks taken marks → taken ≡ taken_by_all d g parts → length marks ≡ length g.edges →
+    All (λ e. e < length g.edges) es →
+    list_any (λ e. slice_index_or marks e false) es ≡ list_any (λ e. list_any (takes d g e) parts) es
 path_marked d g parts taken marks es are is count within =
-    any_agree (λ e. slice_index_or marks e false) (λ e. list_any (takes d g e) parts) es
-    (All-weaker (λ e. e < length g.edges) (λ e. slice_index_or marks e false ≡ list_any (takes d g e) parts) (λ e below. mark_is d g parts taken marks e are is count below) es within)
+    list_any-agree (λ e. slice_index_or marks e false) (λ e. list_any (takes d g e) parts) es
+    (All-weaker (λ e. e < length g.edges) (λ e. slice_index_or marks e false ≡ list_any (takes d g e) parts)
+    (λ e below. mark_is d g parts taken marks e are is count below) es within)

@@ -2,8 +2,9 @@
 use Rattle.std.proofs.Common.{inl, inr, ◌≡◌, ℕ, zero, suc, ◌+◌, ◌<◌, ◌≤◌, refl, sym, ◌∙◌, ap, subst, List, [], ◌∷◌, ◌++◌, length, map, filter, arith, Bool, true, false, cond, Some, None, slice_get, slice_index_or, zero-add}
 use Rattle.std.specs.Prelude.{All, AllPairs, ◌==◌, ◌&&◌, not}
 use Rattle.std.proofs.lemmas.Bool.{cases_Bool, and_parts, and_from, eqb-true, eq-eqb}
-use Rattle.std.proofs.lemmas.Option.{none-some, same_Some, slice_get-get_or, slice_get_within}
-use Rattle.std.proofs.lemmas.List.{length-map}
+use Rattle.std.proofs.lemmas.Option.{none-some, same_Some, slice_get-get_or, slice_get_within, get_or_from_slice_get}
+use Rattle.std.proofs.lemmas.List.{length-map, map-append}
+use Rattle.std.proofs.lemmas.Simd.{map-map}
 use Rattle.std.proofs.lemmas.List.Elements.{All-nil, All-cons, filter-append}
 use Rattle.std.proofs.lemmas.List.Kept.{AllPairs-cons}
 use Rattle.cost_base.specs.Lists.{numbers_from}
@@ -24,8 +25,8 @@ use Rattle.lsa_writer.specs.declared.ends.LinkEnd.{LinkEnd}
 use Rattle.lsa_writer.specs.declared.said.OwnedLink.{OwnedLink}
 use Rattle.lsa_writer.specs.Ends.{id_of, end_of, ends_of, end_at, designated, member_ends, designated_ends}
 use Rattle.lsa_writer.specs.WrittenLsas.{said_link, said_links, own_links, own_lsa, router_lsas, subnet_lsa, network_lsas, all_said, written_lsas}
-use Rattle.lsa_writer.proofs.Places.{any_at, any_kept, number_there, keeps_all, keeps_none, read_at}
-use Rattle.lsa_writer.proofs.Groups.{IsBehind, AreInOrder}
+use Rattle.lsa_writer.proofs.ListPlaces.{any_at, any_kept, number_there, keeps_all, keeps_none}
+use Rattle.lsa_writer.proofs.LinkGroups.{IsBehind, AreInOrder}
 use Rattle.lsa_writer.proofs.Elections.{elected_leads}
 
 -- what the configurations and their database keep, as far as their LSAs need it
@@ -33,7 +34,8 @@ pub record AreFit (configs : List Config) (d : Database) : Type 0 where
   pub count : length configs ≡ length d.routers
   pub base : IsDatabase d
   pub ids : (q r : ℕ) → q < length configs → r < length configs → id_of configs q ≡ id_of configs r → q ≡ r
-  pub addresses : (l m : ℕ) (a b : Linked) → slice_get d.links l ≡ Some a → slice_get d.links m ≡ Some b → (end_of configs a).address ≡ (end_of configs b).address → l ≡ m
+  pub addresses : (l m : ℕ) (a b : Linked) → slice_get d.links l ≡ Some a → slice_get d.links m ≡ Some b →
+      (end_of configs a).address ≡ (end_of configs b).address → l ≡ m
   pub members : (s : ℕ) (members : List ℕ) → slice_get d.subnets s ≡ Some members → 0 < length members
 
 -- the LSAs themselves, without masks
@@ -55,21 +57,13 @@ of_subnets ends subnets = map (of_subnet ends) subnets
 abbrev pub told : List Config → Database → List ℕ → List Lsa
 told configs d costs = own_all configs (all_said configs d costs) ++ of_subnets (ends_of configs d.links) d.subnets
 
-map_twice : {X Y Z : Type 0} (f : Y → Z) (g : X → Y) (xs : List X) → map f (map g xs) ≡ map (λ x. f (g x)) xs
-map_twice f g [] = refl
-map_twice f g (x ∷ xs) = ap (λ ys. f (g x) ∷ ys) (map_twice f g xs)
-
-map_both : {X Y : Type 0} (f : X → Y) (xs ys : List X) → map f (xs ++ ys) ≡ map f xs ++ map f ys
-map_both f [] ys = refl
-map_both f (x ∷ xs) ys = ap (λ zs. f x ∷ zs) (map_both f xs ys)
-
 pub lsas_are : (configs : List Config) (d : Database) (costs : List ℕ) → map lsa_of (written_lsas configs d costs) ≡ told configs d costs
 lsas_are configs d costs =
     let said = all_said configs d costs in
     let ends = ends_of configs d.links in
-    map_both lsa_of (router_lsas configs said) (network_lsas ends d.subnets)
-    ∙ ap (λ (xs : List Lsa). xs ++ map lsa_of (network_lsas ends d.subnets)) (map_twice lsa_of (own_lsa configs said) (numbers_from 0 (length configs)))
-    ∙ ap (λ (xs : List Lsa). own_all configs said ++ xs) (map_twice lsa_of (subnet_lsa ends) d.subnets)
+    map-append lsa_of (router_lsas configs said) (network_lsas ends d.subnets)
+    ∙ ap (λ (xs : List Lsa). xs ++ map lsa_of (network_lsas ends d.subnets)) (map-map lsa_of (own_lsa configs said) (numbers_from 0 (length configs)))
+    ∙ ap (λ (xs : List Lsa). own_all configs said ++ xs) (map-map lsa_of (subnet_lsa ends) d.subnets)
 
 -- Routers and networks.
 
@@ -97,7 +91,8 @@ networks_are configs d costs =
     let said = all_said configs d costs in
     let ends = ends_of configs d.links in
     filter-append is_network (own_all configs said) (of_subnets ends d.subnets)
-    ∙ ap (λ (xs : List Lsa). xs ++ filter is_network (of_subnets ends d.subnets)) (keeps_none is_network (own_all configs said) (λ k x at. ap not (router_there configs said k x at)))
+    ∙ ap (λ (xs : List Lsa). xs ++ filter is_network (of_subnets ends d.subnets))
+    (keeps_none is_network (own_all configs said) (λ k x at. ap not (router_there configs said k x at)))
     ∙ keeps_all is_network (of_subnets ends d.subnets) (λ k x at. ap not (network_there ends d.subnets k x at))
 
 pub own_length : (configs : List Config) (said : List OwnedLink) → length (own_all configs said) ≡ length configs
@@ -105,7 +100,8 @@ own_length configs said = length-map (numbers_from 0 (length configs)) (own conf
 
 -- What links say.
 
-pub said_at : (configs : List Config) (ds : List LinkEnd) (links : List Linked) (costs : List ℕ) (l : ℕ) (link : Linked) (cost : ℕ) → slice_get links l ≡ Some link → slice_get costs l ≡ Some cost
+pub said_at : (configs : List Config) (ds : List LinkEnd) (links : List Linked) (costs : List ℕ) (l : ℕ) (link : Linked)
+    (cost : ℕ) → slice_get links l ≡ Some link → slice_get costs l ≡ Some cost
     → slice_get (said_links configs ds links costs) l ≡ Some (said_link configs ds link cost)
 said_at configs ds [] costs l link cost at priced = absurd (none-some link at)
 said_at configs ds (x ∷ links) [] l link cost at priced = absurd (none-some cost priced)
@@ -115,7 +111,8 @@ said_at configs ds (x ∷ links) (y ∷ costs) (suc l) link cost at priced = sai
 
 -- what holds of what each link says
 pub said_every : (configs : List Config) (ds : List LinkEnd) (P : OwnedLink → Type 0) (links : List Linked) (costs : List ℕ) →
-    ((k : ℕ) (link : Linked) (cost : ℕ) → slice_get links k ≡ Some link → slice_get costs k ≡ Some cost → P (said_link configs ds link cost)) → All P (said_links configs ds links costs)
+    ((k : ℕ) (link : Linked) (cost : ℕ) → slice_get links k ≡ Some link → slice_get costs k ≡ Some cost →
+    P (said_link configs ds link cost)) → All P (said_links configs ds links costs)
 said_every configs ds P [] costs each = All-nil P
 said_every configs ds P (link ∷ links) [] each = All-nil P
 said_every configs ds P (link ∷ links) (cost ∷ costs) each =
@@ -128,26 +125,32 @@ said_length configs ds (link ∷ links) [] = omega arith
 said_length configs ds (link ∷ links) (cost ∷ costs) = omega (arith, said_length configs ds links costs)
 
 -- it stands in the order of the links' routers, which are known
-pub said_order : (configs : List Config) (ds : List LinkEnd) (links : List Linked) (costs : List ℕ) → AllPairs (λ a b. a.router ≤ b.router) links → AreInOrder (said_links configs ds links costs)
+pub said_order : (configs : List Config) (ds : List LinkEnd) (links : List Linked) (costs : List ℕ) →
+    AllPairs (λ a b. a.router ≤ b.router) links → AreInOrder (said_links configs ds links costs)
 said_order configs ds [] costs order = pairs_nil IsBehind
 said_order configs ds (link ∷ links) [] order = pairs_nil IsBehind
 said_order configs ds (link ∷ links) (cost ∷ costs) order =
     AllPairs-cons IsBehind (said_link configs ds link cost) (said_links configs ds links costs)
-    (said_every configs ds (IsBehind (said_link configs ds link cost)) links costs (λ k x y at priced. all_at (λ (z : Linked). link.router ≤ z.router) links (pairs_head (λ a b. a.router ≤ b.router) link links order) k x at))
+    (said_every configs ds (IsBehind (said_link configs ds link cost)) links costs
+    (λ k x y at priced. all_at (λ (z : Linked). link.router ≤ z.router) links
+    (pairs_head (λ a b. a.router ≤ b.router) link links order) k x at))
     (said_order configs ds links costs (pairs_tail (λ a b. a.router ≤ b.router) link links order))
 
-pub said_within : (configs : List Config) (d : Database) (costs : List ℕ) → AreFit configs d → All (λ s. (0 ≤ s.router) × (s.router < 0 + length configs)) (all_said configs d costs)
+pub said_within : (configs : List Config) (d : Database) (costs : List ℕ) → AreFit configs d →
+    All (λ s. (0 ≤ s.router) × (s.router < 0 + length configs)) (all_said configs d costs)
 said_within configs d costs fit =
     said_every configs (designated_ends (ends_of configs d.links) d.subnets) (λ s. (0 ≤ s.router) × (s.router < 0 + length configs)) d.links costs
     (λ k x y at priced. (let is = all_at (IsLink d) d.links fit.base.each_link k x at in (omega arith, omega (arith, is.router, fit.count))))
 
 -- a link with a cost
-pub cost_there : (costs : List ℕ) (links : List Linked) (l : ℕ) (link : Linked) → length costs ≡ length links → slice_get links l ≡ Some link → (cost : ℕ) × (slice_get costs l ≡ Some cost)
+pub cost_there : (costs : List ℕ) (links : List Linked) (l : ℕ) (link : Linked) → length costs ≡ length links →
+    slice_get links l ≡ Some link → (cost : ℕ) × (slice_get costs l ≡ Some cost)
 cost_there costs links l link one_each at =
     (slice_index_or costs l 0, slice_get-get_or costs l 0 (omega (arith, one_each, slice_get_within links l link at)))
 
 -- a router's LSA has a link of this kind with this ID, where one of its links says so
-pub own_has : (configs : List Config) (said : List OwnedLink) (router kind id l : ℕ) (s : OwnedLink) → slice_get said l ≡ Some s → s.router ≡ router → s.link.kind ≡ kind → s.link.id ≡ id
+pub own_has : (configs : List Config) (said : List OwnedLink) (router kind id l : ℕ) (s : OwnedLink) →
+    slice_get said l ≡ Some s → s.router ≡ router → s.link.kind ≡ kind → s.link.id ≡ id
     → has_link kind id (own configs said router).body ≡ true
 own_has configs said router kind id l s at of is named =
     let test : LsaLink → Bool = λ link. link.kind == kind && link.id == id in
@@ -156,20 +159,24 @@ own_has configs said router kind id l s at of is named =
     (and_from (s.link.kind == kind) (s.link.id == id) (eq-eqb s.link.kind kind is) (eq-eqb s.link.id id named))
 
 -- a network lists a member's router
-pub lists_member : (ends : List LinkEnd) (members : List ℕ) (k l id : ℕ) → slice_get members k ≡ Some l → (end_at ends l).router ≡ id → attaches id (of_subnet ends members).body ≡ true
+pub lists_member : (ends : List LinkEnd) (members : List ℕ) (k l id : ℕ) → slice_get members k ≡ Some l →
+    (end_at ends l).router ≡ id → attaches id (of_subnet ends members).body ≡ true
 lists_member ends members k l id at is =
     list_any-map (λ other. other == id) (λ (e : LinkEnd). e.router) (member_ends ends members)
-    ∙ any_at (λ (e : LinkEnd). e.router == id) (member_ends ends members) k (end_at ends l) (at_map (end_at ends) members k l at) (eq-eqb (end_at ends l).router id is)
+    ∙ any_at (λ (e : LinkEnd). e.router == id) (member_ends ends members) k (end_at ends l)
+    (at_map (end_at ends) members k l at) (eq-eqb (end_at ends l).router id is)
 
 -- the link that leads to a subnet is one of its members
-pub is_member : (d : Database) (s l : ℕ) (link : Linked) (members : List ℕ) → IsDatabase d → slice_get d.links l ≡ Some link → link.to ≡ Subnet s → slice_get d.subnets s ≡ Some members
+pub is_member : (d : Database) (s l : ℕ) (link : Linked) (members : List ℕ) → IsDatabase d →
+    slice_get d.links l ≡ Some link → link.to ≡ Subnet s → slice_get d.subnets s ≡ Some members
     → (k : ℕ) × (slice_get members k ≡ Some l)
 is_member d s l link members base at to there =
     let within = slice_get_within d.subnets s members there in
-    let are : members ≡ members_of d s = sym (read_at d.subnets s members [] there) ∙ base.members s within in
+    let are : members ≡ members_of d s = sym (get_or_from_slice_get d.subnets s members [] there) ∙ base.members s within in
     let below = slice_get_within d.links l link at in
     let leads : link_leads_to s (slice_get d.links l) ≡ true = ap (link_leads_to s) at ∙ ap (leads_to s) to ∙ eq-eqb s s refl in
-    let kept = kept_place (λ m. link_leads_to s (slice_get d.links m)) (numbers_from 0 (length d.links)) l l (number_there 0 (length d.links) l below ∙ ap Some (zero-add l)) leads in
+    let kept = kept_place (λ m. link_leads_to s (slice_get d.links m)) (numbers_from 0 (length d.links)) l l
+    (number_there 0 (length d.links) l below ∙ ap Some (zero-add l)) leads in
     (kept.0, subst (λ (ms : List ℕ). slice_get ms kept.0 ≡ Some l) (sym are) kept.1)
   where
     kept_place : (keep : ℕ → Bool) (xs : List ℕ) (k x : ℕ) → slice_get xs k ≡ Some x → keep x ≡ true → (j : ℕ) × (slice_get (filter keep xs) j ≡ Some x)
@@ -178,14 +185,16 @@ is_member d s l link members base at to there =
         (0, ap (λ b. slice_get (cond b (y ∷ filter keep ys) (filter keep ys)) 0) (ap keep (same_Some y x at) ∙ passes) ∙ at)
     kept_place keep (y ∷ ys) (suc k) x at passes = by_head (keep y) (kept_place keep ys k x at passes)
       where
-        by_head : (b : Bool) → ((j : ℕ) × (slice_get (filter keep ys) j ≡ Some x)) → (j : ℕ) × (slice_get (cond b (y ∷ filter keep ys) (filter keep ys)) j ≡ Some x)
+        by_head : (b : Bool) → ((j : ℕ) × (slice_get (filter keep ys) j ≡ Some x)) →
+            (j : ℕ) × (slice_get (cond b (y ∷ filter keep ys) (filter keep ys)) j ≡ Some x)
         by_head true later = (suc later.0, later.1)
         by_head false later = later
 
 -- Vertices.
 
 -- the vertex of the one LSA that is sought, where it leads back
-pub back_at : (n : ℕ) (sought : Lsa → Bool) (leads : Body → Bool) (xs : List Lsa) (k : ℕ) (x : Lsa) → slice_get xs k ≡ Some x → sought x ≡ true → leads x.body ≡ true →
+pub back_at : (n : ℕ) (sought : Lsa → Bool) (leads : Body → Bool) (xs : List Lsa) (k : ℕ) (x : Lsa) →
+    slice_get xs k ≡ Some x → sought x ≡ true → leads x.body ≡ true →
     ((j : ℕ) (y : Lsa) → slice_get xs j ≡ Some y → sought y ≡ true → j ≡ k) → vertex_back n sought leads xs ≡ Some (n + k)
 back_at n sought leads [] k x at is back only = absurd (none-some x at)
 back_at n sought leads (y ∷ ys) zero x at is back only =
@@ -205,11 +214,13 @@ back_at n sought leads (y ∷ ys) (suc k) x at is back only =
     not_first h = omega arith
 
 -- a router's LSA stands at its number
-pub own_at : (configs : List Config) (said : List OwnedLink) (router : ℕ) → router < length configs → slice_get (own_all configs said) router ≡ Some (own configs said router)
+pub own_at : (configs : List Config) (said : List OwnedLink) (router : ℕ) → router < length configs →
+    slice_get (own_all configs said) router ≡ Some (own configs said router)
 own_at configs said router below =
     at_map (own configs said) (numbers_from 0 (length configs)) router router (number_there 0 (length configs) router below ∙ ap Some (zero-add router))
 
-pub router_vertex : (configs : List Config) (d : Database) (costs : List ℕ) (router : ℕ) (leads : Body → Bool) → AreFit configs d → router < length configs → leads (own configs (all_said configs d costs) router).body ≡ true
+pub router_vertex : (configs : List Config) (d : Database) (costs : List ℕ) (router : ℕ) (leads : Body → Bool) →
+    AreFit configs d → router < length configs → leads (own configs (all_said configs d costs) router).body ≡ true
     → router_back (told configs d costs) (id_of configs router) leads ≡ Some router
 router_vertex configs d costs router leads fit below back =
     let said = all_said configs d costs in
@@ -234,7 +245,8 @@ subnet_same : (a b : ℕ) → Subnet a ≡ Subnet b → a ≡ b
 subnet_same a b h = ap number h
 
 -- no two subnets have designated routers of one address
-pub one_subnet : (configs : List Config) (d : Database) (s j : ℕ) (members others : List ℕ) → AreFit configs d → slice_get d.subnets s ≡ Some members → slice_get d.subnets j ≡ Some others
+pub one_subnet : (configs : List Config) (d : Database) (s j : ℕ) (members others : List ℕ) → AreFit configs d →
+    slice_get d.subnets s ≡ Some members → slice_get d.subnets j ≡ Some others
     → (designated (member_ends (ends_of configs d.links) others)).address ≡ (designated (member_ends (ends_of configs d.links) members)).address → j ≡ s
 one_subnet configs d s j members others fit at at_j same =
     let one = elected_leads configs d s members fit.base at (fit.members s members at) in
@@ -245,7 +257,9 @@ one_subnet configs d s j members others fit at at_j same =
     let link : other.into.link ≡ one.into.link = same_Some other.into.link one.into.link (sym other.into.at ∙ ap (slice_get d.links) place ∙ one.into.at) in
     subnet_same j s (sym other.into.to ∙ ap (λ (z : Linked). z.to) link ∙ one.into.to)
 
-pub network_vertex : (configs : List Config) (d : Database) (costs : List ℕ) (s : ℕ) (members : List ℕ) (leads : Body → Bool) → AreFit configs d → slice_get d.subnets s ≡ Some members → leads (of_subnet (ends_of configs d.links) members).body ≡ true
+pub network_vertex : (configs : List Config) (d : Database) (costs : List ℕ) (s : ℕ) (members : List ℕ) (leads : Body →
+    Bool) → AreFit configs d → slice_get d.subnets s ≡ Some members →
+    leads (of_subnet (ends_of configs d.links) members).body ≡ true
     → network_back (told configs d costs) (designated (member_ends (ends_of configs d.links) members)).address leads ≡ Some (length configs + s)
 network_vertex configs d costs s members leads fit at back =
     let said = all_said configs d costs in
@@ -257,9 +271,11 @@ network_vertex configs d costs s members leads fit at back =
     ∙ back_at (length configs) (is_network_of id) leads (of_subnets ends d.subnets) s (of_subnet ends members) (at_map (of_subnet ends) d.subnets s members at)
     (eq-eqb id id refl) back only
   where
-    only : (j : ℕ) (y : Lsa) → slice_get (of_subnets (ends_of configs d.links) d.subnets) j ≡ Some y → is_network_of (designated (member_ends (ends_of configs d.links) members)).address y ≡ true → j ≡ s
+    only : (j : ℕ) (y : Lsa) → slice_get (of_subnets (ends_of configs d.links) d.subnets) j ≡ Some y →
+        is_network_of (designated (member_ends (ends_of configs d.links) members)).address y ≡ true → j ≡ s
     only j y at_j is =
         let ends = ends_of configs d.links in
         let from = map_at (of_subnet ends) d.subnets j y at_j in
         let named = and_parts (is_network y) (y.id == (designated (member_ends ends members)).address) is in
-        one_subnet configs d s j members from.0 fit at from.1 (sym (ap (λ (z : Lsa). z.id) from.2) ∙ eqb-true y.id (designated (member_ends ends members)).address named.1)
+        one_subnet configs d s j members from.0 fit at from.1 (sym (ap (λ (z : Lsa). z.id) from.2)
+        ∙ eqb-true y.id (designated (member_ends ends members)).address named.1)

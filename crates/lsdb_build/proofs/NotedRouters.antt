@@ -33,7 +33,9 @@ other_noted None router other has apart = absurd (false≢true has)
 other_noted (Some (One first)) router other has apart = ap (λ n. not (n == other)) (eqb-true first router has) ∙ ap not apart
 other_noted (Some Several) router other has apart = refl
 
-module _ {S : Type 0} (old new : IndexMap Subnet Owner S) (router : ℕ) (prefix : Subnet) (owner : Owner) (owner_is : owner ≡ joined (get same_subnet old prefix) router) (updates : Updates same_subnet old new prefix (Some owner)) where
+module _ {S : Type 0} (old new : IndexMap Subnet Owner S) (router : ℕ) (prefix : Subnet) (owner : Owner)
+    (owner_is : owner ≡ joined (get same_subnet old prefix) router)
+    (updates : Updates same_subnet old new prefix (Some owner)) where
   pub noted_there : IsNoted new router prefix
   noted_there = ap (λ found. has_router found router) (updates.1 ∙ ap Some owner_is) ∙ joined_has (get same_subnet old prefix) router
 

@@ -2,21 +2,17 @@
 use Rattle.std.proofs.Common.{◌≡◌, ℕ, zero, suc, ◌+◌, ◌<◌, Bool, true, false, cond, ◌||◌, List, [], ◌∷◌, ◌++◌, Some, map, filter, refl, ap, ◌∙◌, arith, slice_get, slice_index_or}
 use Rattle.std.specs.Prelude.{flat_map}
 use Rattle.std.specs.List.{list_any}
-use Rattle.std.proofs.lemmas.Option.{none-some, same_Some, get_or_from_slice_get}
+use Rattle.std.proofs.lemmas.Option.{none-some, same_Some, slice_get_within, get_or_from_slice_get}
+use Rattle.std.proofs.lemmas.List.Folds.{list_any_at}
 use Rattle.cost_base.specs.Lists.{numbers_from}
 
 -- a test passes at a place
 pub any_at : {X : Type 0} (test : X → Bool) (xs : List X) (k : ℕ) (x : X) → slice_get xs k ≡ Some x → test x ≡ true → list_any test xs ≡ true
-any_at test [] k x at passes = absurd (none-some x at)
-any_at test (y ∷ ys) zero x at passes = ap (λ b. b || list_any test ys) (ap test (same_Some y x at) ∙ passes)
-any_at test (y ∷ ys) (suc k) x at passes = with_later (test y) (any_at test ys k x at passes)
-  where
-    with_later : (b : Bool) → list_any test ys ≡ true → (b || list_any test ys) ≡ true
-    with_later true later = refl
-    with_later false later = later
+any_at test xs k x at passes = list_any_at test xs k x (slice_get_within xs k x at) (ap test (get_or_from_slice_get xs k x x at) ∙ passes)
 
 -- a test passes at an element that is kept
-pub any_kept : {X : Type 0} (keep test : X → Bool) (xs : List X) (k : ℕ) (x : X) → slice_get xs k ≡ Some x → keep x ≡ true → test x ≡ true → list_any test (filter keep xs) ≡ true
+pub any_kept : {X : Type 0} (keep test : X → Bool) (xs : List X) (k : ℕ) (x : X) → slice_get xs k ≡ Some x →
+    keep x ≡ true → test x ≡ true → list_any test (filter keep xs) ≡ true
 any_kept keep test [] k x at kept passes = absurd (none-some x at)
 any_kept keep test (y ∷ ys) zero x at kept passes =
     ap (λ b. list_any test (cond b (y ∷ filter keep ys) (filter keep ys))) (ap keep (same_Some y x at) ∙ kept)
@@ -54,11 +50,8 @@ keeps_none keep [] each = refl
 keeps_none keep (x ∷ xs) each =
     ap (λ b. cond b (x ∷ filter keep xs) (filter keep xs)) (each 0 x refl) ∙ keeps_none keep xs (λ k y at. each (suc k) y at)
 
--- a default that isn't needed
-pub read_at : {X : Type 0} (xs : List X) (k : ℕ) (x d : X) → slice_get xs k ≡ Some x → slice_index_or xs k d ≡ x
-read_at xs k x d at = get_or_from_slice_get xs k x d at
-
 -- a flat map of one element each
-pub flat_ones : {X Y : Type 0} (f : X → List Y) (g : X → Y) (xs : List X) → ((k : ℕ) (x : X) → slice_get xs k ≡ Some x → f x ≡ g x ∷ []) → flat_map f xs ≡ map g xs
+pub flat_ones : {X Y : Type 0} (f : X → List Y) (g : X → Y) (xs : List X) →
+    ((k : ℕ) (x : X) → slice_get xs k ≡ Some x → f x ≡ g x ∷ []) → flat_map f xs ≡ map g xs
 flat_ones f g [] each = refl
 flat_ones f g (x ∷ xs) each = ap (λ ys. ys ++ flat_map f xs) (each 0 x refl) ∙ ap (λ ys. g x ∷ ys) (flat_ones f g xs (λ k y at. each (suc k) y at))

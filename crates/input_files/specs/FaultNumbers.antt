@@ -1,0 +1,8 @@
+-- How the faults of a file as such are written.
+use Rattle.std.specs.Prelude.{ℕ}
+use Rattle.input_files.specs.declared.stop.FileFault.{FileFault}
+use Rattle.input_files.specs.declared.stop.FileFault.TheVariants.{TooLong}
+
+-- the number of a fault
+abbrev pub number_of : FileFault → ℕ
+number_of TooLong = 9
