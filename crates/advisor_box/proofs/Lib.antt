@@ -1,2 +1,2 @@
-mod Asked
+mod AskedAdvisors
 mod Positions

@@ -24,7 +24,7 @@ pub trait Advisor: Drop {
         ensures answer { result ≡ would (state self.old) choices.now }
         ensures state { state self.new ≡ left (state self.old) choices.now };
 
-    /// Hears of an entry that the tree has got.
+    /// Is told an entry that was added to the tree.
     fn told(&mut self, entry: &Entry)
         ensures { state self.new ≡ after (state self.old) entry.now };
 }

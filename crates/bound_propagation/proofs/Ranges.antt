@@ -43,7 +43,8 @@ low_bound (pos w) slack l h k positive within allowed most =
 low_bound (negsuc m) slack l h k positive within allowed most = absurd (omega (arith, ints))
 
 -- the upper bound that a negative coefficient gives
-pub high_bound : (c : ℤ) (slack l h k : ℕ) → c <ℤ pos 0 → k < h - l → nat_abs c * k ≤ slack → slack < nat_abs c * (k + 1) → IsExactBound c slack l h High (l + k)
+pub high_bound : (c : ℤ) (slack l h k : ℕ) → c <ℤ pos 0 → k < h - l → nat_abs c * k ≤ slack →
+    slack < nat_abs c * (k + 1) → IsExactBound c slack l h High (l + k)
 high_bound (pos w) slack l h k negative within allowed most = absurd (omega (arith, ints))
 high_bound (negsuc m) slack l h k negative within allowed most = lowered m slack l h k (omega arith) allowed most
 

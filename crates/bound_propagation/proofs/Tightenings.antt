@@ -18,7 +18,9 @@ use Rattle.path_rows.proofs.TermLaws.{terms_known, term_coefficient, term_or_zer
 use Rattle.std.proofs.lemmas.Bool.{cases_lt}
 
 -- another upper end of one place
-sum_high : (cs : List ℤ) (ls hs : List ℕ) (i v : ℕ) → i < length cs → length cs ≡ length ls → length cs ≡ length hs → (upper_sum cs ls (slice_set hs i v) +ℤ upper (get_or cs i (pos 0)) (slice_index ls i) (slice_index hs i)) ≡ (upper_sum cs ls hs +ℤ upper (get_or cs i (pos 0)) (slice_index ls i) v)
+sum_high : (cs : List ℤ) (ls hs : List ℕ) (i v : ℕ) → i < length cs → length cs ≡ length ls → length cs ≡ length hs →
+    (upper_sum cs ls (slice_set hs i v) +ℤ upper (get_or cs i (pos 0)) (slice_index ls i) (slice_index hs i))
+    ≡ (upper_sum cs ls hs +ℤ upper (get_or cs i (pos 0)) (slice_index ls i) v)
 sum_high [] ls hs i v i_in low high = absurd (omega arith)
 sum_high (c ∷ cs) [] hs i v i_in low high = absurd (omega arith)
 sum_high (c ∷ cs) (l ∷ ls) [] i v i_in low high = absurd (omega arith)
@@ -27,7 +29,9 @@ sum_high (c ∷ cs) (l ∷ ls) (h ∷ hs) (suc i) v i_in low high =
     omega (arith, ints, sum_high cs ls hs i v (omega arith) (omega arith) (omega arith))
 
 -- another lower end of one place
-sum_low : (cs : List ℤ) (ls hs : List ℕ) (i v : ℕ) → i < length cs → length cs ≡ length ls → length cs ≡ length hs → (upper_sum cs (slice_set ls i v) hs +ℤ upper (get_or cs i (pos 0)) (slice_index ls i) (slice_index hs i)) ≡ (upper_sum cs ls hs +ℤ upper (get_or cs i (pos 0)) v (slice_index hs i))
+sum_low : (cs : List ℤ) (ls hs : List ℕ) (i v : ℕ) → i < length cs → length cs ≡ length ls → length cs ≡ length hs →
+    (upper_sum cs (slice_set ls i v) hs +ℤ upper (get_or cs i (pos 0)) (slice_index ls i) (slice_index hs i))
+    ≡ (upper_sum cs ls hs +ℤ upper (get_or cs i (pos 0)) v (slice_index hs i))
 sum_low [] ls hs i v i_in low high = absurd (omega arith)
 sum_low (c ∷ cs) [] hs i v i_in low high = absurd (omega arith)
 sum_low (c ∷ cs) (l ∷ ls) [] i v i_in low high = absurd (omega arith)
@@ -45,7 +49,10 @@ pub record IsPlace (f : Form) (box : CostBox) (var : ℕ) (c : ℤ) (l h : ℕ) 
   pub high : slice_index box.high var ≡ h
 
 -- the place of a term of the form, in lists that the box lends
-pub place_of : (f : Form) (box : CostBox) (ts : List Term) (ls hs : List ℕ) (k : ℕ) (d : Term) (c : ℤ) → ts ≡ terms_of f → k < length ts → length f.coefficients ≡ length box.low → length f.coefficients ≡ length box.high → ls ≡ box.low → hs ≡ box.high → c ≡ (get_or ts k d).coefficient → IsPlace f box (get_or ts k d).var c (get_or ls (get_or ts k d).var 0) (get_or hs (get_or ts k d).var 0)
+pub place_of : (f : Form) (box : CostBox) (ts : List Term) (ls hs : List ℕ) (k : ℕ) (d : Term) (c : ℤ) →
+    ts ≡ terms_of f → k < length ts → length f.coefficients ≡ length box.low → length f.coefficients ≡ length box.high →
+    ls ≡ box.low → hs ≡ box.high → c ≡ (get_or ts k d).coefficient →
+    IsPlace f box (get_or ts k d).var c (get_or ls (get_or ts k d).var 0) (get_or hs (get_or ts k d).var 0)
 place_of f box ts ls hs k d c terms k_in low_count high_count lows highs here =
     let t = get_or ts k d in
     let term = ap (λ (us : List Term). get_or us k d) terms in
@@ -65,7 +72,8 @@ same_upper c d l m h k coefficients lows highs =
     ap (λ (z : ℤ). upper z l h) coefficients ∙ ap (λ (x : ℕ). upper d x h) lows ∙ ap (λ (x : ℕ). upper d m x) highs
 
 -- the greatest value of the form where one variable has another upper bound
-high_moved : (f : Form) (box : CostBox) (var v : ℕ) (c : ℤ) (l h : ℕ) → IsPlace f box var c l h → (greatest f (with_high box var v) +ℤ upper c l h) ≡ (greatest f box +ℤ upper c l v)
+high_moved : (f : Form) (box : CostBox) (var v : ℕ) (c : ℤ) (l h : ℕ) → IsPlace f box var c l h →
+    (greatest f (with_high box var v) +ℤ upper c l h) ≡ (greatest f box +ℤ upper c l v)
 high_moved f box var v c l h place =
     let sums = sum_high f.coefficients box.low box.high var v place.inside place.low_count place.high_count in
     let old = same_upper _ c _ l _ h place.coefficient place.low place.high in
@@ -73,7 +81,8 @@ high_moved f box var v c l h place =
     omega (arith, ints, sums, old, new)
 
 -- where it has another lower bound
-low_moved : (f : Form) (box : CostBox) (var v : ℕ) (c : ℤ) (l h : ℕ) → IsPlace f box var c l h → (greatest f (with_low box var v) +ℤ upper c l h) ≡ (greatest f box +ℤ upper c v h)
+low_moved : (f : Form) (box : CostBox) (var v : ℕ) (c : ℤ) (l h : ℕ) → IsPlace f box var c l h →
+    (greatest f (with_low box var v) +ℤ upper c l h) ≡ (greatest f box +ℤ upper c v h)
 low_moved f box var v c l h place =
     let sums = sum_low f.coefficients box.low box.high var v place.inside place.low_count place.high_count in
     let old = same_upper _ c _ l _ h place.coefficient place.low place.high in
@@ -81,7 +90,8 @@ low_moved f box var v c l h place =
     omega (arith, ints, sums, old, new)
 
 -- where it has one value alone
-bound_moved : (f : Form) (box : CostBox) (var v : ℕ) (c : ℤ) (l h : ℕ) → IsPlace f box var c l h → (greatest f (at_bound box var v) +ℤ upper c l h) ≡ (greatest f box +ℤ upper c v v)
+bound_moved : (f : Form) (box : CostBox) (var v : ℕ) (c : ℤ) (l h : ℕ) → IsPlace f box var c l h →
+    (greatest f (at_bound box var v) +ℤ upper c l h) ≡ (greatest f box +ℤ upper c v v)
 bound_moved f box var v c l h place =
     let within : var < length box.high = omega (arith, place.inside, place.high_count) in
     let cut : IsPlace f (with_high box var v) var c l v = record {
@@ -97,7 +107,9 @@ bound_moved f box var v c l h place =
     omega (arith, ints, first, second)
 
 -- an exact bound of one variable's range is one of the box
-pub exact_of_range : (f : Form) (box : CostBox) (var slack : ℕ) (c : ℤ) (l h : ℕ) (side : Side) (value : ℕ) → IsPlace f box var c l h → pos slack ≡ greatest f box → IsExactBound c slack l h side value → IsExactTightening f box side var value
+pub exact_of_range : (f : Form) (box : CostBox) (var slack : ℕ) (c : ℤ) (l h : ℕ) (side : Side) (value : ℕ) →
+    IsPlace f box var c l h → pos slack ≡ greatest f box → IsExactBound c slack l h side value →
+    IsExactTightening f box side var value
 exact_of_range f box var slack c l h Low value place all bound =
     record {
       var_known = omega (arith, place.inside, place.low_count);
@@ -114,7 +126,9 @@ exact_of_range f box var slack c l h High value place all bound =
     }
 
 -- where one variable's range has no bound, the form refutes no part of the box at that variable
-pub none_of_range : (f : Form) (box : CostBox) (var slack : ℕ) (c : ℤ) (l h : ℕ) (side : Side) (value : ℕ) → IsPlace f box var c l h → pos slack ≡ greatest f box → HasNoBound c slack l h → IsSmaller box side var value → greatest f (removed box side var value) <ℤ pos 0 → ⊥
+pub none_of_range : (f : Form) (box : CostBox) (var slack : ℕ) (c : ℤ) (l h : ℕ) (side : Side) (value : ℕ) →
+    IsPlace f box var c l h → pos slack ≡ greatest f box → HasNoBound c slack l h → IsSmaller box side var value →
+    greatest f (removed box side var value) <ℤ pos 0 → ⊥
 none_of_range f box var slack c l h Low value place all none smaller refuted =
     none Low value (omega (arith, place.low, smaller.0), omega (arith, place.high, smaller.1))
     (omega (arith, ints, high_moved f box var (value - 1) c l h place, all, refuted))
@@ -123,7 +137,8 @@ none_of_range f box var slack c l h High value place all none smaller refuted =
     (omega (arith, ints, low_moved f box var (value + 1) c l h place, all, refuted))
 
 -- a tightening by a row's form is a sound step of a tree of cases
-pub tightens_at : (forms : List Form) (box : CostBox) (side : Side) (var value row : ℕ) → row < length forms → IsExactTightening (form_at forms row) box side var value → TightensAt forms box side var value row
+pub tightens_at : (forms : List Form) (box : CostBox) (side : Side) (var value row : ℕ) → row < length forms →
+    IsExactTightening (form_at forms row) box side var value → TightensAt forms box side var value row
 tightens_at forms box side var value row known step =
     record {
       var_known = step.var_known;
@@ -137,14 +152,19 @@ abbrev pub NoneAt : Form → CostBox → ℕ → Type 0
 NoneAt f box var = (side : Side) (value : ℕ) → IsSmaller box side var value → greatest f (removed box side var value) <ℤ pos 0 → ⊥
 
 -- with coefficient 0 no part is refuted
-none_of_zero : (f : Form) (box : CostBox) (var slack : ℕ) → var < length f.coefficients → length f.coefficients ≡ length box.low → length f.coefficients ≡ length box.high → pos slack ≡ greatest f box → get_or f.coefficients var (pos 0) ≡ pos 0 → NoneAt f box var
+none_of_zero : (f : Form) (box : CostBox) (var slack : ℕ) → var < length f.coefficients →
+    length f.coefficients ≡ length box.low → length f.coefficients ≡ length box.high → pos slack ≡ greatest f box →
+    get_or f.coefficients var (pos 0) ≡ pos 0 → NoneAt f box var
 none_of_zero f box var slack inside low_count high_count all nought side value smaller refuted =
     none_of_range f box var slack (pos 0) (slice_index box.low var) (slice_index box.high var) side value
     (record { inside = inside; low_count = low_count; high_count = high_count; coefficient = nought; low = refl; high = refl })
     all (no_bound (pos 0) slack (slice_index box.low var) (slice_index box.high var) (omega arith)) smaller refuted
 
 -- where the first terms have no bound, no variable before the next term has one
-pub none_before : (f : Form) (box : CostBox) (ts : List Term) (slack k limit : ℕ) (d : Term) → ts ≡ terms_of f → length f.coefficients ≡ length box.low → length f.coefficients ≡ length box.high → pos slack ≡ greatest f box → limit ≤ length f.coefficients → ((j : ℕ) → k ≤ j → j < length ts → limit ≤ (get_or ts j d).var) → ((j : ℕ) → j < k → NoneAt f box (get_or ts j d).var) → NoneBefore f box limit
+pub none_before : (f : Form) (box : CostBox) (ts : List Term) (slack k limit : ℕ) (d : Term) → ts ≡ terms_of f →
+    length f.coefficients ≡ length box.low → length f.coefficients ≡ length box.high → pos slack ≡ greatest f box →
+    limit ≤ length f.coefficients → ((j : ℕ) → k ≤ j → j < length ts → limit ≤ (get_or ts j d).var) →
+    ((j : ℕ) → j < k → NoneAt f box (get_or ts j d).var) → NoneBefore f box limit
 none_before f box ts slack k limit d terms low_count high_count all within behind none var var_in side value smaller refuted =
     elim (term_or_zero f var d) [
       | inl nought ↦ none_of_zero f box var slack (omega arith) low_count high_count all nought side value smaller refuted

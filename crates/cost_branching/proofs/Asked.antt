@@ -12,13 +12,13 @@ use Rattle.area_graph.specs.Area.{Area}
 use Rattle.area_graph.specs.Costs.{LeadsBy, cost}
 use Rattle.path_rows.specs.declared.form.Row.{Row}
 use Rattle.path_rows.specs.declared.problem.Request.{Request}
-use Rattle.path_rows.specs.Forms.{Form}
+use Rattle.path_rows.specs.Forms.{Form, AreMet}
 use Rattle.path_rows.specs.Forms.{no_form, value_at}
 use Rattle.path_rows.specs.Problems.{DesignProblem, IsProblem, ends_of, no_request, request_at}
 use Rattle.path_rows.specs.Rows.{IsRivalOf, IsRow, LeadsEach, form_of_row, forms_of_rows, path_edges}
 use Rattle.rival_separation.specs.Askers.{RequestLeads}
 use Rattle.rival_separation.specs.Rivals.{IsCheapest}
-use Rattle.form_search.specs.Sources.{AreMet, Grows, IsAnswered}
+use Rattle.form_search.specs.Sources.{Grows, IsAnswered}
 use Rattle.form_search.specs.declared.source.Asked.{Asked}
 use Rattle.form_search.specs.declared.source.Asked.TheVariants.{Nothing, Added}
 use Rattle.cost_branching.specs.Pools.{AreRows, Differ, IsPool}
@@ -27,13 +27,16 @@ use Rattle.cost_branching.specs.Asking.{AnswersBelow, AreAllAsked, AreAsked, Are
 use Rattle.cost_branching.specs.SourceLaws.{row_met, value_between}
 
 -- where the forms of rows are at least 0, each of them is
-rows_met : (p : DesignProblem) (rows : List Row) (forms : List Form) (point : Point) → forms ≡ forms_of_rows p rows → AreMet forms point → All (λ row. pos 0 ≤ℤ value_at (form_of_row p row) point) rows
+rows_met : (p : DesignProblem) (rows : List Row) (forms : List Form) (point : Point) → forms ≡ forms_of_rows p rows →
+    AreMet forms point → All (λ row. pos 0 ≤ℤ value_at (form_of_row p row) point) rows
 rows_met p rows forms point same met k d k_in =
     let met_here = subst (λ (fs : List Form). AreMet fs point) same met k no_form (omega (arith, length-map rows (form_of_row p))) in
     subst (λ (f : Form). pos 0 ≤ℤ value_at f point) (get_or-map (form_of_row p) rows k d no_form k_in) met_here
 
 -- no request was asked yet
-pub none_asked : (point : Point) (old : KnownRows) (forms : List Form) → IsPool old.problem (record { rows = old.rows; forms = forms }) → AreMet forms point → AreAsked point 0 old forms old forms Nothing
+pub none_asked : (point : Point) (old : KnownRows) (forms : List Form) →
+    IsPool old.problem (record { rows = old.rows; forms = forms }) → AreMet forms point →
+    AreAsked point 0 old forms old forms Nothing
 none_asked point old forms in_step met = record {
   problem = refl;
   in_step = in_step;
@@ -43,7 +46,9 @@ none_asked point old forms in_step met = record {
 }
 
 -- one request more, whose path leads
-answers_more : (p : DesignProblem) (point : Point) (requests : ℕ) (old_forms forms : List Form) (asked : Asked) → AnswersBelow p point requests old_forms forms asked → LeadsAt p point requests → AnswersBelow p point (requests + 1) old_forms forms asked
+answers_more : (p : DesignProblem) (point : Point) (requests : ℕ) (old_forms forms : List Form) (asked : Asked) →
+    AnswersBelow p point requests old_forms forms asked → LeadsAt p point requests →
+    AnswersBelow p point (requests + 1) old_forms forms asked
 answers_more p point requests old_forms forms Nothing answer leads = (
   answer.0,
   λ k k_in. elim (cases_lt k requests) [
@@ -60,7 +65,10 @@ apart_more : (p : DesignProblem) (point : Point) (requests : ℕ) (row : Row) �
 apart_more p point requests row (inl before) = inl (omega arith)
 apart_more p point requests row (inr met) = inr met
 
-pub more_lead : (point : Point) (requests : ℕ) (old : KnownRows) (old_forms : List Form) (now : KnownRows) (forms : List Form) (new : KnownRows) (new_forms : List Form) (asked : Asked) → AreAsked point requests old old_forms now forms asked → NoRow point requests now forms new new_forms → AreAsked point (requests + 1) old old_forms new new_forms asked
+pub more_lead : (point : Point) (requests : ℕ) (old : KnownRows) (old_forms : List Form) (now : KnownRows)
+    (forms : List Form) (new : KnownRows) (new_forms : List Form) (asked : Asked) →
+    AreAsked point requests old old_forms now forms asked → NoRow point requests now forms new new_forms →
+    AreAsked point (requests + 1) old old_forms new new_forms asked
 more_lead point requests old old_forms now forms new new_forms asked are one =
     subst (λ (s : KnownRows). AreAsked point (requests + 1) old old_forms s new_forms asked) (sym one.rows)
     (subst (λ (fs : List Form). AreAsked point (requests + 1) old old_forms now fs asked) (sym one.forms)
@@ -69,18 +77,22 @@ more_lead point requests old old_forms now forms new new_forms asked are one =
       in_step = are.in_step;
       grows = are.grows;
       apart = All-weaker (Apart old.problem point requests) (Apart old.problem point (requests + 1)) (apart_more old.problem point requests) now.rows are.apart;
-      answer = answers_more old.problem point requests old_forms forms asked are.answer (subst (λ (p : DesignProblem). LeadsAt p point requests) are.problem one.leads);
+      answer = answers_more old.problem point requests old_forms forms asked are.answer
+          (subst (λ (p : DesignProblem). LeadsAt p point requests) are.problem one.leads);
     }))
 
 -- one request more, of which a row came
 
 -- the same request and edges under other names
-pub too_cheap_as : (p : DesignProblem) (point : Point) (k l : ℕ) (edges others : List ℕ) → l ≡ k → others ≡ edges → IsTooCheap p point k edges → IsTooCheap p point l others
+pub too_cheap_as : (p : DesignProblem) (point : Point) (k l : ℕ) (edges others : List ℕ) → l ≡ k → others ≡ edges →
+    IsTooCheap p point k edges → IsTooCheap p point l others
 too_cheap_as p point k l edges others same_request same_edges too_cheap =
     subst (λ (i : ℕ). IsTooCheap p point i others) (sym same_request) (subst (λ (es : List ℕ). IsTooCheap p point k es) (sym same_edges) too_cheap)
 
 -- the cheapest rival of a request's path, where it is cheap
-too_cheap_of : (p : DesignProblem) (point : Point) (k : ℕ) (es : List ℕ) → k < length p.paths → IsCheapest p.graph point (ends_of (request_at p.paths k)) (request_at p.paths k).path.edges es → IsTooCheap p point k es
+too_cheap_of : (p : DesignProblem) (point : Point) (k : ℕ) (es : List ℕ) → k < length p.paths →
+    IsCheapest p.graph point (ends_of (request_at p.paths k)) (request_at p.paths k).path.edges es →
+    IsTooCheap p point k es
 too_cheap_of p point k es known cheapest =
     let here : slice_get p.paths k ≡ Some (request_at p.paths k) = slice_get-get_or p.paths k no_request known in
     record {
@@ -88,24 +100,36 @@ too_cheap_of p point k es known cheapest =
       cheap = subst (λ (r : Option Request). cost p.graph point es < cost p.graph point (path_edges r) + point.scale) (sym here) cheapest.cheap;
     }
 
-either_too_cheap : (p : DesignProblem) (point : Point) (k : ℕ) (es : List ℕ) (beaten : Bool) → k < length p.paths → MatchBool beaten (IsCheapest p.graph point (ends_of (request_at p.paths k)) (request_at p.paths k).path.edges es) (LeadsAt p point k) → MatchBool beaten (IsTooCheap p point k es) (LeadsAt p point k)
+either_too_cheap : (p : DesignProblem) (point : Point) (k : ℕ) (es : List ℕ) (beaten : Bool) → k < length p.paths →
+    MatchBool beaten (IsCheapest p.graph point (ends_of (request_at p.paths k)) (request_at p.paths k).path.edges es)
+    (LeadsAt p point k) → MatchBool beaten (IsTooCheap p point k es) (LeadsAt p point k)
 either_too_cheap p point k es true known cheapest = too_cheap_of p point k es known cheapest
 either_too_cheap p point k es false known leads = leads
 
 -- so it is with the graph and the paths under other names
-pub too_cheap_or_leads : (p : DesignProblem) (g : Area) (paths : List Request) (point : Point) (k : ℕ) (es : List ℕ) (beaten : Bool) → g ≡ p.graph → paths ≡ p.paths → k < length p.paths → MatchBool beaten (IsCheapest g point (ends_of (request_at paths k)) (request_at paths k).path.edges es) (RequestLeads g point (request_at paths k)) → MatchBool beaten (IsTooCheap p point k es) (LeadsAt p point k)
+pub too_cheap_or_leads : (p : DesignProblem) (g : Area) (paths : List Request) (point : Point) (k : ℕ) (es : List ℕ)
+    (beaten : Bool) → g ≡ p.graph → paths ≡ p.paths → k < length p.paths →
+    MatchBool beaten (IsCheapest g point (ends_of (request_at paths k)) (request_at paths k).path.edges es)
+    (RequestLeads g point (request_at paths k)) → MatchBool beaten (IsTooCheap p point k es) (LeadsAt p point k)
 too_cheap_or_leads p g paths point k es beaten same_graph same_paths known is =
-    let by_graph = subst (λ (h : Area). MatchBool beaten (IsCheapest h point (ends_of (request_at paths k)) (request_at paths k).path.edges es) (RequestLeads h point (request_at paths k))) same_graph is in
-    let by_paths = subst (λ (rs : List Request). MatchBool beaten (IsCheapest p.graph point (ends_of (request_at rs k)) (request_at rs k).path.edges es) (RequestLeads p.graph point (request_at rs k))) same_paths by_graph in
+    let by_graph = subst (λ (h : Area).
+    MatchBool beaten (IsCheapest h point (ends_of (request_at paths k)) (request_at paths k).path.edges es)
+    (RequestLeads h point (request_at paths k))) same_graph is in
+    let by_paths = subst (λ (rs : List Request).
+    MatchBool beaten (IsCheapest p.graph point (ends_of (request_at rs k)) (request_at rs k).path.edges es)
+    (RequestLeads p.graph point (request_at rs k))) same_paths by_graph in
     either_too_cheap p point k es beaten known by_paths
 
 -- the rows still begin with those
-pub begun_more : (first : List Row) (point : Point) (request : ℕ) (old : KnownRows) (forms : List Form) (new : KnownRows) (new_forms : List Form) (asked : Bool) → BeginWith first old.rows → IsAskedOf point request old forms new new_forms asked → BeginWith first new.rows
+pub begun_more : (first : List Row) (point : Point) (request : ℕ) (old : KnownRows) (forms : List Form)
+    (new : KnownRows) (new_forms : List Form) (asked : Bool) → BeginWith first old.rows →
+    IsAskedOf point request old forms new new_forms asked → BeginWith first new.rows
 begun_more first point request old forms new new_forms true begun one = record {
   more = begun.more ++ one.row ∷ [];
   same = ap (λ (s : KnownRows). s.rows) one.rows ∙ ap (λ (rows : List Row). rows ++ one.row ∷ []) begun.same ∙ append_assoc first begun.more (one.row ∷ []);
 }
-begun_more first point request old forms new new_forms false begun one = record { more = begun.more; same = ap (λ (s : KnownRows). s.rows) one.rows ∙ begun.same }
+begun_more first point request old forms new new_forms false begun one =
+    record { more = begun.more; same = ap (λ (s : KnownRows). s.rows) one.rows ∙ begun.same }
 
 below_zero : (rival wanted scale : ℕ) → rival < wanted + scale → ((pos rival -ℤ pos wanted) -ℤ pos scale) <ℤ pos 0
 below_zero rival wanted scale cheap = omega (arith, ints)
@@ -113,7 +137,8 @@ below_zero rival wanted scale cheap = omega (arith, ints)
 not_both : (z : ℤ) → pos 0 ≤ℤ z → z <ℤ pos 0 → ⊥
 not_both z above below = omega (arith, ints)
 
-row_negative : (p : DesignProblem) (point : Point) (row : Row) → IsProblem p → length point.values ≡ length p.low → IsTooCheap p point row.request row.rival.edges → value_at (form_of_row p row) point <ℤ pos 0
+row_negative : (p : DesignProblem) (point : Point) (row : Row) → IsProblem p → length point.values ≡ length p.low →
+    IsTooCheap p point row.request row.rival.edges → value_at (form_of_row p row) point <ℤ pos 0
 row_negative p point row kept count cheap =
     subst (λ (z : ℤ). z <ℤ pos 0) (sym (value_between p point (path_edges (slice_get p.paths row.request)) row.rival.edges kept count))
     (below_zero (cost p.graph point row.rival.edges) (cost p.graph point (path_edges (slice_get p.paths row.request))) point.scale cheap.cheap)
@@ -122,52 +147,72 @@ same_row_form : (p : DesignProblem) (a b : Row) → a.request ≡ b.request → 
 same_row_form p a b same_request same_edges = cc
 
 -- a row that came differs from each that is apart
-differs : (p : DesignProblem) (point : Point) (requests : ℕ) (a row : Row) → row.request ≡ requests → value_at (form_of_row p row) point <ℤ pos 0 → Apart p point requests a → Differ a row
+differs : (p : DesignProblem) (point : Point) (requests : ℕ) (a row : Row) → row.request ≡ requests →
+    value_at (form_of_row p row) point <ℤ pos 0 → Apart p point requests a → Differ a row
 differs p point requests a row here negative (inl before) same_request same_edges = omega arith
 differs p point requests a row here negative (inr met) same_request same_edges =
     not_both (value_at (form_of_row p row) point) (subst (λ (f : Form). pos 0 ≤ℤ value_at f point) (same_row_form p a row same_request same_edges) met) negative
 
 -- a pool with one row more
-pool_more : (p : DesignProblem) (point : Point) (requests : ℕ) (rows : List Row) (forms : List Form) (row : Row) → IsPool p (record { rows = rows; forms = forms }) → All (Apart p point requests) rows → row.request ≡ requests → IsTooCheap p point row.request row.rival.edges → value_at (form_of_row p row) point <ℤ pos 0 → IsPool p (record { rows = rows ++ row ∷ []; forms = forms ++ form_of_row p row ∷ [] })
+pool_more : (p : DesignProblem) (point : Point) (requests : ℕ) (rows : List Row) (forms : List Form) (row : Row) →
+    IsPool p (record { rows = rows; forms = forms }) → All (Apart p point requests) rows → row.request ≡ requests →
+    IsTooCheap p point row.request row.rival.edges → value_at (form_of_row p row) point <ℤ pos 0 →
+    IsPool p (record { rows = rows ++ row ∷ []; forms = forms ++ form_of_row p row ∷ [] })
 pool_more p point requests rows forms row pool apart here cheap negative = record {
   rows = All-push (IsRow p) rows row pool.rows cheap.rival;
   once = all_pairs_push Differ rows row pool.once (λ k d k_in. differs p point requests (get_or rows k d) row here negative (apart k d k_in));
   forms = ap (λ (fs : List Form). fs ++ form_of_row p row ∷ []) pool.forms ∙ sym (map-append (form_of_row p) rows (row ∷ []));
 }
 
-grows_more : (p : DesignProblem) (old_forms forms : List Form) (form : Form) → Grows (IsTrueOf p) old_forms forms → IsTrueOf p form → Grows (IsTrueOf p) old_forms (forms ++ form ∷ [])
+grows_more : (p : DesignProblem) (old_forms forms : List Form) (form : Form) → Grows (IsTrueOf p) old_forms forms →
+    IsTrueOf p form → Grows (IsTrueOf p) old_forms (forms ++ form ∷ [])
 grows_more p old_forms forms form grows is = record {
   more = grows.more ++ form ∷ [];
   same = ap (λ (fs : List Form). fs ++ form ∷ []) grows.same ∙ append_assoc old_forms grows.more (form ∷ []);
   more_true = All-push (IsTrueOf p) grows.more form grows.more_true is;
 }
 
-row_added : (point : Point) (requests : ℕ) (old : KnownRows) (old_forms : List Form) (now : KnownRows) (forms : List Form) (asked : Asked) (row : Row) → AreAsked point requests old old_forms now forms asked → AreMet old_forms point → length point.values ≡ length old.problem.low → IsKept old.problem → row.request ≡ requests → IsTooCheap old.problem point row.request row.rival.edges → AreAsked point (requests + 1) old old_forms (record now { rows = now.rows ++ row ∷ [] }) (forms ++ form_of_row old.problem row ∷ []) Added
+row_added : (point : Point) (requests : ℕ) (old : KnownRows) (old_forms : List Form) (now : KnownRows)
+    (forms : List Form) (asked : Asked) (row : Row) → AreAsked point requests old old_forms now forms asked →
+    AreMet old_forms point → length point.values ≡ length old.problem.low → IsKept old.problem →
+    row.request ≡ requests → IsTooCheap old.problem point row.request row.rival.edges →
+    AreAsked point (requests + 1) old old_forms (record now { rows = now.rows ++ row ∷ [] })
+    (forms ++ form_of_row old.problem row ∷ []) Added
 row_added point requests old old_forms now forms asked row are met count kept here cheap =
     let p = old.problem in
     let negative = row_negative p point row kept.problem count cheap in
     record {
       problem = are.problem;
       in_step = pool_more p point requests now.rows forms row are.in_step are.apart here cheap negative;
-      grows = grows_more p old_forms forms (form_of_row p row) are.grows (record { kept = kept; of_row = record { row = row; is_row = cheap.rival; same = refl } });
-      apart = All-push (Apart p point (requests + 1)) now.rows row (All-weaker (Apart p point requests) (Apart p point (requests + 1)) (apart_more p point requests) now.rows are.apart) (inl (omega arith));
+      grows = grows_more p old_forms forms (form_of_row p row) are.grows
+          (record { kept = kept; of_row = record { row = row; is_row = cheap.rival; same = refl } });
+      apart = All-push (Apart p point (requests + 1)) now.rows row
+          (All-weaker (Apart p point requests) (Apart p point (requests + 1)) (apart_more p point requests) now.rows
+          are.apart) (inl (omega arith));
       answer = (
         λ leads. not_both (value_at (form_of_row p row) point) (row_met p point row kept.problem count cheap.rival leads) negative,
         record {
           form = form_of_row p row;
           is_new = Contains-push forms (form_of_row p row);
-          not_old = λ has. not_both (value_at (form_of_row p row) point) (All-contains (λ f. pos 0 ≤ℤ value_at f point) old_forms (form_of_row p row) met has) negative;
+          not_old = λ has. not_both (value_at (form_of_row p row) point)
+              (All-contains (λ f. pos 0 ≤ℤ value_at f point) old_forms (form_of_row p row) met has) negative;
           negative = negative;
         },
       );
     }
 
-pub one_added : (point : Point) (requests : ℕ) (old : KnownRows) (old_forms : List Form) (now : KnownRows) (forms : List Form) (new : KnownRows) (new_forms : List Form) (asked : Asked) → AreAsked point requests old old_forms now forms asked → AreMet old_forms point → length point.values ≡ length old.problem.low → OneRow point requests now forms new new_forms → AreAsked point (requests + 1) old old_forms new new_forms Added
+pub one_added : (point : Point) (requests : ℕ) (old : KnownRows) (old_forms : List Form) (now : KnownRows)
+    (forms : List Form) (new : KnownRows) (new_forms : List Form) (asked : Asked) →
+    AreAsked point requests old old_forms now forms asked → AreMet old_forms point →
+    length point.values ≡ length old.problem.low → OneRow point requests now forms new new_forms →
+    AreAsked point (requests + 1) old old_forms new new_forms Added
 one_added point requests old old_forms now forms new new_forms asked are met count one =
     subst (λ (s : KnownRows). AreAsked point (requests + 1) old old_forms s new_forms Added) (sym one.rows)
     (subst (λ (fs : List Form). AreAsked point (requests + 1) old old_forms (record now { rows = now.rows ++ one.row ∷ [] }) fs Added)
     (sym (one.forms ∙ ap (λ (p : DesignProblem). forms ++ form_of_row p one.row ∷ []) are.problem))
-    (row_added point requests old old_forms now forms asked one.row are met count (subst IsKept are.problem one.kept) one.request_is (subst (λ (p : DesignProblem). IsTooCheap p point one.row.request one.row.rival.edges) are.problem one.cheap)))
+    (row_added point requests old old_forms now forms asked one.row are met count (subst IsKept are.problem one.kept)
+    one.request_is (subst (λ (p : DesignProblem). IsTooCheap p point one.row.request one.row.rival.edges)
+    are.problem one.cheap)))
 
 -- where the paths of all requests lead, each path leads
 pub all_lead : (p : DesignProblem) (point : Point) (requests : ℕ) → length p.paths ≤ requests → ((k : ℕ) → k < requests → LeadsAt p point k) → LeadsEach p point
@@ -175,10 +220,14 @@ all_lead p point requests all lead =
     All-from_get_or (λ r. LeadsBy point.scale p.graph point (ends_of r) r.path.edges) p.paths no_request (λ k k_in. lead k (omega arith))
 
 -- all requests were asked
-pub all_asked : (point : Point) (requests : ℕ) (old : KnownRows) (old_forms : List Form) (new : KnownRows) (new_forms : List Form) (asked : Asked) → length old.problem.paths ≤ requests → AreAsked point requests old old_forms new new_forms asked → IsAnswered (LeadsEach old.problem) point old_forms new_forms asked
+pub all_asked : (point : Point) (requests : ℕ) (old : KnownRows) (old_forms : List Form) (new : KnownRows)
+    (new_forms : List Form) (asked : Asked) → length old.problem.paths ≤ requests →
+    AreAsked point requests old old_forms new new_forms asked →
+    IsAnswered (LeadsEach old.problem) point old_forms new_forms asked
 all_asked point requests old old_forms new new_forms asked all are = by_answer asked are.answer
   where
-    by_answer : (asked : Asked) → AnswersBelow old.problem point requests old_forms new_forms asked → IsAnswered (LeadsEach old.problem) point old_forms new_forms asked
+    by_answer : (asked : Asked) → AnswersBelow old.problem point requests old_forms new_forms asked →
+        IsAnswered (LeadsEach old.problem) point old_forms new_forms asked
     by_answer Nothing answer = (all_lead old.problem point requests all answer.1, answer.0)
     by_answer Added answer = answer
 
@@ -188,7 +237,8 @@ all_asked point requests old old_forms new new_forms asked all are = by_answer a
 pub pool_of_rows : (p : DesignProblem) (rows : List Row) → AreRows p rows → IsPool p (record { rows = rows; forms = forms_of_rows p rows })
 pool_of_rows p rows are = record { rows = are.0; once = are.1; forms = refl }
 
-pub none_asked_among : (point : Point) (old : KnownRows) (forms : List Form) → AreRows old.problem old.rows → AreMet (forms_of_rows old.problem old.rows) point → AreAskedAmong point 0 old forms old forms Nothing
+pub none_asked_among : (point : Point) (old : KnownRows) (forms : List Form) → AreRows old.problem old.rows →
+    AreMet (forms_of_rows old.problem old.rows) point → AreAskedAmong point 0 old forms old forms Nothing
 none_asked_among point old forms are met = record {
   own = none_asked point old (forms_of_rows old.problem old.rows) (pool_of_rows old.problem old.rows are) met;
   more = [];
@@ -197,36 +247,65 @@ none_asked_among point old forms are met = record {
   grows = record { more = []; same = sym (append-nil forms); more_true = All-nil (IsTrueOf old.problem) };
 }
 
-pub more_lead_among : (point : Point) (requests : ℕ) (old : KnownRows) (old_forms : List Form) (now : KnownRows) (forms : List Form) (new : KnownRows) (new_forms : List Form) (asked : Asked) → AreAskedAmong point requests old old_forms now forms asked → NoRow point requests now forms new new_forms → AreAskedAmong point (requests + 1) old old_forms new new_forms asked
+pub more_lead_among : (point : Point) (requests : ℕ) (old : KnownRows) (old_forms : List Form) (now : KnownRows)
+    (forms : List Form) (new : KnownRows) (new_forms : List Form) (asked : Asked) →
+    AreAskedAmong point requests old old_forms now forms asked → NoRow point requests now forms new new_forms →
+    AreAskedAmong point (requests + 1) old old_forms new new_forms asked
 more_lead_among point requests old old_forms now forms new new_forms asked are one =
     let own = forms_of_rows old.problem now.rows in
     let same : forms_of_rows old.problem new.rows ≡ own = ap (λ (s : KnownRows). forms_of_rows old.problem s.rows) one.rows in
     record {
-      own = more_lead point requests old (forms_of_rows old.problem old.rows) now own new (forms_of_rows old.problem new.rows) asked are.own (record { leads = one.leads; rows = one.rows; forms = same });
+      own = more_lead point requests old (forms_of_rows old.problem old.rows) now own new
+          (forms_of_rows old.problem new.rows) asked are.own
+          (record { leads = one.leads; rows = one.rows; forms = same });
       more = are.more;
       rows = same ∙ are.rows;
       forms = one.forms ∙ are.forms;
       grows = subst (λ (fs : List Form). Grows (IsTrueOf old.problem) old_forms fs) (sym one.forms) are.grows;
     }
 
-pub one_added_among : (point : Point) (requests : ℕ) (old : KnownRows) (old_forms : List Form) (now : KnownRows) (forms : List Form) (new : KnownRows) (new_forms : List Form) (asked : Asked) → AreAskedAmong point requests old old_forms now forms asked → AreMet (forms_of_rows old.problem old.rows) point → length point.values ≡ length old.problem.low → OneRow point requests now forms new new_forms → AreAskedAmong point (requests + 1) old old_forms new new_forms Added
+pub one_added_among : (point : Point) (requests : ℕ) (old : KnownRows) (old_forms : List Form) (now : KnownRows)
+    (forms : List Form) (new : KnownRows) (new_forms : List Form) (asked : Asked) →
+    AreAskedAmong point requests old old_forms now forms asked → AreMet (forms_of_rows old.problem old.rows) point →
+    length point.values ≡ length old.problem.low → OneRow point requests now forms new new_forms →
+    AreAskedAmong point (requests + 1) old old_forms new new_forms Added
 one_added_among point requests old old_forms now forms new new_forms asked are met count one =
     let p = old.problem in
     let own = forms_of_rows p now.rows in
     let form = form_of_row p one.row in
     let row_form : form_of_row now.problem one.row ≡ form = ap (λ (q : DesignProblem). form_of_row q one.row) are.own.problem in
-    let grown : forms_of_rows p new.rows ≡ own ++ form ∷ [] = ap (λ (s : KnownRows). forms_of_rows p s.rows) one.rows ∙ map-append (form_of_row p) now.rows (one.row ∷ []) in
+    let grown : forms_of_rows p new.rows ≡ own ++ form ∷ [] = ap (λ (s : KnownRows). forms_of_rows p s.rows) one.rows
+    ∙ map-append (form_of_row p) now.rows (one.row ∷ []) in
     record {
       own = one_added point requests old (forms_of_rows p old.rows) now own new (forms_of_rows p new.rows) asked are.own met count
-          (record { kept = one.kept; row = one.row; request_is = one.request_is; cheap = one.cheap; rows = one.rows; forms = grown ∙ ap (λ (f : Form). own ++ f ∷ []) (sym row_form) });
+          (record {
+            kept = one.kept;
+            row = one.row;
+            request_is = one.request_is;
+            cheap = one.cheap;
+            rows = one.rows;
+            forms = grown ∙ ap (λ (f : Form). own ++ f ∷ []) (sym row_form);
+          });
       more = are.more ++ form ∷ [];
       rows = grown ∙ ap (λ (fs : List Form). fs ++ form ∷ []) are.rows ∙ append_assoc (forms_of_rows p old.rows) are.more (form ∷ []);
-      forms = one.forms ∙ ap (λ (f : Form). forms ++ f ∷ []) row_form ∙ ap (λ (fs : List Form). fs ++ form ∷ []) are.forms ∙ append_assoc old_forms are.more (form ∷ []);
+      forms = one.forms ∙ ap (λ (f : Form). forms ++ f ∷ []) row_form
+          ∙ ap (λ (fs : List Form). fs ++ form ∷ []) are.forms ∙ append_assoc old_forms are.more (form ∷ []);
       grows = subst (λ (fs : List Form). Grows (IsTrueOf p) old_forms fs) (sym (one.forms ∙ ap (λ (f : Form). forms ++ f ∷ []) row_form))
-          (grows_more p old_forms forms form are.grows (record { kept = subst IsKept are.own.problem one.kept; of_row = record { row = one.row; is_row = (subst (λ (q : DesignProblem). IsTooCheap q point one.row.request one.row.rival.edges) are.own.problem one.cheap).rival; same = refl } }));
+          (grows_more p old_forms forms form are.grows
+          (record {
+            kept = subst IsKept are.own.problem one.kept;
+            of_row = record {
+              row = one.row;
+              is_row = (subst (λ (q : DesignProblem). IsTooCheap q point one.row.request one.row.rival.edges)
+                  are.own.problem one.cheap).rival;
+              same = refl;
+            };
+          }));
     }
 
-pub all_asked_among : (point : Point) (requests : ℕ) (old : KnownRows) (old_forms : List Form) (new : KnownRows) (new_forms : List Form) (asked : Asked) → length old.problem.paths ≤ requests → AreAskedAmong point requests old old_forms new new_forms asked → AreAllAsked point old old_forms new new_forms asked
+pub all_asked_among : (point : Point) (requests : ℕ) (old : KnownRows) (old_forms : List Form) (new : KnownRows)
+    (new_forms : List Form) (asked : Asked) → length old.problem.paths ≤ requests →
+    AreAskedAmong point requests old old_forms new new_forms asked → AreAllAsked point old old_forms new new_forms asked
 all_asked_among point requests old old_forms new new_forms asked all are = record {
   problem = are.own.problem;
   are_rows = (are.own.in_step.rows, are.own.in_step.once);

@@ -37,7 +37,8 @@ uncapped box cap w inside =
     }
 
 -- costs that are found are fit
-costs_fit : (p : DesignProblem) (cap : ℕ) (w : List ℕ) → IsProblem p → IsInBox (capped (box_of p) cap) w → LeadsEach p (record { scale = 1; values = w }) → IsFit p w
+costs_fit : (p : DesignProblem) (cap : ℕ) (w : List ℕ) → IsProblem p → IsInBox (capped (box_of p) cap) w →
+    LeadsEach p (record { scale = 1; values = w }) → IsFit p w
 costs_fit p cap w kept inside leads = record {
   within = uncapped (box_of p) cap w inside;
   only = λ k d k_in. record {
@@ -47,7 +48,8 @@ costs_fit p cap w kept inside leads = record {
 }
 
 -- what is found by the pool's forms is what is decided
-pub decided : (p : DesignProblem) (top nodes cap : ℕ) (pool : Pooled) (found : Found) → IsProblem p → IsPool p pool → IsFound (LeadsEach p) top nodes pool.forms (capped (box_of p) cap) found → IsDecided p top nodes cap pool found
+pub decided : (p : DesignProblem) (top nodes cap : ℕ) (pool : Pooled) (found : Found) → IsProblem p → IsPool p pool →
+    IsFound (LeadsEach p) top nodes pool.forms (capped (box_of p) cap) found → IsDecided p top nodes cap pool found
 decided p top nodes cap pool (Costs w) kept is_pool found = (costs_fit p cap w kept found.0 found.1, found.0)
 decided p top nodes cap pool (Refuted tree) kept is_pool found =
     (subst (λ (fs : List Form). IsSearchTree (LeadsEach p) top fs (capped (box_of p) cap) tree) is_pool.forms found.0, found.1, found.2)
@@ -63,7 +65,8 @@ first_of_more old new more n count same = ap (take n) same ∙ take_at old more 
 pub rows_back : (old new : Pooled) (n : ℕ) → n ≡ length old.rows → MoreRows old new → take n new.rows ≡ old.rows
 rows_back old new n count more = first_of_more old.rows new.rows more.more n count more.same
 
-pub forms_back : (p : DesignProblem) (old new : Pooled) (n : ℕ) → n ≡ length old.rows → IsPool p old → Grows (IsTrueOf p) old.forms new.forms → take n new.forms ≡ old.forms
+pub forms_back : (p : DesignProblem) (old new : Pooled) (n : ℕ) → n ≡ length old.rows → IsPool p old →
+    Grows (IsTrueOf p) old.forms new.forms → take n new.forms ≡ old.forms
 forms_back p old new n count pool grows =
     first_of_more old.forms new.forms grows.more n (count ∙ sym (ap length pool.forms ∙ length-map old.rows (form_of_row p))) grows.same
 
@@ -80,10 +83,15 @@ no_more old new same = record { more = []; same = same ∙ sym (append-nil old.r
 pub pool_true : (p : DesignProblem) (pool : Pooled) → IsKept p → IsPool p pool → All (IsTrueOf p) pool.forms
 pool_true p pool kept is_pool =
     subst (λ (fs : List Form). All (IsTrueOf p) fs) (sym is_pool.forms)
-    (All-map (IsTrueOf p) (form_of_row p) pool.rows (λ k d k_in. record { kept = kept; of_row = record { row = get_or pool.rows k d; is_row = is_pool.rows k d k_in; same = refl } }))
+    (All-map (IsTrueOf p) (form_of_row p) pool.rows
+    (λ k d k_in. record {
+      kept = kept;
+      of_row = record { row = get_or pool.rows k d; is_row = is_pool.rows k d k_in; same = refl };
+    }))
 
 -- a pool of the same problem, with the same rows
-pub pool_as : (p q : DesignProblem) (rows others : List Row) (forms : List Form) → q ≡ p → others ≡ rows → IsPool q (record { rows = rows; forms = forms }) → IsPool p (record { rows = others; forms = forms })
+pub pool_as : (p q : DesignProblem) (rows others : List Row) (forms : List Form) → q ≡ p → others ≡ rows →
+    IsPool q (record { rows = rows; forms = forms }) → IsPool p (record { rows = others; forms = forms })
 pool_as p q rows others forms same_problem same_rows pool =
     subst (λ (r : DesignProblem). IsPool r (record { rows = others; forms = forms })) same_problem
     (subst (λ (rs : List Row). IsPool q (record { rows = rs; forms = forms })) (sym same_rows) pool)

@@ -44,7 +44,8 @@ AnswersBelow p point requests old_forms new_forms Added = (LeadsEach p point →
 
 -- The first requests were asked: rows and forms are in step, and true forms came. A row is of one of these requests, or its
 -- form is at least 0 at the point.
-pub record AreAsked (point : Point) (requests : ℕ) (old : KnownRows) (old_forms : List Form) (new : KnownRows) (new_forms : List Form) (asked : Asked) : Type 0 where
+pub record AreAsked (point : Point) (requests : ℕ) (old : KnownRows) (old_forms : List Form) (new : KnownRows)
+    (new_forms : List Form) (asked : Asked) : Type 0 where
   pub problem : new.problem ≡ old.problem
   pub in_step : IsPool old.problem (record { rows = new.rows; forms = new_forms })
   pub grows : Grows (IsTrueOf old.problem) old_forms new_forms
@@ -53,7 +54,8 @@ pub record AreAsked (point : Point) (requests : ℕ) (old : KnownRows) (old_form
 
 -- The first requests were asked, where the pool may hold other forms besides those of the rows: it got the forms of the rows
 -- that came, and no other.
-pub record AreAskedAmong (point : Point) (requests : ℕ) (old : KnownRows) (old_forms : List Form) (new : KnownRows) (new_forms : List Form) (asked : Asked) : Type 0 where
+pub record AreAskedAmong (point : Point) (requests : ℕ) (old : KnownRows) (old_forms : List Form) (new : KnownRows)
+    (new_forms : List Form) (asked : Asked) : Type 0 where
   pub own : AreAsked point requests old (forms_of_rows old.problem old.rows) new (forms_of_rows old.problem new.rows) asked
   pub more : List Form
   pub rows : forms_of_rows old.problem new.rows ≡ forms_of_rows old.problem old.rows ++ more

@@ -33,14 +33,19 @@ use Rattle.cost_branching.specs.Rivals.{IsTrueOf}
 
 -- The value of a form of two paths at a point.
 
-pub value_between : (p : DesignProblem) (point : Point) (wanted rival : List ℕ) → IsProblem p → length point.values ≡ length p.low → value_at (form_between p.graph (length p.low) wanted rival) point ≡ ((pos (cost p.graph point rival) -ℤ pos (cost p.graph point wanted)) -ℤ pos point.scale)
+pub value_between : (p : DesignProblem) (point : Point) (wanted rival : List ℕ) → IsProblem p →
+    length point.values ≡ length p.low → value_at (form_between p.graph (length p.low) wanted rival) point
+    ≡ ((pos (cost p.graph point rival) -ℤ pos (cost p.graph point wanted)) -ℤ pos point.scale)
 value_between p point wanted rival kept count =
     let priced = subst (λ (n : ℕ). All (λ edge. IsPriced n edge.price) p.graph.edges) (sym count) kept.priced in
-    subst (λ (n : ℕ). value_at (form_between p.graph n wanted rival) point ≡ ((pos (cost p.graph point rival) -ℤ pos (cost p.graph point wanted)) -ℤ pos point.scale)) count
+    subst (λ (n : ℕ). value_at (form_between p.graph n wanted rival) point
+    ≡ ((pos (cost p.graph point rival) -ℤ pos (cost p.graph point wanted)) -ℤ pos point.scale)) count
     (value-form_between p.graph point wanted rival priced)
 
 -- where each path leads, a rival costs at least the scale more
-pub rival_dearer : (g : Area) (point : Point) (paths : List Request) (k : ℕ) (es : List ℕ) → All (λ r. LeadsBy point.scale g point (ends_of r) r.path.edges) paths → IsRivalOf g (slice_get paths k) es → cost g point (path_edges (slice_get paths k)) + point.scale ≤ cost g point es
+pub rival_dearer : (g : Area) (point : Point) (paths : List Request) (k : ℕ) (es : List ℕ) →
+    All (λ r. LeadsBy point.scale g point (ends_of r) r.path.edges) paths → IsRivalOf g (slice_get paths k) es →
+    cost g point (path_edges (slice_get paths k)) + point.scale ≤ cost g point es
 rival_dearer g point [] k es leads rival = absurd rival
 rival_dearer g point (r ∷ rs) zero es leads rival = leads 0 no_request (omega arith) es rival.0 rival.1
 rival_dearer g point (r ∷ rs) (suc k) es leads rival = rival_dearer g point rs k es (λ i d i_in. leads (suc i) d (omega arith)) rival
@@ -54,7 +59,9 @@ route_of_rival g (Some r) es rival = rival.0
 abbrev path_at : DesignProblem → Row → List ℕ
 path_at p row = (get_or p.paths row.request no_request).path.edges
 
-pub paths_of_row : (p : DesignProblem) (row : Row) → IsProblem p → IsRivalOf p.graph (slice_get p.paths row.request) row.rival.edges → RowPaths p row no_request (path_at p row) row.rival.edges
+pub paths_of_row : (p : DesignProblem) (row : Row) → IsProblem p →
+    IsRivalOf p.graph (slice_get p.paths row.request) row.rival.edges →
+    RowPaths p row no_request (path_at p row) row.rival.edges
 paths_of_row p row kept rival =
     row_paths p row no_request (path_at p row) row.rival.edges kept (route_of_rival p.graph (slice_get p.paths row.request) row.rival.edges rival) refl refl
 
@@ -62,10 +69,13 @@ pub at_least : (rival wanted scale : ℕ) → wanted + scale ≤ rival → pos 0
 at_least rival wanted scale dearer = omega (arith, ints)
 
 -- a row's form is at least 0 where each path leads
-pub row_met : (p : DesignProblem) (point : Point) (row : Row) → IsProblem p → length point.values ≡ length p.low → IsRivalOf p.graph (slice_get p.paths row.request) row.rival.edges → LeadsEach p point → pos 0 ≤ℤ value_at (form_of_row p row) point
+pub row_met : (p : DesignProblem) (point : Point) (row : Row) → IsProblem p → length point.values ≡ length p.low →
+    IsRivalOf p.graph (slice_get p.paths row.request) row.rival.edges → LeadsEach p point →
+    pos 0 ≤ℤ value_at (form_of_row p row) point
 row_met p point row kept count rival leads =
     subst (λ (z : ℤ). pos 0 ≤ℤ z) (sym (value_between p point (path_edges (slice_get p.paths row.request)) row.rival.edges kept count))
-    (at_least (cost p.graph point row.rival.edges) (cost p.graph point (path_edges (slice_get p.paths row.request))) point.scale (rival_dearer p.graph point p.paths row.request row.rival.edges leads rival))
+    (at_least (cost p.graph point row.rival.edges) (cost p.graph point (path_edges (slice_get p.paths row.request)))
+    point.scale (rival_dearer p.graph point p.paths row.request row.rival.edges leads rival))
 
 below : (a b c : ℕ) → a ≤ b → b < c → a < c
 below a b c first later = omega arith
@@ -74,12 +84,15 @@ pub true_forms_hold : (p : DesignProblem) (form : Form) → IsTrueOf p form → 
 true_forms_hold p form is =
     let row = is.of_row.row in
     let paths = paths_of_row p row is.kept.problem is.of_row.is_row in
-    let small = subst (λ (f : Form). IsSmallForm (length p.low) f) (paths.form ∙ is.of_row.same) (simple_form_small p.graph (length p.low) _ _ (path_at p row) row.rival.edges is.kept.graph is.kept.metrics is.kept.problem.priced paths.wanted_path paths.rival_path) in
+    let small = subst (λ (f : Form). IsSmallForm (length p.low) f) (paths.form ∙ is.of_row.same)
+    (simple_form_small p.graph (length p.low) _ _ (path_at p row) row.rival.edges is.kept.graph is.kept.metrics
+    is.kept.problem.priced paths.wanted_path paths.rival_path) in
     record {
       count = small.count;
       sizes = small.sizes;
       values = λ w count each. below (nat_abs (value form w)) _ (2 ^ 27) (value_size form w (λ k d k_in. let within = each k d k_in in omega arith)) small.size;
-      met = λ point count leads. subst (λ (f : Form). pos 0 ≤ℤ value_at f point) is.of_row.same (row_met p point row is.kept.problem count is.of_row.is_row leads);
+      met = λ point count leads. subst (λ (f : Form). pos 0 ≤ℤ value_at f point) is.of_row.same
+          (row_met p point row is.kept.problem count is.of_row.is_row leads);
     }
 
 -- Every true form stands in the list of the candidates.
@@ -87,7 +100,8 @@ true_forms_hold p form is =
 pub contains-map : {X Y : Type 0} (f : X → Y) (xs : List X) (x : X) → Contains xs x → Contains (map f xs) (f x)
 contains-map f xs x has = (has.0, omega (arith, length-map xs f, has.1), get_or-map f xs has.0 x (f x) has.1 ∙ ap f has.2)
 
-begun-at : (xs : List ℕ) (lists : List (List ℕ)) (y : ℕ) (ys : List ℕ) (k : ℕ) → k < length xs → get_or xs k y ≡ y → Contains lists ys → Contains (begun_by xs lists) (y ∷ ys)
+begun-at : (xs : List ℕ) (lists : List (List ℕ)) (y : ℕ) (ys : List ℕ) (k : ℕ) → k < length xs → get_or xs k y ≡ y →
+    Contains lists ys → Contains (begun_by xs lists) (y ∷ ys)
 begun-at [] lists y ys k k_in same has = absurd (omega arith)
 begun-at (x ∷ xs) lists y ys zero k_in same has =
     Contains-append_left (map (λ zs. x ∷ zs) lists) (begun_by xs lists) (y ∷ ys)
@@ -107,13 +121,17 @@ within-listed xs (suc most) (y ∷ ys) known short =
 number-listed : (n e : ℕ) → e < n → Contains (numbers_from 0 n) e
 number-listed n e known = (e, omega (arith, length-numbers_from 0 n), get_or-numbers_from 0 n e e known ∙ omega arith)
 
-form-listed : (p : DesignProblem) (paths : List Request) (k : ℕ) (es : List ℕ) → IsRivalOf p.graph (slice_get paths k) es → Contains (edge_lists p) es → Contains (forms_of_requests p paths) (form_between p.graph (length p.low) (path_edges (slice_get paths k)) es)
+form-listed : (p : DesignProblem) (paths : List Request) (k : ℕ) (es : List ℕ) →
+    IsRivalOf p.graph (slice_get paths k) es → Contains (edge_lists p) es →
+    Contains (forms_of_requests p paths) (form_between p.graph (length p.low) (path_edges (slice_get paths k)) es)
 form-listed p [] k es rival has = absurd rival
 form-listed p (r ∷ rs) zero es rival has =
-    Contains-append_left (map (form_between p.graph (length p.low) r.path.edges) (edge_lists p)) (forms_of_requests p rs) (form_between p.graph (length p.low) r.path.edges es)
+    Contains-append_left (map (form_between p.graph (length p.low) r.path.edges) (edge_lists p))
+    (forms_of_requests p rs) (form_between p.graph (length p.low) r.path.edges es)
     (contains-map (form_between p.graph (length p.low) r.path.edges) (edge_lists p) es has)
 form-listed p (r ∷ rs) (suc k) es rival has =
-    Contains-append_right (map (form_between p.graph (length p.low) r.path.edges) (edge_lists p)) (forms_of_requests p rs) (form_between p.graph (length p.low) (path_edges (slice_get rs k)) es)
+    Contains-append_right (map (form_between p.graph (length p.low) r.path.edges) (edge_lists p))
+    (forms_of_requests p rs) (form_between p.graph (length p.low) (path_edges (slice_get rs k)) es)
     (form-listed p rs k es rival has)
 
 -- the edges of a simple path are one of the short lists
@@ -121,7 +139,8 @@ pub path_listed : (p : DesignProblem) (ends : Ends) (es : List ℕ) → FitsGrap
 path_listed p ends es fits path =
     let known = path-known p.graph ends es path in
     let short = simple-short p.graph ends.start es ends.end fits path.simple in
-    within-listed (numbers_from 0 (length p.graph.edges)) (length p.graph.vertices) es (λ k d k_in. number-listed (length p.graph.edges) (get_or es k d) (known k d k_in)) (omega (arith, short))
+    within-listed (numbers_from 0 (length p.graph.edges)) (length p.graph.vertices) es
+    (λ k d k_in. number-listed (length p.graph.edges) (get_or es k d) (known k d k_in)) (omega (arith, short))
 
 pub true_forms_listed : (p : DesignProblem) (form : Form) → IsTrueOf p form → Contains (candidate_forms p) form
 true_forms_listed p form is =

@@ -2,7 +2,7 @@
 ghost use Rattle.std.specs.Prelude.{◌≡◌, ◌≤◌, length, All, IfOk, OnOk};
 ghost use Rattle.path_rows.specs.Boxes.{IsBox};
 ghost use Rattle.path_rows.specs.Rows.{LeadsEach};
-ghost use Rattle.form_search.specs.Advised.{AreLeft, IsCalled};
+ghost use Rattle.form_search.specs.Advised.{AreCalled};
 ghost use Rattle.form_search.specs.Finds.{IsFound};
 ghost use Rattle.form_search.specs.Sources.{Grows};
 ghost use Rattle.cost_branching.specs.Pools.{IsPool, MoreRows};
@@ -39,9 +39,7 @@ fn search_rivals<B: Begun>(
     ensures pool { OnOk result (IsPool problem.now pool.new) }
     ensures rows { MoreRows pool.old pool.new }
     ensures forms { Grows (IsTrueOf problem.now) pool.old.forms pool.new.forms }
-    ensures advisors { AreLeft
-        (IsCalled (λ b c. c.vtable ≡ b.vtable) (λ b. state b) (λ b. (⟦<dyn Advisor as Advisor>⟧ b.vtable).left) (λ b. (⟦<dyn Advisor as Advisor>⟧ b.vtable).after))
-        advisors.old.items advisors.new.items }
+    ensures advisors { AreCalled ⟦<dyn Advisor as Advisor>⟧ (λ b. b.vtable) (λ b. state b) advisors.old.items advisors.new.items }
 {
     keeps_conditions(problem);
     let asker = Asker::new(alloc, &problem.graph, problem.paths.as_slice())?;
@@ -74,9 +72,7 @@ pub fn decide(
     ensures decided { IfOk result (IsDecided problem.now limits.now.top limits.now.nodes cap pool.new) }
     ensures pool { IsPool problem.now pool.new }
     ensures more { MoreRows pool.old pool.new }
-    ensures advisors { AreLeft
-        (IsCalled (λ b c. c.vtable ≡ b.vtable) (λ b. state b) (λ b. (⟦<dyn Advisor as Advisor>⟧ b.vtable).left) (λ b. (⟦<dyn Advisor as Advisor>⟧ b.vtable).after))
-        advisors.old.items advisors.new.items }
+    ensures advisors { AreCalled ⟦<dyn Advisor as Advisor>⟧ (λ b. b.vtable) (λ b. state b) advisors.old.items advisors.new.items }
 {
     keeps_conditions(problem);
     let costs = box_at(alloc, problem, cap)?;

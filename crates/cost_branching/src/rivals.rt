@@ -1,8 +1,9 @@
 //! The rivals of a problem's wanted paths, as the source of a search.
 ghost use Rattle.std.specs.Prelude.{◌≡◌, ◌<◌, ◌++◌, ◌∷◌, [], length, IfOk, IsTrue, MatchBool, OnErr, OnOk, ◌↔◌};
 ghost use Rattle.path_rows.specs.Rows.{IsRow, LeadsEach, form_of_row, forms_of_rows};
+ghost use Rattle.path_rows.specs.Forms.{AreMet};
 ghost use Rattle.rival_separation.specs.Askers.{IsAskerFor};
-ghost use Rattle.form_search.specs.Sources.{AreMet, Grows, IsCostPoint};
+ghost use Rattle.form_search.specs.Sources.{Grows, IsCostPoint};
 ghost use Rattle.cost_branching.specs.Pools.{AreRows};
 ghost use Rattle.cost_branching.specs.Rivals.{BeginWith, IsKept, IsTooCheap, IsTrueOf, LeadsAt};
 ghost use Rattle.cost_branching.specs.Asking.{AreAllAsked, AreMarkedAt, IsAskedOf};
@@ -80,16 +81,11 @@ pub fn row_of(alloc: Global, request: u32, edges: &[u32]) -> Result<Row, OutOfMe
     ensures request { IfOk result (λ row. row.request ≡ request) }
     ensures edges { IfOk result (λ row. row.rival.edges ≡ edges.now) }
 {
-    match edges.to_vec(alloc) {
-        Ok(edges) => Ok(Row {
-            request,
-            rival: Path {
-                start: 0,
-                edges: Listed::from_items(edges),
-            },
-        }),
-        Err(_) => Err(OutOfMemory),
-    }
+    let edges = Listed::from_slice(alloc, edges)?;
+    Ok(Row {
+        request,
+        rival: Path { start: 0, edges },
+    })
 }
 
 /// Marks the requests whose paths don't lead at the point by the scale.

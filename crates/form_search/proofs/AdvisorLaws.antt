@@ -17,7 +17,8 @@ all_alike : {A : Type 0} (Step : A → A → Type 0) (xs : List A) → AllZip (L
 all_alike Step [] = tt
 all_alike Step (x ∷ xs) = (none x, all_alike Step xs)
 
-all_stepped : {A : Type 0} (Step Called : A → A → Type 0) → ((a b : A) → Called a b → Step a b) → (xs ys : List A) → AllZip Called xs ys → AllZip (Leads Step) xs ys
+all_stepped : {A : Type 0} (Step Called : A → A → Type 0) → ((a b : A) → Called a b → Step a b) → (xs ys : List A) →
+    AllZip Called xs ys → AllZip (Leads Step) xs ys
 all_stepped Step Called is [] [] all = tt
 all_stepped Step Called is [] (y ∷ ys) all = absurd all
 all_stepped Step Called is (x ∷ xs) [] all = absurd all
@@ -46,7 +47,9 @@ pub left_told : {A : Type 0} (Step Called : A → A → Type 0) → ((a b : A) �
 left_told Step Called is xs ys all = record { gone = 0; left = all_stepped Step Called is xs ys all }
 
 -- one is asked, and those before it are gone
-pub left_chosen : {A : Type 0} (Step Asked : A → A → Type 0) (would : A → ℕ) (choices : ℕ) → ((a b : A) → Asked a b → Step a b) → (xs : List A) (answer : ℕ) (ys : List A) → IsChosen would Asked choices xs answer ys → AreLeft Step xs ys
+pub left_chosen : {A : Type 0} (Step Asked : A → A → Type 0) (would : A → ℕ) (choices : ℕ) →
+    ((a b : A) → Asked a b → Step a b) → (xs : List A) (answer : ℕ) (ys : List A) →
+    IsChosen would Asked choices xs answer ys → AreLeft Step xs ys
 left_chosen Step Asked would choices is [] answer ys chosen = left_alike Step [] ys chosen.1
 left_chosen Step Asked would choices is (x ∷ xs) answer ys chosen =
     elim (cases_lt (would x) choices) [
@@ -57,7 +60,8 @@ left_chosen Step Asked would choices is (x ∷ xs) answer ys chosen =
     at_first : StandsFirst Asked x xs ys → AreLeft Step (x ∷ xs) ys
     at_first first = record {
       gone = 0;
-      left = subst (λ (zs : List _). AllZip (Leads Step) (x ∷ xs) zs) (sym first.those_left) (one_step Step x first.first (is x first.first first.asked), all_alike Step xs);
+      left = subst (λ (zs : List _). AllZip (Leads Step) (x ∷ xs) zs) (sym first.those_left)
+          (one_step Step x first.first (is x first.first first.asked), all_alike Step xs);
     }
 
     further : AreLeft Step xs ys → AreLeft Step (x ∷ xs) ys

@@ -7,14 +7,14 @@ use Rattle.std.proofs.lemmas.List.{length-map}
 use Rattle.std.proofs.lemmas.Bool.{cases_lt}
 use Rattle.area_graph.specs.declared.Point.{Point}
 use Rattle.area_graph.specs.Costs.{at_costs}
-use Rattle.path_rows.specs.Forms.{Form}
+use Rattle.path_rows.specs.Forms.{Form, AreMet}
 use Rattle.path_rows.specs.declared.form.CostBox.{CostBox}
 use Rattle.path_rows.specs.Forms.{added, dot, form_at, value, value_at, weighted}
 use Rattle.path_rows.specs.Boxes.{IsBox, IsInBox, IsPointOf, Refutes, greatest, upper, upper_sum}
 use Rattle.path_rows.specs.Trees.{CutsAt}
 use Rattle.path_rows.specs.Earnest.{Before, IsLeast, SplitsFraction}
 use Rattle.advisor_box.specs.declared.candidate.Candidate.{Candidate}
-use Rattle.form_search.specs.Sources.{AreMet, IsCostPoint, IsTrueForm, scaled}
+use Rattle.form_search.specs.Sources.{IsCostPoint, IsTrueForm, scaled}
 use Rattle.form_search.specs.Points.{IsCostsBox, IsFractional}
 
 low_first : (n : ℕ) (box : CostBox) → IsCostsBox n box → (k : ℕ) → k < n → 1 ≤ slice_index box.low k
@@ -45,8 +45,12 @@ cost_point n box point kept inside small =
       count = count;
       scale = inside.scale;
       scale_below = small;
-      least = each_at (λ x. point.scale ≤ x) point.values (λ k k_in. scaled_least (slice_index box.low k) (slice_index point.values k) point.scale (low_first n box kept k (omega arith)) (inside.above k k_in));
-      most = each_at (λ x. x ≤ 65535 * point.scale) point.values (λ k k_in. scaled_most (slice_index box.high k) (slice_index point.values k) point.scale (high_last n box kept k (omega arith)) (inside.below k k_in));
+      least = each_at (λ x. point.scale ≤ x) point.values
+          (λ k k_in. scaled_least (slice_index box.low k) (slice_index point.values k) point.scale
+          (low_first n box kept k (omega arith)) (inside.above k k_in));
+      most = each_at (λ x. x ≤ 65535 * point.scale) point.values
+          (λ k k_in. scaled_most (slice_index box.high k) (slice_index point.values k) point.scale
+          (high_last n box kept k (omega arith)) (inside.below k k_in));
     }
 
 -- the low corner of a box as costs
@@ -56,7 +60,10 @@ low_values n box kept = each_at (λ x. (1 ≤ x) × (x ≤ 65535)) box.low (λ k
     (low_first n box kept k known, (let a = kept.is_box.ordered k known in let b = high_last n box kept k known in omega arith)))
 
 -- of points that meet the forms the least one that is accepted is the least accepted one
-pub least_accepted : (n : ℕ) (accepted : Point → Type 0) (forms : List Form) (box : CostBox) (point : Point) → IsBox n box → All (IsTrueForm n accepted) forms → IsPointOf box point → ((other : Point) → IsPointOf box other → AreMet forms other → Before other point → ⊥) → accepted point → IsLeast accepted box point
+pub least_accepted : (n : ℕ) (accepted : Point → Type 0) (forms : List Form) (box : CostBox) (point : Point) →
+    IsBox n box → All (IsTrueForm n accepted) forms → IsPointOf box point →
+    ((other : Point) → IsPointOf box other → AreMet forms other → Before other point → ⊥) → accepted point →
+    IsLeast accepted box point
 least_accepted n accepted forms box point kept hold inside least is = record {
   inside = inside;
   accepted = is;
@@ -65,13 +72,16 @@ least_accepted n accepted forms box point kept hold inside least is = record {
 }
 
 -- a candidate cuts its variable's range
-pub candidate_cuts : (n : ℕ) (box : CostBox) (point : Point) (candidate : Candidate) → IsBox n box → IsPointOf box point → IsFractional box point candidate → CutsAt box candidate.var candidate.floor
+pub candidate_cuts : (n : ℕ) (box : CostBox) (point : Point) (candidate : Candidate) → IsBox n box →
+    IsPointOf box point → IsFractional box point candidate → CutsAt box candidate.var candidate.floor
 candidate_cuts n box point candidate kept inside fractional = record {
   var_known = omega (arith, fractional.known, inside.low_count);
   above =
       elim (cases_lt candidate.floor (slice_index box.low candidate.var)) [
         | inl less ↦
-            let more : point.scale * (candidate.floor + 1) ≤ point.scale * slice_index box.low candidate.var = mul-le-mul_left point.scale (let e : candidate.floor + 1 ≤ slice_index box.low candidate.var = omega arith in e) in
+            let more : point.scale * (candidate.floor + 1) ≤ point.scale * slice_index box.low candidate.var =
+            mul-le-mul_left point.scale (let e : candidate.floor + 1 ≤ slice_index box.low candidate.var =
+            omega arith in e) in
             let at_least = inside.above candidate.var fractional.known in
             let below = fractional.below in
             absurd (omega arith)
@@ -89,11 +99,14 @@ candidate_cuts n box point candidate kept inside fractional = record {
 }
 
 -- and the least accepted point is fractional there
-pub candidate_splits : (accepted : Point → Type 0) (box : CostBox) (point : Point) (candidate : Candidate) → IsLeast accepted box point → IsFractional box point candidate → SplitsFraction accepted box candidate.var candidate.floor
+pub candidate_splits : (accepted : Point → Type 0) (box : CostBox) (point : Point) (candidate : Candidate) →
+    IsLeast accepted box point → IsFractional box point candidate →
+    SplitsFraction accepted box candidate.var candidate.floor
 candidate_splits accepted box point candidate least fractional = record { point = point; least = least; above = fractional.above; below = fractional.below }
 
 -- values that are below the upper bounds, and not divided by the scale, are costs of the box
-pub values_inside : (n : ℕ) (box : CostBox) (point : Point) → IsCostsBox n box → IsPointOf box point → ((k : ℕ) → k < length box.high → slice_index point.values k ≤ slice_index box.high k) → IsInBox box point.values
+pub values_inside : (n : ℕ) (box : CostBox) (point : Point) → IsCostsBox n box → IsPointOf box point →
+    ((k : ℕ) → k < length box.high → slice_index point.values k ≤ slice_index box.high k) → IsInBox box point.values
 values_inside n box point kept inside within = record {
   low_count = inside.low_count;
   high_count = inside.high_count;
@@ -118,8 +131,10 @@ whole_inside box w scale inside =
     record {
       low_count = inside.low_count ∙ counted;
       high_count = inside.high_count ∙ counted;
-      above = λ k k_in. divided (slice_index box.low k) (slice_index w k) scale inside.scale (subst (λ (x : ℕ). slice_index box.low k * scale ≤ x) (at w k k_in) (inside.above k (omega arith)));
-      below = λ k k_in. divided (slice_index w k) (slice_index box.high k) scale inside.scale (subst (λ (x : ℕ). x ≤ slice_index box.high k * scale) (at w k k_in) (inside.below k (omega arith)));
+      above = λ k k_in. divided (slice_index box.low k) (slice_index w k) scale inside.scale
+          (subst (λ (x : ℕ). slice_index box.low k * scale ≤ x) (at w k k_in) (inside.above k (omega arith)));
+      below = λ k k_in. divided (slice_index w k) (slice_index box.high k) scale inside.scale
+          (subst (λ (x : ℕ). x ≤ slice_index box.high k * scale) (at w k k_in) (inside.below k (omega arith)));
     }
   where
     at : (xs : List ℕ) (k : ℕ) → k < length xs → slice_index (map (λ x. x * scale) xs) k ≡ slice_index xs k * scale
@@ -189,7 +204,8 @@ weighted_one forms row = λ i. record {
 }
 
 -- one form that is negative all over a box refutes it
-pub refutes_one : (forms : List Form) (row : ℕ) (box : CostBox) → row < length forms → greatest (form_at forms row) box <ℤ pos 0 → Refutes forms ((row, 1) ∷ []) box
+pub refutes_one : (forms : List Form) (row : ℕ) (box : CostBox) → row < length forms →
+    greatest (form_at forms row) box <ℤ pos 0 → Refutes forms ((row, 1) ∷ []) box
 refutes_one forms row box row_in negative = record {
   rows = one_all (λ part. part.0 < length forms) row_in;
   positive = one_all (λ part. 0 < part.1) (omega arith);

@@ -1,8 +1,8 @@
 pub mod AdvisorLaws
 pub mod CostPoints
-pub mod Entries
+pub mod NextEntries
 pub mod GrowingTrees
-pub mod Missing
+pub mod MissingForms
 pub mod Relaxing
 pub mod SourceLaws
-pub mod Turned
+pub mod OtherSources

@@ -14,10 +14,11 @@ use Rattle.form_search.specs.Points.{IsCostsBox}
 use Rattle.form_search.specs.Tables.{IsHeld, IsKept, StandsAt}
 use Rattle.form_search.specs.Turns.{HasNew}
 use Rattle.form_search.proofs.CostPoints.{low_values}
-use Rattle.form_search.proofs.Missing.{missing, missing_falls}
+use Rattle.form_search.proofs.MissingForms.{missing, missing_falls}
 
 -- true forms fit a box of costs
-pub fit_box : (n : ℕ) (accepted : Point → Type 0) (box : CostBox) (forms : List Form) → IsCostsBox n box → All (IsTrueForm n accepted) forms → All (FitsBox box) forms
+pub fit_box : (n : ℕ) (accepted : Point → Type 0) (box : CostBox) (forms : List Form) → IsCostsBox n box →
+    All (IsTrueForm n accepted) forms → All (FitsBox box) forms
 fit_box n accepted box forms kept hold k d k_in =
     let form = hold k d k_in in
     record {
@@ -47,7 +48,8 @@ pub stands_own : (top : ℕ) (box : CostBox) (forms : List Form) (table : HeldTa
 stands_own top box forms table stands = subst (λ (t : ℕ). StandsAt t box forms table) (sym stands.is_held.same_top) stands
 
 -- what was kept in n variables, at a box of n variables
-pub kept_there : (top n : ℕ) (box : CostBox) (forms : List Form) (kept taken : Option HeldTableau) → IsCostsBox n box → taken ≡ kept → IsKept top n forms kept → IsKept top (length box.low) forms taken
+pub kept_there : (top n : ℕ) (box : CostBox) (forms : List Form) (kept taken : Option HeldTableau) → IsCostsBox n box →
+    taken ≡ kept → IsKept top n forms kept → IsKept top (length box.low) forms taken
 kept_there top n box forms kept taken costs same is =
     subst (λ (m : ℕ). IsKept top m forms taken) (sym costs.is_box.low_count) (subst (λ (o : Option HeldTableau). IsKept top n forms o) (sym same) is)
 
@@ -60,6 +62,9 @@ new_true IsTrue old new form grows is_new not_old =
     ]
 
 -- so fewer candidates are missing
-pub new_falls : (IsTrue : Form → Type 0) (candidates old new : List Form) → ((form : Form) → IsTrue form → Contains candidates form) → Grows IsTrue old new → HasNew old new → missing candidates new < missing candidates old
+pub new_falls : (IsTrue : Form → Type 0) (candidates old new : List Form) →
+    ((form : Form) → IsTrue form → Contains candidates form) → Grows IsTrue old new → HasNew old new →
+    missing candidates new < missing candidates old
 new_falls IsTrue candidates old new listed grows has =
-    missing_falls candidates old new has.form grows.more grows.same (listed has.form (new_true IsTrue old new has.form grows has.is_new has.not_old)) has.is_new has.not_old
+    missing_falls candidates old new has.form grows.more grows.same
+    (listed has.form (new_true IsTrue old new has.form grows has.is_new has.not_old)) has.is_new has.not_old

@@ -20,7 +20,8 @@ pub grows_none : (IsTrue : Form → Type 0) (forms : List Form) → Grows IsTrue
 grows_none IsTrue forms = record { more = []; same = sym (append-nil forms); more_true = All-nil IsTrue }
 
 -- and then by the source that the first call left
-pub grows_then : (First Second : Form → Type 0) (old mid new : List Form) → SameFor First Second → Grows First old mid → Grows Second mid new → Grows First old new
+pub grows_then : (First Second : Form → Type 0) (old mid new : List Form) → SameFor First Second → Grows First old mid →
+    Grows Second mid new → Grows First old new
 grows_then First Second old mid new same first second = record {
   more = first.more ++ second.more;
   same = second.same ∙ (ap (λ (fs : List Form). fs ++ second.more) first.same ∙ append_assoc old first.more second.more);
@@ -32,7 +33,8 @@ pub trues_kept : (First Second : Form → Type 0) (old new : List Form) → Same
 trues_kept First Second old new same all grows =
     all_same First Second new same (subst (λ (fs : List Form). All First fs) (sym grows.same) (All-append First old grows.more all grows.more_true))
 
-module _ {Source : Type 0} (count : Source → ℕ) (accepted : Source → Point → Type 0) (true_form : Source → Form → Type 0) (candidates : Source → List Form) where
+module _ {Source : Type 0} (count : Source → ℕ) (accepted : Source → Point → Type 0) (true_form : Source → Form →
+    Type 0) (candidates : Source → List Form) where
   pub same_alike : (source : Source) → SameSource count accepted true_form candidates source source
   same_alike source = record {
     same_count = refl;
@@ -41,7 +43,8 @@ module _ {Source : Type 0} (count : Source → ℕ) (accepted : Source → Point
     same_candidates = refl;
   }
 
-  pub same_then : (old mid new : Source) → SameSource count accepted true_form candidates old mid → SameSource count accepted true_form candidates mid new → SameSource count accepted true_form candidates old new
+  pub same_then : (old mid new : Source) → SameSource count accepted true_form candidates old mid →
+      SameSource count accepted true_form candidates mid new → SameSource count accepted true_form candidates old new
   same_then old mid new first second = record {
     same_count = second.same_count ∙ first.same_count;
     same_points = same_for_then (accepted old) (accepted mid) (accepted new) first.same_points second.same_points;

@@ -1,4 +1,4 @@
--- Points of a box, whole and fractional.
+-- Points of a box, whole and fractional. No public clause cites it.
 use Rattle.std.specs.Prelude.{◌≡◌, ℕ, ◌+◌, ◌*◌, ◌^◌, ◌<◌, ◌≤◌, ◌%◌, slice_index, All, length}
 use Rattle.area_graph.specs.declared.Point.{Point}
 use Rattle.path_rows.specs.declared.form.CostBox.{CostBox}

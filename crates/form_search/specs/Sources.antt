@@ -25,16 +25,13 @@ pub record IsCostPoint (n : ℕ) (point : Point) : Type 0 where
 abbrev pub scaled : List ℕ → ℕ → Point
 scaled w scale = record { scale = scale; values = map (λ x. x * scale) w }
 
--- each form is at least 0 at the point
-abbrev pub AreMet : List Form → Point → Type 0
-AreMet forms point = All (λ form. pos 0 ≤ℤ value_at form point) forms
-
 -- what holds before holds after, and the other way round
 abbrev pub SameFor : {X : Type 0} → (X → Type 0) → (X → Type 0) → Type 0
 SameFor {X} Before After = (x : X) → Before x ↔ After x
 
 -- what no call of a source changes: how many variables it has, what it accepts, which forms are true, and the list of these
-pub record SameSource {Source : Type 0} (count : Source → ℕ) (accepted : Source → Point → Type 0) (true_form : Source → Form → Type 0) (candidates : Source → List Form) (old new : Source) : Type 0 where
+pub record SameSource {Source : Type 0} (count : Source → ℕ) (accepted : Source → Point → Type 0) (true_form : Source →
+    Form → Type 0) (candidates : Source → List Form) (old new : Source) : Type 0 where
   pub same_count : count new ≡ count old
   pub same_points : SameFor (accepted old) (accepted new)
   pub same_forms : SameFor (true_form old) (true_form new)

@@ -1,14 +1,14 @@
--- What a tableau that is kept holds, and what it tells of a box.
+-- What a tableau that is kept holds, and what it tells of a box. No public clause cites it.
 use Rattle.std.specs.Prelude.{◌≡◌, ◌≢◌, ℕ, ◌+◌, ◌^◌, ◌<◌, ◌≤◌, List, [], length, take, Option, Some, None}
 use Rattle.area_graph.specs.declared.Point.{Point}
-use Rattle.path_rows.specs.Forms.{Form}
+use Rattle.path_rows.specs.Forms.{Form, AreMet}
 use Rattle.path_rows.specs.declared.form.CostBox.{CostBox}
 use Rattle.path_rows.specs.declared.tree.WideAt.{WideAt}
 use Rattle.path_rows.specs.Boxes.{Refutes}
 use Rattle.path_rows.specs.Steps.{IsTooWide}
 use Rattle.path_rows.specs.Earnest.{IsLeast}
 use Rattle.path_rows.specs.Text.{IsPrinted}
-use Rattle.fraction_table.specs.Tableaus.{Held, IsGoing, MeetsRows, wide_at}
+use Rattle.fraction_table.specs.Tableaus.{Held, IsGoing, wide_at}
 use Rattle.fraction_table.specs.declared.stage.SimplexStop.{SimplexStop}
 use Rattle.fraction_table.specs.declared.stage.SimplexStop.TheVariants.{TooWide as StepTooWide, OutOfMemory}
 use Rattle.form_search.specs.declared.table.HeldTableau.{HeldTableau}
@@ -52,7 +52,7 @@ pub record RefutesBy (box : CostBox) (forms : List Form) (parts : List (ℕ × �
 
 -- what the tableau tells: the least point of the box that meets the forms, multipliers, or a step that is too wide
 abbrev pub IsTold : ℕ → CostBox → List Form → Point → Least → Type 0
-IsTold top box forms point AtPoint = IsLeast (MeetsRows forms) box point × (point.scale < 2 ^ 100)
+IsTold top box forms point AtPoint = IsLeast (AreMet forms) box point × (point.scale < 2 ^ 100)
 IsTold top box forms point (Refuted parts) = RefutesBy box forms parts
 IsTold top box forms point (Wide wide) = IsPrintedWide top box forms wide
 

@@ -1,4 +1,4 @@
--- What comes next at an open place, and what is kept from box to box.
+-- What comes next at an open place, and what is kept from box to box. No public clause cites it.
 use Rattle.std.specs.Prelude.{◌≡◌, ℕ, ◌^◌, ◌≤◌, List, ◌++◌, length, nat_abs, false, All, Contains, ◌==◌, if◌then◌else◌}
 use Rattle.std.specs.declared.ops.ControlFlow.{ControlFlow}
 use Rattle.std.specs.declared.ops.ControlFlow.TheVariants.{Break, Continue}
@@ -40,7 +40,8 @@ AreFormsOf n forms = All (IsFormIn n) forms
 
 -- the entry by one form: it may come next whatever the points that are accepted
 abbrev pub IsNextRow : List Form → Place → Entry → Type 0
-IsNextRow forms place (Tighten var side value row) = TightensAt forms place.box side var value row × EarnestAt (λ point. ⊥) 0 forms place (Tighten var side value row)
+IsNextRow forms place (Tighten var side value row) = TightensAt forms place.box side var value row
+    × EarnestAt (λ point. ⊥) 0 forms place (Tighten var side value row)
 IsNextRow forms place (Split var value) = ⊥
 IsNextRow forms place (Halve var value wide) = ⊥
 IsNextRow forms place (Refute parts) = Refutes forms parts place.box × IsShort (length place.box.low) (Refute parts)

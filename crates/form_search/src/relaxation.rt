@@ -1,7 +1,7 @@
 //! The relaxation of a box: its least accepted point, or why there is none.
 ghost use Rattle.std.specs.Prelude.{◌≡◌, ℕ, ◌^◌, ◌<◌, length, All, IfOk, IfSome, None, OnOk};
-ghost use Rattle.fraction_table.specs.Tableaus.{MeetsRows};
 ghost use Rattle.path_rows.specs.Earnest.{IsLeast};
+ghost use Rattle.path_rows.specs.Forms.{AreMet};
 ghost use Rattle.form_search.specs.Sources.{Grows, SameSource};
 ghost use Rattle.form_search.specs.Points.{IsCostsBox};
 ghost use Rattle.form_search.specs.Tables.{IsHeld, IsKept, IsRelaxed, StandsAt};
@@ -37,7 +37,7 @@ fn ask_least<S: RowSource>(
     requires in_step { S.in_step source.old pool.old }
     requires true_forms { All (S.true_form source.old) pool.old }
     requires ranges { IsCostsBox (S.count source.old) costs.now }
-    requires least { IsLeast (MeetsRows pool.old) costs.now point.now }
+    requires least { IsLeast (AreMet pool.old) costs.now point.now }
     requires small { point.now.scale < 2 ^ 100 }
     ensures relaxed { (top : ℕ) → IfOk result (λ found. IfSome found (IsRelaxed (S.accepted source.old) top costs.now pool.new point.now)) }
     ensures more { result ≡ Ok None → HasNew pool.old pool.new }

@@ -1,6 +1,7 @@
 //! Sources of forms.
 ghost use Rattle.std.specs.Prelude.{◌≡◌, IfOk, OnOk, IsTrue, ◌↔◌};
-ghost use Rattle.form_search.specs.Sources.{Grows, IsAnswered, IsCostPoint, AreMet, SameFor, SameSource};
+ghost use Rattle.path_rows.specs.Forms.{AreMet};
+ghost use Rattle.form_search.specs.Sources.{Grows, IsAnswered, IsCostPoint, SameFor, SameSource};
 
 use crate::FormPool;
 use area_graph::Point;

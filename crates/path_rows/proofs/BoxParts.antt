@@ -51,27 +51,37 @@ pub record IsBoxIn (n : ℕ) (outer box : CostBox) : Type 0 where
   pub is_box : IsBox n box
   pub is_part : IsPart outer box
 
-cut_boxes : (n : ℕ) (outer box : CostBox) (var v : ℕ) → IsBoxIn n outer box → slice_index box.low var ≤ v → v < slice_index box.high var → IsBoxIn n outer (with_high box var v) × IsBoxIn n outer (with_low box var (v + 1))
+cut_boxes : (n : ℕ) (outer box : CostBox) (var v : ℕ) → IsBoxIn n outer box → slice_index box.low var ≤ v →
+    v < slice_index box.high var → IsBoxIn n outer (with_high box var v) × IsBoxIn n outer (with_low box var (v + 1))
 cut_boxes n outer box var v kept above below = (
   record { is_box = box_high n box var v kept.is_box above; is_part = part_high outer box var v kept.is_part (omega arith) },
   record { is_box = box_low n box var (v + 1) kept.is_box (omega arith); is_part = part_low outer box var (v + 1) kept.is_part (omega arith) },
 )
 
 -- a sound entry's boxes
-pub subboxes_in : (n : ℕ) (outer : CostBox) (forms : List Form) (box : CostBox) (entry : Entry) → IsBoxIn n outer box → SoundAt forms box entry → AllOf (IsBoxIn n outer) (subboxes box entry)
+pub subboxes_in : (n : ℕ) (outer : CostBox) (forms : List Form) (box : CostBox) (entry : Entry) → IsBoxIn n outer box →
+    SoundAt forms box entry → AllOf (IsBoxIn n outer) (subboxes box entry)
 subboxes_in n outer forms box (Tighten var Low v row) kept sound =
     (record { is_box = box_low n box var v kept.is_box sound.smaller.1; is_part = part_low outer box var v kept.is_part (omega (arith, sound.smaller.0)) }, tt)
-subboxes_in n outer forms box (Tighten var High v row) kept sound =
-    (record { is_box = box_high n box var v kept.is_box sound.smaller.0; is_part = part_high outer box var v kept.is_part (omega (arith, sound.smaller.1)) }, tt)
+subboxes_in n outer forms box (Tighten var High v row) kept sound = (
+  record {
+    is_box = box_high n box var v kept.is_box sound.smaller.0;
+    is_part = part_high outer box var v kept.is_part (omega (arith, sound.smaller.1));
+  },
+  tt,
+)
 subboxes_in n outer forms box (Split var v) kept sound = let both = cut_boxes n outer box var v kept sound.above sound.below in (both.0, (both.1, tt))
 subboxes_in n outer forms box (Halve var v wide) kept sound = let both = cut_boxes n outer box var v kept sound.above sound.below in (both.0, (both.1, tt))
 subboxes_in n outer forms box (Refute parts) kept sound = tt
 subboxes_in n outer forms box Undone kept sound = tt
 
 -- the open boxes of a tree over a box
-pub open_boxes_in : (accepts : Point → Type 0) (top n : ℕ) (forms : List Form) (start : CostBox) (entries : List Entry) (left : List Place) → IsBox n start → Opens accepts top forms (fresh start ∷ []) entries left → AllOf (IsBoxIn n start) (boxes_of left)
+pub open_boxes_in : (accepts : Point → Type 0) (top n : ℕ) (forms : List Form) (start : CostBox) (entries : List Entry)
+    (left : List Place) → IsBox n start → Opens accepts top forms (fresh start ∷ []) entries left →
+    AllOf (IsBoxIn n start) (boxes_of left)
 open_boxes_in accepts top n forms start entries left kept opens =
-    opens_all accepts top forms (IsBoxIn n start) (subboxes_in n start forms) (fresh start ∷ []) entries left (record { is_box = kept; is_part = part_whole start }, tt) opens
+    opens_all accepts top forms (IsBoxIn n start) (subboxes_in n start forms) (fresh start ∷ []) entries left
+    (record { is_box = kept; is_part = part_whole start }, tt) opens
 
 -- costs of the part are costs of the whole
 pub in_part : (outer box : CostBox) (w : List ℕ) → IsPart outer box → IsInBox box w → IsInBox outer w

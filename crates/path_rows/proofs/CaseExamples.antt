@@ -33,11 +33,17 @@ full n most = record { low = replicate n 1; high = replicate n most }
 abbrev square : Area
 square = record {
   vertices = Router 0 ∷ Router 1 ∷ Router 2 ∷ Router 3 ∷ [];
-  edges = link 0 1 (Var 0) ∷ link 0 3 (Var 1) ∷ link 1 2 (Var 2) ∷ link 1 0 (Var 3) ∷ link 2 3 (Var 4) ∷ link 2 1 (Var 5) ∷ link 3 0 (Var 6) ∷ link 3 2 (Var 7) ∷ [];
+  edges = link 0 1 (Var 0) ∷ link 0 3 (Var 1) ∷ link 1 2 (Var 2) ∷ link 1 0 (Var 3) ∷ link 2 3 (Var 4)
+      ∷ link 2 1 (Var 5) ∷ link 3 0 (Var 6) ∷ link 3 2 (Var 7) ∷ [];
 }
 
 -- x1 + x7 - x0 - x2 - 1
-square_form : form_between square 8 (0 ∷ 2 ∷ []) (1 ∷ 7 ∷ []) ≡ record { constant = negsuc 0; coefficients = negsuc 0 ∷ pos 1 ∷ negsuc 0 ∷ pos 0 ∷ pos 0 ∷ pos 0 ∷ pos 0 ∷ pos 1 ∷ [] }
+square_form : form_between square 8 (0 ∷ 2 ∷ []) (1 ∷ 7 ∷ [])
+    ≡ record {
+      constant = negsuc 0;
+      coefficients = negsuc 0 ∷ pos 1 ∷ negsuc 0 ∷ pos 0 ∷ pos 0 ∷ pos 0 ∷ pos 0
+          ∷ pos 1 ∷ [];
+    }
 square_form = refl
 
 square_path : IsPathOf square (record { start = 0; end = 2; gone = [] }) (1 ∷ 7 ∷ [])
@@ -60,7 +66,8 @@ triangle = record {
 }
 
 -- x1 - x0 - x2 - 1, at cap 2 at most 2 - 1 - 1 - 1
-triangle_form : form_between triangle 6 (0 ∷ 2 ∷ []) (1 ∷ []) ≡ record { constant = negsuc 0; coefficients = negsuc 0 ∷ pos 1 ∷ negsuc 0 ∷ pos 0 ∷ pos 0 ∷ pos 0 ∷ [] }
+triangle_form : form_between triangle 6 (0 ∷ 2 ∷ []) (1 ∷ [])
+    ≡ record { constant = negsuc 0; coefficients = negsuc 0 ∷ pos 1 ∷ negsuc 0 ∷ pos 0 ∷ pos 0 ∷ pos 0 ∷ [] }
 triangle_form = refl
 
 triangle_greatest : greatest (form_between triangle 6 (0 ∷ 2 ∷ []) (1 ∷ [])) (capped (full 6 65535) 2) ≡ negsuc 0
@@ -75,7 +82,9 @@ triangle_reached = refl
 abbrev six : Area
 six = record {
   vertices = Router 0 ∷ Router 1 ∷ Router 2 ∷ Router 3 ∷ Router 4 ∷ Router 5 ∷ [];
-  edges = link 0 1 (Var 0) ∷ link 0 4 (Var 1) ∷ link 0 5 (Var 2) ∷ link 1 0 (Var 3) ∷ link 1 2 (Var 4) ∷ link 2 1 (Var 5) ∷ link 2 3 (Var 6) ∷ link 2 4 (Var 7) ∷ link 3 2 (Var 8) ∷ link 4 0 (Var 9) ∷ link 4 2 (Var 10) ∷ link 5 0 (Var 11) ∷ [];
+  edges = link 0 1 (Var 0) ∷ link 0 4 (Var 1) ∷ link 0 5 (Var 2) ∷ link 1 0 (Var 3) ∷ link 1 2 (Var 4)
+      ∷ link 2 1 (Var 5) ∷ link 2 3 (Var 6) ∷ link 2 4 (Var 7) ∷ link 3 2 (Var 8) ∷ link 4 0 (Var 9) ∷ link 4 2 (Var 10)
+      ∷ link 5 0 (Var 11) ∷ [];
 }
 
 six_wanted : IsPathOf six (record { start = 0; end = 3; gone = [] }) (0 ∷ 4 ∷ 6 ∷ [])
@@ -85,7 +94,12 @@ six_rival : IsPathOf six (record { start = 0; end = 3; gone = [] }) (1 ∷ 10 �
 six_rival = search rules
 
 -- x1 + x10 - x0 - x4 - 1: the variable 6, which both paths pay, falls out
-six_first : form_between six 12 (0 ∷ 4 ∷ 6 ∷ []) (1 ∷ 10 ∷ 6 ∷ []) ≡ record { constant = negsuc 0; coefficients = negsuc 0 ∷ pos 1 ∷ pos 0 ∷ pos 0 ∷ negsuc 0 ∷ pos 0 ∷ pos 0 ∷ pos 0 ∷ pos 0 ∷ pos 0 ∷ pos 1 ∷ pos 0 ∷ [] }
+six_first : form_between six 12 (0 ∷ 4 ∷ 6 ∷ []) (1 ∷ 10 ∷ 6 ∷ [])
+    ≡ record {
+      constant = negsuc 0;
+      coefficients = negsuc 0 ∷ pos 1 ∷ pos 0 ∷ pos 0 ∷ negsuc 0 ∷ pos 0 ∷ pos 0 ∷ pos 0
+          ∷ pos 0 ∷ pos 0 ∷ pos 1 ∷ pos 0 ∷ [];
+    }
 six_first = refl
 
 abbrev six_forms : List Form
@@ -151,7 +165,12 @@ lan_cost = refl
 
 -- one tree with each kind of entry, at cap 3 of the twin where the first path is wanted: x1 - x0 - 1 and x0 - x1 - 1
 abbrev wide : WideAt
-wide = record { step = Scale; left = record { numerator = pos 2; denominator = pos 1 }; right = record { numerator = pos 134217728; denominator = pos 1 }; basis = ByRow 0 ∷ [] }
+wide = record {
+  step = Scale;
+  left = record { numerator = pos 2; denominator = pos 1 };
+  right = record { numerator = pos 134217728; denominator = pos 1 };
+  basis = ByRow 0 ∷ [];
+}
 
 abbrev each_kind : List Entry
 each_kind =

@@ -66,13 +66,19 @@ since-le n place kept =
     let same = length-map place.since code in
     omega arith
 
-cut_step : (n s places cuts count mark since : ℕ) → s ≤ 2 * n → count + mark + (0 + (0 + since)) ≤ (2 * n + 1) * suc (suc places) + (4 * n + 2) * cuts → (1 + count) + mark + (s + since) ≤ (2 * n + 1) * suc places + (4 * n + 2) * (1 + cuts)
+cut_step : (n s places cuts count mark since : ℕ) → s ≤ 2 * n →
+    count + mark + (0 + (0 + since)) ≤ (2 * n + 1) * suc (suc places) + (4 * n + 2) * cuts →
+    (1 + count) + mark + (s + since) ≤ (2 * n + 1) * suc places + (4 * n + 2) * (1 + cuts)
 cut_step n s places cuts count mark since few below = omega arith
 
-leaf_step : (n s places cuts count mark since : ℕ) → s ≤ 2 * n → count + mark + since ≤ (2 * n + 1) * places + (4 * n + 2) * cuts → (1 + count) + mark + (s + since) ≤ (2 * n + 1) * suc places + (4 * n + 2) * cuts
+leaf_step : (n s places cuts count mark since : ℕ) → s ≤ 2 * n →
+    count + mark + since ≤ (2 * n + 1) * places + (4 * n + 2) * cuts →
+    (1 + count) + mark + (s + since) ≤ (2 * n + 1) * suc places + (4 * n + 2) * cuts
 leaf_step n s places cuts count mark since few below = omega arith
 
-undone_step : (n s places cuts count mark since : ℕ) → s ≤ 2 * n → count + mark + since ≤ (2 * n + 1) * places + (4 * n + 2) * cuts → (0 + count) + 1 + (s + since) ≤ (2 * n + 1) * suc places + (4 * n + 2) * cuts
+undone_step : (n s places cuts count mark since : ℕ) → s ≤ 2 * n →
+    count + mark + since ≤ (2 * n + 1) * places + (4 * n + 2) * cuts →
+    (0 + count) + 1 + (s + since) ≤ (2 * n + 1) * suc places + (4 * n + 2) * cuts
 undone_step n s places cuts count mark since few below = omega arith
 
 fresh : (n : ℕ) (box : CostBox) → length box.low ≡ n → Kept n (record { box = box; since = [] })
@@ -82,40 +88,58 @@ tightened_count : (box : CostBox) (side : Side) (v bound : ℕ) → length (tigh
 tightened_count box Low v bound = length-set box.low v bound
 tightened_count box High v bound = refl
 
-longer : (n : ℕ) (place : Place) (v : ℕ) (side : Side) (bound : ℕ) → Kept n place → v < length place.box.low → (Contains place.since (v, side) → ⊥) → Kept n (record { box = tightened place.box side v bound; since = (v, side) ∷ place.since })
+longer : (n : ℕ) (place : Place) (v : ℕ) (side : Side) (bound : ℕ) → Kept n place → v < length place.box.low →
+    (Contains place.since (v, side) → ⊥) →
+    Kept n (record { box = tightened place.box side v bound; since = (v, side) ∷ place.since })
 longer n place v side bound kept v_in absent = record {
   count = tightened_count place.box side v bound ∙ kept.count;
   once = (lacks_code place.since v side absent, kept.once);
   below = (code_below n v side (omega (arith, kept.count)), kept.below);
 }
 
-pub earnest_counts : (accepts : Point → Type 0) (top n : ℕ) (rows : List Form) (places : List Place) (entries : List Entry) → AllKept n places → Earnest accepts top rows places entries → entry_count entries + undone_mark entries + all_since places ≤ (2 * n + 1) * length places + (4 * n + 2) * cut_count entries
+pub earnest_counts : (accepts : Point → Type 0) (top n : ℕ) (rows : List Form) (places : List Place)
+    (entries : List Entry) → AllKept n places → Earnest accepts top rows places entries →
+    entry_count entries + undone_mark entries + all_since places ≤ (2 * n + 1) * length places
+    + (4 * n + 2) * cut_count entries
 earnest_counts accepts top n rows [] [] kept earnest = omega arith
 earnest_counts accepts top n rows (place ∷ places) [] kept earnest = absurd earnest
 earnest_counts accepts top n rows [] (e ∷ entries) kept earnest = absurd earnest
 earnest_counts accepts top n rows (place ∷ places) (Tighten v side bound row ∷ entries) kept earnest =
     let next = longer n place v side bound kept.0 earnest.0.var_known earnest.1.1 in
-    let rest = earnest_counts accepts top n rows (record { box = tightened place.box side v bound; since = (v, side) ∷ place.since } ∷ places) entries (next, kept.1) earnest.2 in
+    let rest = earnest_counts accepts top n rows
+    (record { box = tightened place.box side v bound; since = (v, side) ∷ place.since } ∷ places) entries
+    (next, kept.1) earnest.2 in
     omega arith
 earnest_counts accepts top n rows (place ∷ places) (Split v bound ∷ entries) kept earnest =
     let lower = fresh n (with_high place.box v bound) kept.0.count in
     let upper = fresh n (with_low place.box v (bound + 1)) (length-set place.box.low v (bound + 1) ∙ kept.0.count) in
     cut_step n (length place.since) (length places) (cut_count entries) (entry_count entries) (undone_mark entries) (all_since places) (since-le n place kept.0)
-    (earnest_counts accepts top n rows (record { box = with_high place.box v bound; since = [] } ∷ record { box = with_low place.box v (bound + 1); since = [] } ∷ places) entries (lower, (upper, kept.1)) earnest.2)
+    (earnest_counts accepts top n rows
+    (record { box = with_high place.box v bound; since = [] } ∷ record {
+      box = with_low place.box v (bound + 1);
+      since = [];
+    } ∷ places) entries (lower, (upper, kept.1)) earnest.2)
 earnest_counts accepts top n rows (place ∷ places) (Halve v bound wide ∷ entries) kept earnest =
     let lower = fresh n (with_high place.box v bound) kept.0.count in
     let upper = fresh n (with_low place.box v (bound + 1)) (length-set place.box.low v (bound + 1) ∙ kept.0.count) in
     cut_step n (length place.since) (length places) (cut_count entries) (entry_count entries) (undone_mark entries) (all_since places) (since-le n place kept.0)
-    (earnest_counts accepts top n rows (record { box = with_high place.box v bound; since = [] } ∷ record { box = with_low place.box v (bound + 1); since = [] } ∷ places) entries (lower, (upper, kept.1)) earnest.2)
+    (earnest_counts accepts top n rows
+    (record { box = with_high place.box v bound; since = [] } ∷ record {
+      box = with_low place.box v (bound + 1);
+      since = [];
+    } ∷ places) entries (lower, (upper, kept.1)) earnest.2)
 earnest_counts accepts top n rows (place ∷ places) (Refute parts ∷ entries) kept earnest =
-    leaf_step n (length place.since) (length places) (cut_count entries) (entry_count entries) (undone_mark entries) (all_since places) (since-le n place kept.0)
+    leaf_step n (length place.since) (length places) (cut_count entries) (entry_count entries) (undone_mark entries)
+    (all_since places) (since-le n place kept.0)
     (earnest_counts accepts top n rows places entries kept.1 earnest.2)
 earnest_counts accepts top n rows (place ∷ places) (Undone ∷ entries) kept earnest =
-    undone_step n (length place.since) (length places) (cut_count entries) (entry_count entries) (undone_mark entries) (all_since places) (since-le n place kept.0)
+    undone_step n (length place.since) (length places) (cut_count entries) (entry_count entries) (undone_mark entries)
+    (all_since places) (since-le n place kept.0)
     (earnest_counts accepts top n rows places entries kept.1 earnest.2)
 
 -- of the entries of an earnest tree many have two subtrees
-pub many_cuts : (accepts : Point → Type 0) (top : ℕ) (rows : List Form) (box : CostBox) (tree : List Entry) → IsEarnestTree accepts top rows box tree → HasManyCuts (length box.low) tree
+pub many_cuts : (accepts : Point → Type 0) (top : ℕ) (rows : List Form) (box : CostBox) (tree : List Entry) →
+    IsEarnestTree accepts top rows box tree → HasManyCuts (length box.low) tree
 many_cuts accepts top rows box tree earnest =
     let n = length box.low in
     let most = earnest_counts accepts top (length box.low) rows (record { box = box; since = [] } ∷ []) tree (fresh (length box.low) box refl, tt) earnest in

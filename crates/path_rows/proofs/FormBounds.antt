@@ -5,6 +5,7 @@ use Rattle.std.proofs.lemmas.Int.{ints}
 use Rattle.std.proofs.lemmas.List.Sums.{sum_by-cons}
 use Rattle.std.proofs.lemmas.List.{length-map, length-replicate, get_or-replicate}
 use Rattle.cost_base.specs.Lists.{numbers_from}
+use Rattle.cost_base.proofs.ListLemmas.{length-numbers_from}
 use Rattle.area_graph.specs.Area.{Area, FitsGraph, HasMetrics}
 use Rattle.area_graph.specs.Paths.{Ends, IsPathOf}
 use Rattle.area_graph.specs.Costs.{cost, at_costs, IsPriced, FitsPoint}
@@ -12,7 +13,6 @@ use Rattle.area_graph.proofs.Bounds.{cost_below}
 use Rattle.path_rows.specs.Forms.{IsSmallForm, size_of}
 use Rattle.path_rows.specs.Rows.{uses, fixed_cost, form_between}
 use Rattle.path_rows.proofs.FormLaws.{weigh, cost-split}
-use Rattle.path_rows.proofs.Tallies.{length-numbers_from}
 
 -- the greatest cost for each of n variables
 abbrev pub dearest : ℕ → List ℕ
@@ -22,7 +22,9 @@ difference_size : (a b : ℕ) → nat_abs (pos a -ℤ pos b) ≤ a + b
 difference_size a b = omega (arith, ints)
 
 -- the sizes of differences, each times 65,535, are at most both sums at costs of 65,535
-differences_size : (a b : ℕ → ℕ) (k n : ℕ) → 65535 * sum_by nat_abs (map (λ v. pos (a v) -ℤ pos (b v)) (numbers_from k n)) ≤ weigh a k (dearest n) + weigh b k (dearest n)
+differences_size : (a b : ℕ → ℕ) (k n : ℕ) →
+    65535 * sum_by nat_abs (map (λ v. pos (a v) -ℤ pos (b v)) (numbers_from k n)) ≤ weigh a k (dearest n)
+    + weigh b k (dearest n)
 differences_size a b k zero = omega arith
 differences_size a b k (suc n) =
     let here = difference_size (a k) (b k) in
@@ -39,9 +41,13 @@ size_within (z ∷ zs) zero d k_in = rw (sum_by-cons nat_abs z zs) (omega arith)
 size_within (z ∷ zs) (suc k) d k_in = rw (sum_by-cons nat_abs z zs) (let rest = size_within zs k d (omega arith) in omega arith)
 
 -- where both paths cost less than 2^26 at costs of 65,535, the form is small
-pub form_small : (g : Area) (n : ℕ) (wanted rival : List ℕ) → All (λ edge. IsPriced n edge.price) g.edges → cost g (at_costs (dearest n)) wanted < 2 ^ 26 → cost g (at_costs (dearest n)) rival < 2 ^ 26 → IsSmallForm n (form_between g n wanted rival)
+pub form_small : (g : Area) (n : ℕ) (wanted rival : List ℕ) → All (λ edge. IsPriced n edge.price) g.edges →
+    cost g (at_costs (dearest n)) wanted < 2 ^ 26 → cost g (at_costs (dearest n)) rival < 2 ^ 26 →
+    IsSmallForm n (form_between g n wanted rival)
 form_small g n wanted rival priced cheap_wanted cheap_rival =
-    let priced_here : All (λ edge. IsPriced (length (dearest n)) edge.price) g.edges = subst (λ (m : ℕ). All (λ edge. IsPriced m edge.price) g.edges) (sym (length-replicate {A = ℕ} n 65535)) priced in
+    let priced_here : All (λ edge. IsPriced (length (dearest n)) edge.price) g.edges =
+    subst (λ (m : ℕ). All (λ edge. IsPriced m edge.price) g.edges)
+    (sym (length-replicate {A = ℕ} n 65535)) priced in
     let split_wanted = cost-split g (at_costs (dearest n)) wanted priced_here in
     let split_rival = cost-split g (at_costs (dearest n)) rival priced_here in
     let constants = constant_size (fixed_cost g rival) (fixed_cost g wanted) in
@@ -67,7 +73,9 @@ dearest_fits g n priced = record {
 }
 
 -- the form of two simple paths is small
-pub simple_form_small : (g : Area) (n : ℕ) (wanted_ends rival_ends : Ends) (wanted rival : List ℕ) → FitsGraph g → HasMetrics g → All (λ edge. IsPriced n edge.price) g.edges → IsPathOf g wanted_ends wanted → IsPathOf g rival_ends rival → IsSmallForm n (form_between g n wanted rival)
+pub simple_form_small : (g : Area) (n : ℕ) (wanted_ends rival_ends : Ends) (wanted rival : List ℕ) → FitsGraph g →
+    HasMetrics g → All (λ edge. IsPriced n edge.price) g.edges → IsPathOf g wanted_ends wanted →
+    IsPathOf g rival_ends rival → IsSmallForm n (form_between g n wanted rival)
 simple_form_small g n wanted_ends rival_ends wanted rival fits metrics priced wanted_path rival_path =
     let point = dearest_fits g n priced in
     form_small g n wanted rival priced

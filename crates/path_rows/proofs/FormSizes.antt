@@ -59,7 +59,8 @@ combined : (m c r u v a b k rest : ℕ) → a ≤ m * c + r → b ≤ m * u + v 
 combined m c r u v a b k rest first second whole more = rw (whole, more) (omega arith)
 
 -- a weighted sum is within the weighted sum of the sizes
-weighted_size : (forms : List Form) (part : ℕ × ℕ) (parts : List (ℕ × ℕ)) → size_of (weighted forms (part ∷ parts)) ≤ part.1 * size_of (form_at forms part.0) + size_of (weighted forms parts)
+weighted_size : (forms : List Form) (part : ℕ × ℕ) (parts : List (ℕ × ℕ)) →
+    size_of (weighted forms (part ∷ parts)) ≤ part.1 * size_of (form_at forms part.0) + size_of (weighted forms parts)
 weighted_size forms part parts =
     let f = form_at forms part.0 in
     let rest = weighted forms parts in
@@ -67,9 +68,11 @@ weighted_size forms part parts =
     let scaled = scaled_size part.1 f.constant in
     let terms = sizes_added (map (λ c. pos part.1 *ℤ c) f.coefficients) rest.coefficients in
     let scaled_terms = sizes_scaled part.1 f.coefficients in
-    combined part.1 (nat_abs f.constant) (nat_abs rest.constant) (sum_by nat_abs f.coefficients) (sum_by nat_abs rest.coefficients) _ _ (size_of f) (size_of rest)
+    combined part.1 (nat_abs f.constant) (nat_abs rest.constant) (sum_by nat_abs f.coefficients)
+    (sum_by nat_abs rest.coefficients) _ _ (size_of f) (size_of rest)
     (let e : nat_abs ((pos part.1 *ℤ f.constant) +ℤ rest.constant) ≤ part.1 * nat_abs f.constant + nat_abs rest.constant = omega arith in e)
-    (let e : sum_by nat_abs (added (map (λ c. pos part.1 *ℤ c) f.coefficients) rest.coefficients) ≤ part.1 * sum_by nat_abs f.coefficients + sum_by nat_abs rest.coefficients = omega arith in e)
+    (let e : sum_by nat_abs (added (map (λ c. pos part.1 *ℤ c) f.coefficients) rest.coefficients)
+    ≤ part.1 * sum_by nat_abs f.coefficients + sum_by nat_abs rest.coefficients = omega arith in e)
     refl refl
 
 form_size : (forms : List Form) (row : ℕ) → All (λ f. size_of f < 2 ^ 27) forms → size_of (form_at forms row) < 2 ^ 27
@@ -80,17 +83,20 @@ form_size forms row small =
     ]
 
 -- a weighted sum of small forms is at most the sum of the multipliers, times 2^27 - 1
-pub weighted_small : (forms : List Form) (parts : List (ℕ × ℕ)) → All (λ f. size_of f < 2 ^ 27) forms → size_of (weighted forms parts) ≤ sum_by (λ part. part.1) parts * (2 ^ 27 - 1)
+pub weighted_small : (forms : List Form) (parts : List (ℕ × ℕ)) → All (λ f. size_of f < 2 ^ 27) forms →
+    size_of (weighted forms parts) ≤ sum_by (λ part. part.1) parts * (2 ^ 27 - 1)
 weighted_small forms [] small = omega arith
 weighted_small forms (part ∷ parts) small =
     let here = form_size forms part.0 small in
     let rest = weighted_small forms parts small in
     let both = weighted_size forms part parts in
-    let most : part.1 * size_of (form_at forms part.0) ≤ part.1 * (2 ^ 27 - 1) = mul-le-mul_left part.1 (let e : size_of (form_at forms part.0) ≤ 2 ^ 27 - 1 = omega arith in e) in
+    let most : part.1 * size_of (form_at forms part.0) ≤ part.1 * (2 ^ 27 - 1) =
+    mul-le-mul_left part.1 (let e : size_of (form_at forms part.0) ≤ 2 ^ 27 - 1 = omega arith in e) in
     rw (sum_by-cons (λ p. p.1) part parts) (omega arith)
 
 -- of multipliers of sum below 2^100 it fits 127 bits
-pub weighted_fits : (forms : List Form) (parts : List (ℕ × ℕ)) → All (λ f. size_of f < 2 ^ 27) forms → sum_by (λ part. part.1) parts < 2 ^ 100 → size_of (weighted forms parts) < 2 ^ 127
+pub weighted_fits : (forms : List Form) (parts : List (ℕ × ℕ)) → All (λ f. size_of f < 2 ^ 27) forms →
+    sum_by (λ part. part.1) parts < 2 ^ 100 → size_of (weighted forms parts) < 2 ^ 127
 weighted_fits forms parts small sum =
     let most = weighted_small forms parts small in
     omega arith

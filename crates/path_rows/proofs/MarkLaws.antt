@@ -41,12 +41,14 @@ contains_other run p q other has = go has.0 has.1 has.2
     go (suc k) k_in same = (k, omega arith, same)
 
 -- marks of one side, where the variable is marked
-set_marks : (side : Side) (begun : ℕ) (run : List (ℕ × Side)) (marks : List ℕ) (var count : ℕ) → begun < count → AreMarks side begun run marks → AreMarks side begun ((var, side) ∷ run) (slice_set marks var count)
+set_marks : (side : Side) (begun : ℕ) (run : List (ℕ × Side)) (marks : List ℕ) (var count : ℕ) → begun < count →
+    AreMarks side begun run marks → AreMarks side begun ((var, side) ∷ run) (slice_set marks var count)
 set_marks side begun run marks var count above are v v_in =
     let known : v < length marks = omega (arith, length-set marks var count) in
     elim (ℕ_discrete v var) [
       | yes same ↦
-          let here : slice_index (slice_set marks var count) v ≡ count = get_or-set_at marks var v count 0 same (subst (λ (n : ℕ). n < length marks) same known) in
+          let here : slice_index (slice_set marks var count) v ≡ count =
+          get_or-set_at marks var v count 0 same (subst (λ (n : ℕ). n < length marks) same known) in
           (λ less. subst (λ (u : ℕ). Contains ((var, side) ∷ run) (u, side)) (sym same) (contains_head run (var, side)), λ has. rw here above)
       | no other ↦
           let here : slice_index (slice_set marks var count) v ≡ slice_index marks v = get_or-set_other marks var v count 0 other in (
@@ -56,13 +58,15 @@ set_marks side begun run marks var count above are v v_in =
     ]
 
 -- marks of the other side
-kept_marks : (side other : Side) (begun : ℕ) (run : List (ℕ × Side)) (marks : List ℕ) (var : ℕ) → (other ≡ side → ⊥) → AreMarks side begun run marks → AreMarks side begun ((var, other) ∷ run) marks
+kept_marks : (side other : Side) (begun : ℕ) (run : List (ℕ × Side)) (marks : List ℕ) (var : ℕ) → (other ≡ side → ⊥) →
+    AreMarks side begun run marks → AreMarks side begun ((var, other) ∷ run) marks
 kept_marks side other begun run marks var apart are v v_in = (
   λ less. contains_tail run (var, other) (v, side) ((are v v_in).0 less),
   λ has. (are v v_in).1 (contains_other run (var, other) (v, side) (λ e. apart (ap (λ (p : ℕ × Side). p.1) e)) has),
 )
 
-small_more : (marks : List ℕ) (entries : List Entry) (entry : Entry) → All (λ mark. mark ≤ length entries) marks → All (λ mark. mark ≤ length (entries ++ entry ∷ [])) marks
+small_more : (marks : List ℕ) (entries : List Entry) (entry : Entry) → All (λ mark. mark ≤ length entries) marks →
+    All (λ mark. mark ≤ length (entries ++ entry ∷ [])) marks
 small_more marks entries entry small k d k_in = let here = small k d k_in in omega (arith, length-append entries (entry ∷ []))
 
 small_set : (marks : List ℕ) (var count most : ℕ) → count ≤ most → All (λ mark. mark ≤ most) marks → All (λ mark. mark ≤ most) (slice_set marks var count)
@@ -79,7 +83,9 @@ low_high e = cc
 high_low : High ≡ Low → ⊥
 high_low e = cc
 
-pub marked_low : (n : ℕ) (entries : List Entry) (var value row count : ℕ) (old new : Marks) → new.begun ≡ old.begun → new.low.items ≡ slice_set old.low.items var count → new.high.items ≡ old.high.items → IsMarked n entries old → count ≡ length entries + 1 → IsMarked n (entries ++ Tighten var Low value row ∷ []) new
+pub marked_low : (n : ℕ) (entries : List Entry) (var value row count : ℕ) (old new : Marks) → new.begun ≡ old.begun →
+    new.low.items ≡ slice_set old.low.items var count → new.high.items ≡ old.high.items → IsMarked n entries old →
+    count ≡ length entries + 1 → IsMarked n (entries ++ Tighten var Low value row ∷ []) new
 marked_low n entries var value row count old new begun lows highs marked counted =
     let e = Tighten var Low value row in
     let run = run_more entries var value row Low in
@@ -87,8 +93,11 @@ marked_low n entries var value row count old new begun lows highs marked counted
     record {
       low_count = ap length lows ∙ length-set old.low.items var count ∙ marked.low_count;
       high_count = ap length highs ∙ marked.high_count;
-      low_small = subst (λ (ms : List ℕ). All (λ mark. mark ≤ length (entries ++ e ∷ [])) ms) (sym lows) (small_set old.low.items var count (length (entries ++ e ∷ [])) (omega arith) (small_more old.low.items entries e marked.low_small));
-      high_small = subst (λ (ms : List ℕ). All (λ mark. mark ≤ length (entries ++ e ∷ [])) ms) (sym highs) (small_more old.high.items entries e marked.high_small);
+      low_small = subst (λ (ms : List ℕ). All (λ mark. mark ≤ length (entries ++ e ∷ [])) ms) (sym lows)
+          (small_set old.low.items var count (length (entries ++ e ∷ [])) (omega arith)
+          (small_more old.low.items entries e marked.low_small));
+      high_small = subst (λ (ms : List ℕ). All (λ mark. mark ≤ length (entries ++ e ∷ [])) ms) (sym highs)
+          (small_more old.high.items entries e marked.high_small);
       begun = let b = marked.begun in omega (arith, begun, long, ap length run);
       low_marks =
           subst (λ (rs : List (ℕ × Side)). AreMarks Low new.begun rs new.low.items) (sym run)
@@ -102,7 +111,9 @@ marked_low n entries var value row count old new begun lows highs marked counted
           (kept_marks High Low old.begun (run_of entries) old.high.items var low_high marked.high_marks)));
     }
 
-pub marked_high : (n : ℕ) (entries : List Entry) (var value row count : ℕ) (old new : Marks) → new.begun ≡ old.begun → new.low.items ≡ old.low.items → new.high.items ≡ slice_set old.high.items var count → IsMarked n entries old → count ≡ length entries + 1 → IsMarked n (entries ++ Tighten var High value row ∷ []) new
+pub marked_high : (n : ℕ) (entries : List Entry) (var value row count : ℕ) (old new : Marks) → new.begun ≡ old.begun →
+    new.low.items ≡ old.low.items → new.high.items ≡ slice_set old.high.items var count → IsMarked n entries old →
+    count ≡ length entries + 1 → IsMarked n (entries ++ Tighten var High value row ∷ []) new
 marked_high n entries var value row count old new begun lows highs marked counted =
     let e = Tighten var High value row in
     let run = run_more entries var value row High in
@@ -111,7 +122,9 @@ marked_high n entries var value row count old new begun lows highs marked counte
       low_count = ap length lows ∙ marked.low_count;
       high_count = ap length highs ∙ length-set old.high.items var count ∙ marked.high_count;
       low_small = subst (λ (ms : List ℕ). All (λ mark. mark ≤ length (entries ++ e ∷ [])) ms) (sym lows) (small_more old.low.items entries e marked.low_small);
-      high_small = subst (λ (ms : List ℕ). All (λ mark. mark ≤ length (entries ++ e ∷ [])) ms) (sym highs) (small_set old.high.items var count (length (entries ++ e ∷ [])) (omega arith) (small_more old.high.items entries e marked.high_small));
+      high_small = subst (λ (ms : List ℕ). All (λ mark. mark ≤ length (entries ++ e ∷ [])) ms) (sym highs)
+          (small_set old.high.items var count (length (entries ++ e ∷ [])) (omega arith)
+          (small_more old.high.items entries e marked.high_small));
       begun = let b = marked.begun in omega (arith, begun, long, ap length run);
       low_marks =
           subst (λ (rs : List (ℕ × Side)). AreMarks Low new.begun rs new.low.items) (sym run)
@@ -126,7 +139,8 @@ marked_high n entries var value row count old new begun lows highs marked counte
     }
 
 -- the first place, where one is open
-pub place_of_open : (b : Bool) (boxes : OpenBoxes) (entries : List Entry) → 0 < length (places_of b boxes entries) → first_place (places_of b boxes entries) ≡ record { box = boxes.present; since = run_of entries }
+pub place_of_open : (b : Bool) (boxes : OpenBoxes) (entries : List Entry) → 0 < length (places_of b boxes entries) →
+    first_place (places_of b boxes entries) ≡ record { box = boxes.present; since = run_of entries }
 place_of_open false boxes entries some = absurd (omega arith)
 place_of_open true boxes entries some = refl
 
@@ -140,22 +154,42 @@ fresh_list [] = refl
 fresh_list (box ∷ boxes) = refl
 
 -- the places after an entry
-listed_places : (box : CostBox) (behind_it : List CostBox) (entries : List Entry) (entry : Entry) → place_list (run_of (entries ++ entry ∷ [])) (subboxes box entry ++ behind_it) ≡ subplaces (record { box = box; since = run_of entries }) entry ++ map fresh behind_it
-listed_places box behind_it entries (Tighten var side value row) = ap (λ (run : List (ℕ × Side)). place_list run (tightened box side var value ∷ behind_it)) (run_more entries var value row side)
-listed_places box behind_it entries (Split var value) = ap (λ (run : List (ℕ × Side)). place_list run (with_high box var value ∷ with_low box var (value + 1) ∷ behind_it)) (run_ends entries (Split var value) (λ more. refl))
-listed_places box behind_it entries (Halve var value wide) = ap (λ (run : List (ℕ × Side)). place_list run (with_high box var value ∷ with_low box var (value + 1) ∷ behind_it)) (run_ends entries (Halve var value wide) (λ more. refl))
-listed_places box behind_it entries (Refute parts) = ap (λ (run : List (ℕ × Side)). place_list run behind_it) (run_ends entries (Refute parts) (λ more. refl)) ∙ fresh_list behind_it
-listed_places box behind_it entries Undone = ap (λ (run : List (ℕ × Side)). place_list run behind_it) (run_ends entries Undone (λ more. refl)) ∙ fresh_list behind_it
+listed_places : (box : CostBox) (behind_it : List CostBox) (entries : List Entry) (entry : Entry) →
+    place_list (run_of (entries ++ entry ∷ [])) (subboxes box entry ++ behind_it)
+    ≡ subplaces (record { box = box; since = run_of entries }) entry ++ map fresh behind_it
+listed_places box behind_it entries (Tighten var side value row) =
+    ap (λ (run : List (ℕ × Side)). place_list run (tightened box side var value ∷ behind_it))
+    (run_more entries var value row side)
+listed_places box behind_it entries (Split var value) =
+    ap (λ (run : List (ℕ × Side)). place_list run (with_high box var value ∷ with_low box var (value + 1) ∷ behind_it))
+    (run_ends entries (Split var value) (λ more. refl))
+listed_places box behind_it entries (Halve var value wide) =
+    ap (λ (run : List (ℕ × Side)). place_list run (with_high box var value ∷ with_low box var (value + 1) ∷ behind_it))
+    (run_ends entries (Halve var value wide) (λ more. refl))
+listed_places box behind_it entries (Refute parts) =
+    ap (λ (run : List (ℕ × Side)). place_list run behind_it) (run_ends entries (Refute parts) (λ more. refl))
+    ∙ fresh_list behind_it
+listed_places box behind_it entries Undone =
+    ap (λ (run : List (ℕ × Side)). place_list run behind_it) (run_ends entries Undone (λ more. refl))
+    ∙ fresh_list behind_it
 
-next_places : (more : Bool) (new : OpenBoxes) (entries : List Entry) (next : List CostBox) → MatchBool more (next ≡ new.present ∷ new.behind) (next ≡ []) → places_of more new entries ≡ place_list (run_of entries) next
+next_places : (more : Bool) (new : OpenBoxes) (entries : List Entry) (next : List CostBox) →
+    MatchBool more (next ≡ new.present ∷ new.behind) (next ≡ []) →
+    places_of more new entries ≡ place_list (run_of entries) next
 next_places true new entries next same = ap (place_list (run_of entries)) (sym same)
 next_places false new entries next same = ap (place_list (run_of entries)) (sym same)
 
 -- a tree that is built has grown by an entry, where the boxes went on by it
-pub view_grown : (open_now : Bool) (boxes : OpenBoxes) (entries : List Entry) (entry : Entry) (more : Bool) (new : OpenBoxes) (news : List Entry) (old : Growing) → (let tree : Growing = record { entries = entries; places = places_of open_now boxes entries } in tree) ≡ old → 0 < length old.places → MatchBool more (subboxes boxes.present entry ++ boxes.behind ≡ new.present ∷ new.behind) (subboxes boxes.present entry ++ boxes.behind ≡ []) → news ≡ entries ++ entry ∷ [] → (let tree : Growing = record { entries = news; places = places_of more new news } in tree) ≡ grown old entry
+pub view_grown : (open_now : Bool) (boxes : OpenBoxes) (entries : List Entry) (entry : Entry) (more : Bool)
+    (new : OpenBoxes) (news : List Entry) (old : Growing) →
+    (let tree : Growing = record { entries = entries; places = places_of open_now boxes entries } in tree) ≡ old →
+    0 < length old.places → MatchBool more (subboxes boxes.present entry ++ boxes.behind ≡ new.present ∷ new.behind)
+    (subboxes boxes.present entry ++ boxes.behind ≡ []) → news ≡ entries ++ entry ∷ [] →
+    (let tree : Growing = record { entries = news; places = places_of more new news } in tree) ≡ grown old entry
 view_grown open_now boxes entries entry more new news old is_old some went longer =
     subst (λ (tree : Growing). (let made : Growing = record { entries = news; places = places_of more new news } in made) ≡ grown tree entry) is_old
-    (subst (λ (es : List Entry). (let made : Growing = record { entries = es; places = places_of more new es } in made) ≡ grown (record { entries = entries; places = places_of open_now boxes entries }) entry) (sym longer)
+    (subst (λ (es : List Entry). (let made : Growing = record { entries = es; places = places_of more new es } in made)
+    ≡ grown (record { entries = entries; places = places_of open_now boxes entries }) entry) (sym longer)
     (λ i. record { entries = entries ++ entry ∷ []; places = here open_now (subst (λ (tree : Growing). 0 < length tree.places) (sym is_old) some) i }))
   where
     here : (b : Bool) → 0 < length (places_of b boxes entries) → places_of more new (entries ++ entry ∷ []) ≡ places_after (places_of b boxes entries) entry
@@ -165,19 +199,26 @@ view_grown open_now boxes entries entry more new news old is_old some went longe
         ∙ listed_places boxes.present boxes.behind entries entry
 
 -- where a place is open, the present box is of as many variables as the marks are
-pub low_count : (b : Bool) (boxes : OpenBoxes) (entries : List Entry) (marks : Marks) → 0 < length (places_of b boxes entries) → IsBuilt entries b boxes marks → length marks.low.items ≡ length boxes.present.low
+pub low_count : (b : Bool) (boxes : OpenBoxes) (entries : List Entry) (marks : Marks) →
+    0 < length (places_of b boxes entries) → IsBuilt entries b boxes marks →
+    length marks.low.items ≡ length boxes.present.low
 low_count false boxes entries marks some built = absurd (omega arith)
 low_count true boxes entries marks some built = sym (built.counts 0 boxes.present (omega arith))
 
-pub high_count : (b : Bool) (boxes : OpenBoxes) (entries : List Entry) (marks : Marks) → 0 < length (places_of b boxes entries) → IsBuilt entries b boxes marks → length marks.high.items ≡ length boxes.present.low
+pub high_count : (b : Bool) (boxes : OpenBoxes) (entries : List Entry) (marks : Marks) →
+    0 < length (places_of b boxes entries) → IsBuilt entries b boxes marks →
+    length marks.high.items ≡ length boxes.present.low
 high_count b boxes entries marks some built = built.marked.high_count ∙ low_count b boxes entries marks some built
 
 -- boxes of so many variables give such boxes
-counted_parts : (n : ℕ) (box : CostBox) (boxes : List CostBox) (entry : Entry) → All (λ b. length b.low ≡ n) (box ∷ boxes) → All (λ b. length b.low ≡ n) (subboxes box entry ++ boxes)
+counted_parts : (n : ℕ) (box : CostBox) (boxes : List CostBox) (entry : Entry) →
+    All (λ b. length b.low ≡ n) (box ∷ boxes) → All (λ b. length b.low ≡ n) (subboxes box entry ++ boxes)
 counted_parts n box boxes entry counts = go entry (counts 0 box (omega arith)) (All-tail (λ (b : CostBox). length b.low ≡ n) box boxes counts)
   where
     go : (e : Entry) → length box.low ≡ n → All (λ b. length b.low ≡ n) boxes → All (λ b. length b.low ≡ n) (subboxes box e ++ boxes)
-    go (Tighten var Low value row) here rest = All-cons (λ (b : CostBox). length b.low ≡ n) (tightened box Low var value) boxes (length-set box.low var value ∙ here) rest
+    go (Tighten var Low value row) here rest =
+        All-cons (λ (b : CostBox). length b.low ≡ n) (tightened box Low var value) boxes (length-set box.low var value
+        ∙ here) rest
     go (Tighten var High value row) here rest = All-cons (λ (b : CostBox). length b.low ≡ n) (tightened box High var value) boxes here rest
     go (Split var value) here rest =
         All-cons (λ (b : CostBox). length b.low ≡ n) (with_high box var value) (with_low box var (value + 1) ∷ boxes) here
@@ -194,18 +235,26 @@ opened_next true new next same = sym same
 opened_next false new next same = sym same
 
 -- what is kept when the boxes and the marks went on by an entry
-pub built_more : (entries news : List Entry) (entry : Entry) (b more : Bool) (boxes new : OpenBoxes) (old marks : Marks) → news ≡ entries ++ entry ∷ [] → 0 < length (places_of b boxes entries) → MatchBool more (subboxes boxes.present entry ++ boxes.behind ≡ new.present ∷ new.behind) (subboxes boxes.present entry ++ boxes.behind ≡ []) → IsMarked (length old.low.items) (entries ++ entry ∷ []) marks → IsBuilt entries b boxes old → IsBuilt news more new marks
+pub built_more : (entries news : List Entry) (entry : Entry) (b more : Bool) (boxes new : OpenBoxes)
+    (old marks : Marks) → news ≡ entries ++ entry ∷ [] → 0 < length (places_of b boxes entries) →
+    MatchBool more (subboxes boxes.present entry ++ boxes.behind ≡ new.present ∷ new.behind)
+    (subboxes boxes.present entry ++ boxes.behind ≡ []) →
+    IsMarked (length old.low.items) (entries ++ entry ∷ []) marks → IsBuilt entries b boxes old →
+    IsBuilt news more new marks
 built_more entries news entry false more boxes new old marks longer some went marked built = absurd (omega arith)
 built_more entries news entry true more boxes new old marks longer some went marked built = record {
   counts =
       subst (λ (n : ℕ). All (λ box. length box.low ≡ n) (opened more new)) (sym marked.low_count)
-      (subst (λ (bs : List CostBox). All (λ box. length box.low ≡ length old.low.items) bs) (sym (opened_next more new (subboxes boxes.present entry ++ boxes.behind) went))
+      (subst (λ (bs : List CostBox). All (λ box. length box.low ≡ length old.low.items) bs)
+      (sym (opened_next more new (subboxes boxes.present entry ++ boxes.behind) went))
       (counted_parts (length old.low.items) boxes.present boxes.behind entry built.counts));
-  marked = subst (λ (es : List Entry). IsMarked (length marks.low.items) es marks) (sym longer) (subst (λ (n : ℕ). IsMarked n (entries ++ entry ∷ []) marks) (sym marked.low_count) marked);
+  marked = subst (λ (es : List Entry). IsMarked (length marks.low.items) es marks) (sym longer)
+      (subst (λ (n : ℕ). IsMarked n (entries ++ entry ∷ []) marks) (sym marked.low_count) marked);
 }
 
 -- an Undone more at one place fewer
-pub undone_step : (entries : List Entry) (places : List Place) → 0 < length places → (entries ++ Undone ∷ []) ++ undones (length (places_after places Undone)) ≡ entries ++ undones (length places)
+pub undone_step : (entries : List Entry) (places : List Place) → 0 < length places →
+    (entries ++ Undone ∷ []) ++ undones (length (places_after places Undone)) ≡ entries ++ undones (length places)
 undone_step entries [] some = absurd (omega arith)
 undone_step entries (place ∷ places) some = append_assoc entries (Undone ∷ []) (undones (length places))
 

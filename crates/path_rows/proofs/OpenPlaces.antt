@@ -11,7 +11,10 @@ use Rattle.path_rows.specs.Earnest.{Place, Earnest, EarnestAt, IsEarnestTree, su
 use Rattle.path_rows.specs.OpenPlaces.{Opens, UndoneLast, undones}
 
 -- one more entry is one step
-pub opens_more : (accepts : Point → Type 0) (top : ℕ) (forms : List Form) (places : List Place) (entries : List Entry) (place : Place) (rest : List Place) (entry : Entry) → Opens accepts top forms places entries (place ∷ rest) → SoundAt forms place.box entry → EarnestAt accepts top forms place entry → Opens accepts top forms places (entries ++ entry ∷ []) (subplaces place entry ++ rest)
+pub opens_more : (accepts : Point → Type 0) (top : ℕ) (forms : List Form) (places : List Place) (entries : List Entry)
+    (place : Place) (rest : List Place) (entry : Entry) → Opens accepts top forms places entries (place ∷ rest) →
+    SoundAt forms place.box entry → EarnestAt accepts top forms place entry →
+    Opens accepts top forms places (entries ++ entry ∷ []) (subplaces place entry ++ rest)
 opens_more accepts top forms places [] place rest entry opens sound earnest =
     subst (λ (ps : List Place). Opens accepts top forms ps (entry ∷ []) (subplaces place entry ++ rest)) (sym opens) (sound, earnest, refl)
 opens_more accepts top forms [] (e ∷ entries) place rest entry opens sound earnest = absurd opens
@@ -19,7 +22,8 @@ opens_more accepts top forms (p ∷ places) (e ∷ entries) place rest entry ope
     (opens.0, opens.1, opens_more accepts top forms (subplaces p e ++ places) entries place rest entry opens.2 sound earnest)
 
 -- with no open place left the entries are an earnest tree over each place
-pub opens_ends : (accepts : Point → Type 0) (top : ℕ) (forms : List Form) (places : List Place) (entries : List Entry) → Opens accepts top forms places entries [] → Earnest accepts top forms places entries
+pub opens_ends : (accepts : Point → Type 0) (top : ℕ) (forms : List Form) (places : List Place) (entries : List Entry) →
+    Opens accepts top forms places entries [] → Earnest accepts top forms places entries
 opens_ends accepts top forms places [] opens = subst (λ (ps : List Place). Earnest accepts top forms ps []) (sym opens) tt
 opens_ends accepts top forms [] (e ∷ entries) opens = absurd opens
 opens_ends accepts top forms (p ∷ places) (e ∷ entries) opens =
@@ -30,7 +34,9 @@ earnest_undones accepts top forms [] = tt
 earnest_undones accepts top forms (p ∷ places) = (tt, tt, earnest_undones accepts top forms places)
 
 -- an Undone for each open place ends it
-pub opens_undone : (accepts : Point → Type 0) (top : ℕ) (forms : List Form) (places : List Place) (entries : List Entry) (left : List Place) → Opens accepts top forms places entries left → Earnest accepts top forms places (entries ++ undones (length left))
+pub opens_undone : (accepts : Point → Type 0) (top : ℕ) (forms : List Form) (places : List Place) (entries : List Entry)
+    (left : List Place) → Opens accepts top forms places entries left →
+    Earnest accepts top forms places (entries ++ undones (length left))
 opens_undone accepts top forms places [] left opens =
     subst (λ (ps : List Place). Earnest accepts top forms ps (undones (length left))) (sym opens) (earnest_undones accepts top forms left)
 opens_undone accepts top forms [] (e ∷ entries) left opens = absurd opens
@@ -41,7 +47,8 @@ abbrev pub boxes_of : List Place → List CostBox
 boxes_of places = map (λ place. place.box) places
 
 -- what is earnest is sound
-pub earnest_sound : (accepts : Point → Type 0) (top : ℕ) (forms : List Form) (places : List Place) (entries : List Entry) → Earnest accepts top forms places entries → Sound forms (boxes_of places) entries
+pub earnest_sound : (accepts : Point → Type 0) (top : ℕ) (forms : List Form) (places : List Place)
+    (entries : List Entry) → Earnest accepts top forms places entries → Sound forms (boxes_of places) entries
 earnest_sound accepts top forms [] [] earnest = tt
 earnest_sound accepts top forms (p ∷ places) [] earnest = absurd earnest
 earnest_sound accepts top forms [] (e ∷ entries) earnest = absurd earnest
@@ -56,7 +63,8 @@ earnest_sound accepts top forms (p ∷ places) (Refute parts ∷ entries) earnes
 earnest_sound accepts top forms (p ∷ places) (Undone ∷ entries) earnest =
     (earnest.0, earnest_sound accepts top forms places entries earnest.2)
 
-pub earnest_tree_sound : (accepts : Point → Type 0) (top : ℕ) (forms : List Form) (box : CostBox) (tree : List Entry) → IsEarnestTree accepts top forms box tree → IsSoundTree forms box tree
+pub earnest_tree_sound : (accepts : Point → Type 0) (top : ℕ) (forms : List Form) (box : CostBox) (tree : List Entry) →
+    IsEarnestTree accepts top forms box tree → IsSoundTree forms box tree
 earnest_tree_sound accepts top forms box tree earnest = earnest_sound accepts top forms (record { box = box; since = [] } ∷ []) tree earnest
 
 -- a property of all boxes
@@ -76,7 +84,10 @@ same_boxes place (Refute parts) places = refl
 same_boxes place Undone places = refl
 
 -- what each sound entry hands from its box to its subtrees' boxes holds of the open ones
-pub opens_all : (accepts : Point → Type 0) (top : ℕ) (forms : List Form) (Keeps : CostBox → Type 0) → ((box : CostBox) (entry : Entry) → Keeps box → SoundAt forms box entry → AllOf Keeps (subboxes box entry)) → (places : List Place) (entries : List Entry) (left : List Place) → AllOf Keeps (boxes_of places) → Opens accepts top forms places entries left → AllOf Keeps (boxes_of left)
+pub opens_all : (accepts : Point → Type 0) (top : ℕ) (forms : List Form) (Keeps : CostBox → Type 0) →
+    ((box : CostBox) (entry : Entry) → Keeps box → SoundAt forms box entry → AllOf Keeps (subboxes box entry)) →
+    (places : List Place) (entries : List Entry) (left : List Place) → AllOf Keeps (boxes_of places) →
+    Opens accepts top forms places entries left → AllOf Keeps (boxes_of left)
 opens_all accepts top forms Keeps hands places [] left all opens = subst (λ (ps : List Place). AllOf Keeps (boxes_of ps)) opens all
 opens_all accepts top forms Keeps hands [] (e ∷ entries) left all opens = absurd opens
 opens_all accepts top forms Keeps hands (p ∷ places) (e ∷ entries) left all opens =
@@ -104,7 +115,8 @@ fresh_after place (Halve var value wide) places all = (refl, all)
 fresh_after place (Refute parts) places all = fresh_behind places all
 fresh_after place Undone places all = fresh_behind places all
 
-pub opens_fresh : (accepts : Point → Type 0) (top : ℕ) (forms : List Form) (places : List Place) (entries : List Entry) (left : List Place) → FreshBehind places → Opens accepts top forms places entries left → FreshBehind left
+pub opens_fresh : (accepts : Point → Type 0) (top : ℕ) (forms : List Form) (places : List Place) (entries : List Entry)
+    (left : List Place) → FreshBehind places → Opens accepts top forms places entries left → FreshBehind left
 opens_fresh accepts top forms places [] left all opens = subst FreshBehind opens all
 opens_fresh accepts top forms [] (e ∷ entries) left all opens = absurd opens
 opens_fresh accepts top forms (p ∷ places) (e ∷ entries) left all opens =
@@ -131,3 +143,12 @@ closed_more (e ∷ entries) entry closed here = (closed.0, closed_more entries e
 
 pub undone_last : (entries : List Entry) (n : ℕ) → IsClosed entries → UndoneLast (entries ++ undones n)
 undone_last entries n closed = record { done = entries; closed = closed; undone = n; same = refl }
+
+-- an earnest tree leaves no place open
+pub earnest_opens : (accepts : Point → Type 0) (top : ℕ) (forms : List Form) (places : List Place)
+    (entries : List Entry) → Earnest accepts top forms places entries → Opens accepts top forms places entries []
+earnest_opens accepts top forms [] [] earnest = refl
+earnest_opens accepts top forms (p ∷ places) [] earnest = absurd earnest
+earnest_opens accepts top forms [] (e ∷ entries) earnest = absurd earnest
+earnest_opens accepts top forms (p ∷ places) (e ∷ entries) earnest =
+    (earnest.0, earnest.1, earnest_opens accepts top forms (subplaces p e ++ places) entries earnest.2)

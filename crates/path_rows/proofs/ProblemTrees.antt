@@ -47,7 +47,9 @@ row_met p w row kept fit is_row =
     let found = request_of_rival p.graph p.paths row.request no_request row.rival.edges is_row in
     let meets = (fit-iff p w kept).0 fit in
     let met = meets.rows row.request no_request found.within row.rival.edges found.path found.other in
-    let counted = subst (λ (n : ℕ). pos 0 ≤ℤ value (form_between p.graph n (get_or p.paths row.request no_request).path.edges row.rival.edges) w) (sym fit.within.low_count) met in
+    let counted = subst (λ (n : ℕ).
+    pos 0 ≤ℤ value (form_between p.graph n (get_or p.paths row.request no_request).path.edges row.rival.edges) w)
+    (sym fit.within.low_count) met in
     subst (λ (r : Option Request). pos 0 ≤ℤ value (form_between p.graph (length p.low) (path_edges r) row.rival.edges) w) (sym found.is_there) counted
 
 abbrev no_row : Row
@@ -59,9 +61,12 @@ fit_meets p rows w kept true_rows fit k =
     elim (cases_lt k (length rows)) [
       | inl k_in ↦
           let is_row = true_rows k no_row k_in in
-          subst (λ (f : Form). pos 0 ≤ℤ value f w) (sym (get_or-map (form_of_row p) rows k no_row no_form k_in)) (row_met p w (get_or rows k no_row) kept fit is_row)
+          subst (λ (f : Form). pos 0 ≤ℤ value f w) (sym (get_or-map (form_of_row p) rows k no_row no_form k_in))
+          (row_met p w (get_or rows k no_row) kept fit is_row)
       | inr past ↦
-          subst (λ (f : Form). pos 0 ≤ℤ value f w) (sym (get_or_past (forms_of_rows p rows) k no_form (omega (arith, length-map rows (form_of_row p))))) (omega (arith, ints))
+          subst (λ (f : Form). pos 0 ≤ℤ value f w)
+          (sym (get_or_past (forms_of_rows p rows) k no_form (omega (arith, length-map rows (form_of_row p)))))
+          (omega (arith, ints))
     ]
 
 start_le : (w : List ℕ) (start : ℕ) → start ≤ fold max start w
@@ -99,11 +104,14 @@ in_capped box cap w inside small = record {
 }
 
 -- a closed sound tree at a cap: fit costs have a greatest cost above it
-pub tree_bounds : (p : DesignProblem) (rows : List Row) (cap : ℕ) (tree : List Entry) → IsProblem p → All (IsRow p) rows → IsSoundTree (forms_of_rows p rows) (capped (box_of p) cap) tree → IsClosed tree → (w : List ℕ) → IsFit p w → cap < greatest_cost w
+pub tree_bounds : (p : DesignProblem) (rows : List Row) (cap : ℕ) (tree : List Entry) → IsProblem p →
+    All (IsRow p) rows → IsSoundTree (forms_of_rows p rows) (capped (box_of p) cap) tree → IsClosed tree →
+    (w : List ℕ) → IsFit p w → cap < greatest_cost w
 tree_bounds p rows cap tree kept true_rows sound closed w fit =
     elim (cases_lt cap (greatest_cost w)) [
       | inl above ↦ above
-      | inr within ↦ absurd (closed_tree_none (forms_of_rows p rows) (capped (box_of p) cap) tree sound closed w (in_capped (box_of p) cap w fit.within within) (fit_meets p rows w kept true_rows fit))
+      | inr within ↦ absurd (closed_tree_none (forms_of_rows p rows) (capped (box_of p) cap) tree sound closed w
+          (in_capped (box_of p) cap w fit.within within) (fit_meets p rows w kept true_rows fit))
     ]
 
 -- fit costs are at most the greatest upper bound
@@ -115,7 +123,8 @@ fit_most p w fit =
     let most = le_fold p.high k 0 (omega (arith, fit.within.high_count)) in
     omega arith)
 
-pub tree_leaves_none : (p : DesignProblem) (rows : List Row) (proof : CapTree) → IsProblem p → All (IsRow p) rows → Proves p rows (greatest_bound p) proof → HasNoFit p
+pub tree_leaves_none : (p : DesignProblem) (rows : List Row) (proof : CapTree) → IsProblem p → All (IsRow p) rows →
+    Proves p rows (greatest_bound p) proof → HasNoFit p
 tree_leaves_none p rows proof kept true_rows proves w fit =
     let above = tree_bounds p rows (greatest_bound p) proof.tree kept true_rows proves.sound proves.closed w fit in
     let most = fit_most p w fit in
@@ -127,7 +136,9 @@ none_greatest [] none = refl
 none_greatest (x ∷ w) none = absurd (omega arith)
 
 -- a floor, or a proof at the cap below, bounds the greatest cost from below
-pub least_shown : (p : DesignProblem) (rows : List Row) (k : ℕ) (costs : Costs) (floor : Floor) (proof : Option CapTree) → IsProblem p → All (IsRow p) rows → GivesCosts p k costs → ShowsLeast p rows k floor proof → (w : List ℕ) → IsFit p w → k ≤ greatest_cost w
+pub least_shown : (p : DesignProblem) (rows : List Row) (k : ℕ) (costs : Costs) (floor : Floor)
+    (proof : Option CapTree) → IsProblem p → All (IsRow p) rows → GivesCosts p k costs →
+    ShowsLeast p rows k floor proof → (w : List ℕ) → IsFit p w → k ≤ greatest_cost w
 least_shown p rows k costs Absent (Some proof) kept true_rows gives shows w fit =
     let above = tree_bounds p rows shows.0 proof.tree kept true_rows shows.2.sound shows.2.closed w fit in
     omega (arith, shows.1)
@@ -143,7 +154,9 @@ least_shown p rows k costs (Var v) None kept true_rows gives shows w fit =
 least_shown p rows k costs (Var v) (Some proof) kept true_rows gives shows w fit = absurd shows
 
 -- a valid claim is true
-claim_holds : (p : DesignProblem) (rows : List Row) (verdict : Verdict) (costs : Option Costs) (floor : Floor) (proof : Option CapTree) → IsProblem p → All (IsRow p) rows → ClaimHolds p rows verdict costs floor proof → IsTrueVerdict p verdict costs
+claim_holds : (p : DesignProblem) (rows : List Row) (verdict : Verdict) (costs : Option Costs) (floor : Floor)
+    (proof : Option CapTree) → IsProblem p → All (IsRow p) rows → ClaimHolds p rows verdict costs floor proof →
+    IsTrueVerdict p verdict costs
 claim_holds p rows (Optimal k) (Some costs) floor proof kept true_rows claim =
     let gives = claim.0 in
     record {
@@ -151,7 +164,11 @@ claim_holds p rows (Optimal k) (Some costs) floor proof kept true_rows claim =
       is_printed = refl;
       values = gives.values;
       names = gives.names;
-      best = record { fit = gives.fit; least = λ other fit. subst (λ (n : ℕ). n ≤ greatest_cost other) (sym gives.greatest) (least_shown p rows k costs floor proof kept true_rows gives claim.1 other fit) };
+      best = record {
+        fit = gives.fit;
+        least = λ other fit. subst (λ (n : ℕ). n ≤ greatest_cost other) (sym gives.greatest)
+            (least_shown p rows k costs floor proof kept true_rows gives claim.1 other fit);
+      };
       greatest = gives.greatest;
     }
 claim_holds p rows Impossible None Absent (Some proof) kept true_rows claim = tree_leaves_none p rows proof kept true_rows claim

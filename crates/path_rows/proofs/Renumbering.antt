@@ -24,36 +24,57 @@ use Rattle.path_rows.specs.Earnest.{Place, Earnest, EarnestAt, at_bound, subplac
 use Rattle.path_rows.specs.OpenPlaces.{Opens}
 use Rattle.path_rows.specs.Renumbering.{KeepsForms, renumbered, renumbered_member, renumbered_part, renumbered_wide}
 
-renumbered_form : (number : ℕ → ℕ) (old new : List Form) (n : ℕ) (box : CostBox) (member : Member) → KeepsForms number old new → IsFormOf box old member → member_form n new (renumbered_member number member) ≡ member_form n old member
+renumbered_form : (number : ℕ → ℕ) (old new : List Form) (n : ℕ) (box : CostBox) (member : Member) →
+    KeepsForms number old new → IsFormOf box old member →
+    member_form n new (renumbered_member number member) ≡ member_form n old member
 renumbered_form number old new n box (Low var bound) keeps is = refl
 renumbered_form number old new n box (High var bound) keeps is = refl
 renumbered_form number old new n box (Row row) keeps is = keeps.same row is
 
-renumbered_known : (number : ℕ → ℕ) (old new : List Form) (box : CostBox) (member : Member) → KeepsForms number old new → IsFormOf box old member → IsFormOf box new (renumbered_member number member)
+renumbered_known : (number : ℕ → ℕ) (old new : List Form) (box : CostBox) (member : Member) →
+    KeepsForms number old new → IsFormOf box old member → IsFormOf box new (renumbered_member number member)
 renumbered_known number old new box (Low var bound) keeps is = is
 renumbered_known number old new box (High var bound) keeps is = is
 renumbered_known number old new box (Row row) keeps is = keeps.known row is
 
-renumbered_forms : (number : ℕ → ℕ) (old new : List Form) (box : CostBox) (basis : List Member) → KeepsForms number old new → All (IsFormOf box old) basis → forms_of box new (map (renumbered_member number) basis) ≡ forms_of box old basis
+renumbered_forms : (number : ℕ → ℕ) (old new : List Form) (box : CostBox) (basis : List Member) →
+    KeepsForms number old new → All (IsFormOf box old) basis → forms_of box new (map (renumbered_member number) basis)
+    ≡ forms_of box old basis
 renumbered_forms number old new box [] keeps are = refl
 renumbered_forms number old new box (member ∷ basis) keeps are =
-    cc (renumbered_form number old new (length box.low) box member keeps (are 0 member (omega arith)), renumbered_forms number old new box basis keeps (λ k d k_in. are (suc k) d (omega (arith, k_in))))
+    cc (
+      renumbered_form number old new (length box.low) box member keeps (are 0 member (omega arith)),
+      renumbered_forms number old new box basis keeps (λ k d k_in. are (suc k) d (omega (arith, k_in))),
+    )
 
-renumbered_all : (number : ℕ → ℕ) (old new : List Form) (box : CostBox) (basis : List Member) → KeepsForms number old new → All (IsFormOf box old) basis → All (IsFormOf box new) (map (renumbered_member number) basis)
+renumbered_all : (number : ℕ → ℕ) (old new : List Form) (box : CostBox) (basis : List Member) →
+    KeepsForms number old new → All (IsFormOf box old) basis →
+    All (IsFormOf box new) (map (renumbered_member number) basis)
 renumbered_all number old new box [] keeps are k d k_in = absurd (omega arith)
 renumbered_all number old new box (member ∷ basis) keeps are zero d k_in = renumbered_known number old new box member keeps (are 0 member (omega arith))
-renumbered_all number old new box (member ∷ basis) keeps are (suc k) d k_in = renumbered_all number old new box basis keeps (λ i e i_in. are (suc i) e (omega (arith, i_in))) k d (omega arith)
+renumbered_all number old new box (member ∷ basis) keeps are (suc k) d k_in =
+    renumbered_all number old new box basis keeps (λ i e i_in. are (suc i) e (omega (arith, i_in))) k d (omega arith)
 
 -- the entries of a form stay its entries
-renumbered_entries : (number : ℕ → ℕ) (old new : List Form) (box : CostBox) (basis : List Member) (member : Member) (es : List Fraction) → KeepsForms number old new → All (IsFormOf box old) basis → IsFormOf box old member → HasEntries box old basis member es → HasEntries box new (map (renumbered_member number) basis) (renumbered_member number member) es
+renumbered_entries : (number : ℕ → ℕ) (old new : List Form) (box : CostBox) (basis : List Member) (member : Member)
+    (es : List Fraction) → KeepsForms number old new → All (IsFormOf box old) basis → IsFormOf box old member →
+    HasEntries box old basis member es →
+    HasEntries box new (map (renumbered_member number) basis) (renumbered_member number member) es
 renumbered_entries number old new box basis member es keeps are is has =
-    subst (λ (fs : List Form). AreEntries fs (member_form (length box.low) new (renumbered_member number member)) es) (sym (renumbered_forms number old new box basis keeps are))
+    subst (λ (fs : List Form). AreEntries fs (member_form (length box.low) new (renumbered_member number member)) es)
+    (sym (renumbered_forms number old new box basis keeps are))
     (subst (λ (f : Form). AreEntries (forms_of box old basis) f es) (sym (renumbered_form number old new (length box.low) box member keeps is)) has)
 
-low_entries : (number : ℕ → ℕ) (old new : List Form) (box : CostBox) (basis : List Member) (var : ℕ) (es : List Fraction) → KeepsForms number old new → All (IsFormOf box old) basis → var < length box.low → HasEntries box old basis (low_member box var) es → HasEntries box new (map (renumbered_member number) basis) (low_member box var) es
-low_entries number old new box basis var es keeps are var_in has = renumbered_entries number old new box basis (low_member box var) es keeps are (var_in, refl) has
+low_entries : (number : ℕ → ℕ) (old new : List Form) (box : CostBox) (basis : List Member) (var : ℕ)
+    (es : List Fraction) → KeepsForms number old new → All (IsFormOf box old) basis → var < length box.low →
+    HasEntries box old basis (low_member box var) es →
+    HasEntries box new (map (renumbered_member number) basis) (low_member box var) es
+low_entries number old new box basis var es keeps are var_in has =
+    renumbered_entries number old new box basis (low_member box var) es keeps are (var_in, refl) has
 
-renumbered_table : (number : ℕ → ℕ) (old new : List Form) (box : CostBox) (basis : List Member) (lows : List (List Fraction)) → KeepsForms number old new → IsTable box old basis lows → IsTable box new (map (renumbered_member number) basis) lows
+renumbered_table : (number : ℕ → ℕ) (old new : List Form) (box : CostBox) (basis : List Member)
+    (lows : List (List Fraction)) → KeepsForms number old new → IsTable box old basis lows →
+    IsTable box new (map (renumbered_member number) basis) lows
 renumbered_table number old new box basis lows keeps table =
     let counted = length-map basis (renumbered_member number) in
     record {
@@ -78,11 +99,15 @@ same_own number (Low var bound) = refl
 same_own number (High var bound) = refl
 same_own number (Row row) = refl
 
-same_multipliers : (number : ℕ → ℕ) (basis : List Member) (r : Member) (es : List Fraction) → multipliers (map (renumbered_member number) basis) (renumbered_member number r) es ≡ multipliers basis r es
+same_multipliers : (number : ℕ → ℕ) (basis : List Member) (r : Member) (es : List Fraction) →
+    multipliers (map (renumbered_member number) basis) (renumbered_member number r) es ≡ multipliers basis r es
 same_multipliers number basis r es = cc (same_own number r, same_parts number basis (drop 1 es))
 
 -- a step stays a step
-renumbered_step : (number : ℕ → ℕ) (old new : List Form) (box : CostBox) (basis : List Member) (lows : List (List Fraction)) (name : StepName) (left right : Fraction) → KeepsForms number old new → All (IsFormOf box old) basis → IsStep box old basis lows name left right → IsStep box new (map (renumbered_member number) basis) lows name left right
+renumbered_step : (number : ℕ → ℕ) (old new : List Form) (box : CostBox) (basis : List Member)
+    (lows : List (List Fraction)) (name : StepName) (left right : Fraction) → KeepsForms number old new →
+    All (IsFormOf box old) basis → IsStep box old basis lows name left right →
+    IsStep box new (map (renumbered_member number) basis) lows name left right
 renumbered_step number old new box basis lows name left right keeps are step = go name left right step
   where
     counted : length (map (renumbered_member number) basis) ≡ length basis
@@ -97,46 +122,63 @@ renumbered_step number old new box basis lows name left right keeps are step = g
     stuck : (es : List Fraction) → IsStuck basis es → IsStuck (map (renumbered_member number) basis) es
     stuck es is = record { below = is.below; none_above = λ k from to. is.none_above k from (omega (arith, counted)) }
 
-    has : (member : Member) (es : List Fraction) → IsFormOf box old member → HasEntries box old basis member es → HasEntries box new (map (renumbered_member number) basis) (renumbered_member number member) es
+    has : (member : Member) (es : List Fraction) → IsFormOf box old member → HasEntries box old basis member es →
+        HasEntries box new (map (renumbered_member number) basis) (renumbered_member number member) es
     has member es is entries = renumbered_entries number old new box basis member es keeps are is entries
 
     known : (member : Member) → IsFormOf box old member → IsFormOf box new (renumbered_member number member)
     known member is = renumbered_known number old new box member keeps is
 
-    go : (name : StepName) (left right : Fraction) → IsStep box old basis lows name left right → IsStep box new (map (renumbered_member number) basis) lows name left right
+    go : (name : StepName) (left right : Fraction) → IsStep box old basis lows name left right →
+        IsStep box new (map (renumbered_member number) basis) lows name left right
     go name left right (row_product row var place row_in var_in small) =
-        let P : Form → Type 0 = λ f. IsStep box new (map (renumbered_member number) basis) lows Mul (whole (slice_index_or f.coefficients var (pos 0))) (entry (slice_index_or lows var []) place) in
+        let P : Form → Type 0 = λ f. IsStep box new (map (renumbered_member number) basis) lows Mul
+        (whole (slice_index_or f.coefficients var (pos 0))) (entry (slice_index_or lows var []) place) in
         subst P (keeps.same row row_in) (row_product (number row) var place (keeps.known row row_in) var_in (within place small))
     go name left right (row_sum row place k next row_in small gets) =
-        let P : Form → Type 0 = λ f. slice_get (terms f.coefficients lows place) k ≡ Some next → IsStep box new (map (renumbered_member number) basis) lows Add (fold plus (start_of_sum box f place) (take k (terms f.coefficients lows place))) next in
+        let P : Form → Type 0 = λ f. slice_get (terms f.coefficients lows place) k ≡ Some next →
+        IsStep box new (map (renumbered_member number) basis) lows Add
+        (fold plus (start_of_sum box f place) (take k (terms f.coefficients lows place))) next in
         subst P (keeps.same row row_in) (row_sum (number row) place k next (keeps.known row row_in) (within place small)) gets
     go name left right (pivot_quotient r es j place is entries pivot small) =
         pivot_quotient (renumbered_member number r) es j place (known r is) (has r es is entries) (pivots es j pivot) (within place small)
     go name left right (pivot_inverse r es j is entries pivot) =
         pivot_inverse (renumbered_member number r) es j (known r is) (has r es is entries) (pivots es j pivot)
     go name left right (pivot_product r f es fs j place is entries pivot f_is f_entries small) =
-        pivot_product (renumbered_member number r) (renumbered_member number f) es fs j place (known r is) (has r es is entries) (pivots es j pivot) (known f f_is) (has f fs f_is f_entries) (within place small)
+        pivot_product (renumbered_member number r) (renumbered_member number f) es fs j place (known r is)
+        (has r es is entries) (pivots es j pivot) (known f f_is) (has f fs f_is f_entries) (within place small)
     go name left right (pivot_inverse_product r f es fs j is entries pivot f_is f_entries) =
-        pivot_inverse_product (renumbered_member number r) (renumbered_member number f) es fs j (known r is) (has r es is entries) (pivots es j pivot) (known f f_is) (has f fs f_is f_entries)
+        pivot_inverse_product (renumbered_member number r) (renumbered_member number f) es fs j (known r is)
+        (has r es is entries) (pivots es j pivot) (known f f_is) (has f fs f_is f_entries)
     go name left right (pivot_difference r f es fs j place is entries pivot f_is f_entries small) =
-        pivot_difference (renumbered_member number r) (renumbered_member number f) es fs j place (known r is) (has r es is entries) (pivots es j pivot) (known f f_is) (has f fs f_is f_entries) (within place small)
+        pivot_difference (renumbered_member number r) (renumbered_member number f) es fs j place (known r is)
+        (has r es is entries) (pivots es j pivot) (known f f_is) (has f fs f_is f_entries) (within place small)
     go name left right (corner_multiple k d gets) = corner_multiple k d gets
     go name left right corner_scale = corner_scale
     go name left right (multiple r es k d is entries is_stuck gets) =
-        let P : List Fraction → Type 0 = λ ms. slice_get (denominators ms) k ≡ Some d → IsStep box new (map (renumbered_member number) basis) lows Lcm (whole (pos (lcm_of (take k (denominators ms))))) (whole (pos d)) in
+        let P : List Fraction → Type 0 = λ ms. slice_get (denominators ms) k ≡ Some d →
+        IsStep box new (map (renumbered_member number) basis) lows Lcm
+        (whole (pos (lcm_of (take k (denominators ms))))) (whole (pos d)) in
         subst P (same_multipliers number basis r es) (multiple (renumbered_member number r) es k d (known r is) (has r es is entries) (stuck es is_stuck)) gets
     go name left right (multiplier_product r es k q is entries is_stuck gets) =
-        let P : List Fraction → Type 0 = λ ms. slice_get ms k ≡ Some q → IsStep box new (map (renumbered_member number) basis) lows Mul q (whole (pos (lcm_of (denominators ms)))) in
-        subst P (same_multipliers number basis r es) (multiplier_product (renumbered_member number r) es k q (known r is) (has r es is entries) (stuck es is_stuck)) gets
+        let P : List Fraction → Type 0 = λ ms. slice_get ms k ≡ Some q →
+        IsStep box new (map (renumbered_member number) basis) lows Mul q (whole (pos (lcm_of (denominators ms)))) in
+        subst P (same_multipliers number basis r es)
+        (multiplier_product (renumbered_member number r) es k q (known r is) (has r es is entries)
+        (stuck es is_stuck)) gets
     go name left right (multiplier_sum r es k next is entries is_stuck gets) =
-        let P : List Fraction → Type 0 = λ ms. slice_get (made_whole ms) k ≡ Some next → IsStep box new (map (renumbered_member number) basis) lows Add (sum_of (take k (made_whole ms))) next in
-        subst P (same_multipliers number basis r es) (multiplier_sum (renumbered_member number r) es k next (known r is) (has r es is entries) (stuck es is_stuck)) gets
+        let P : List Fraction → Type 0 = λ ms. slice_get (made_whole ms) k ≡ Some next →
+        IsStep box new (map (renumbered_member number) basis) lows Add (sum_of (take k (made_whole ms))) next in
+        subst P (same_multipliers number basis r es)
+        (multiplier_sum (renumbered_member number r) es k next (known r is) (has r es is entries)
+        (stuck es is_stuck)) gets
     go name left right (multiplier_scale r es is entries is_stuck) =
         let P : List Fraction → Type 0 = λ ms. IsStep box new (map (renumbered_member number) basis) lows Scale (sum_of (made_whole ms)) two_to_27 in
         subst P (same_multipliers number basis r es) (multiplier_scale (renumbered_member number r) es (known r is) (has r es is entries) (stuck es is_stuck))
 
 -- a step that is too wide stays one
-pub renumbered_too_wide : (number : ℕ → ℕ) (old new : List Form) (top : ℕ) (box : CostBox) (wide : WideAt) → KeepsForms number old new → IsTooWide top box old wide → IsTooWide top box new (renumbered_wide number wide)
+pub renumbered_too_wide : (number : ℕ → ℕ) (old new : List Form) (top : ℕ) (box : CostBox) (wide : WideAt) →
+    KeepsForms number old new → IsTooWide top box old wide → IsTooWide top box new (renumbered_wide number wide)
 renumbered_too_wide number old new top box wide keeps too_wide = record {
   lows = too_wide.lows;
   table = renumbered_table number old new box wide.basis too_wide.lows keeps too_wide.table;
@@ -149,7 +191,8 @@ renumbered_too_wide number old new top box wide keeps too_wide = record {
 }
 
 -- a Tighten stays sound and exact
-pub renumbered_tightens : (number : ℕ → ℕ) (old new : List Form) (box : CostBox) (side : Side) (var value row : ℕ) → KeepsForms number old new → TightensAt old box side var value row → TightensAt new box side var value (number row)
+pub renumbered_tightens : (number : ℕ → ℕ) (old new : List Form) (box : CostBox) (side : Side) (var value row : ℕ) →
+    KeepsForms number old new → TightensAt old box side var value row → TightensAt new box side var value (number row)
 renumbered_tightens number old new box side var value row keeps tightens = record {
   var_known = tightens.var_known;
   smaller = tightens.smaller;
@@ -157,27 +200,37 @@ renumbered_tightens number old new box side var value row keeps tightens = recor
   refuted = subst (λ (f : Form). greatest f (removed box side var value) <ℤ pos 0) (sym (keeps.same row tightens.row_known)) tightens.refuted;
 }
 
-same_weighted : (number : ℕ → ℕ) (old new : List Form) (parts : List (ℕ × ℕ)) → KeepsForms number old new → All (λ part. part.0 < length old) parts → weighted new (map (renumbered_part number) parts) ≡ weighted old parts
+same_weighted : (number : ℕ → ℕ) (old new : List Form) (parts : List (ℕ × ℕ)) → KeepsForms number old new →
+    All (λ part. part.0 < length old) parts → weighted new (map (renumbered_part number) parts) ≡ weighted old parts
 same_weighted number old new [] keeps known = refl
 same_weighted number old new (part ∷ parts) keeps known =
     let rest = same_weighted number old new parts keeps (λ k d k_in. known (suc k) d (omega (arith, k_in))) in
     let here = keeps.same part.0 (known 0 part (omega arith)) in
-    let P : Form → Form → Form = λ f r. record { constant = (pos part.1 *ℤ f.constant) +ℤ r.constant; coefficients = added (map (λ c. pos part.1 *ℤ c) f.coefficients) r.coefficients } in
+    let P : Form → Form → Form = λ f r. record {
+      constant = (pos part.1 *ℤ f.constant) +ℤ r.constant;
+      coefficients = added (map (λ c. pos part.1 *ℤ c) f.coefficients) r.coefficients;
+    } in
     ap (λ (f : Form). P f (weighted new (map (renumbered_part number) parts))) here ∙ ap (P (form_at old part.0)) rest
 
 same_sum : (number : ℕ → ℕ) (parts : List (ℕ × ℕ)) → sum_by (λ part. part.1) (map (renumbered_part number) parts) ≡ sum_by (λ part. part.1) parts
 same_sum number [] = refl
 same_sum number (part ∷ parts) =
     let rest = same_sum number parts in
-    rw (sum_by-cons (λ (p : ℕ × ℕ). p.1) (renumbered_part number part) (map (renumbered_part number) parts), sum_by-cons (λ (p : ℕ × ℕ). p.1) part parts) (omega arith)
+    rw (
+      sum_by-cons (λ (p : ℕ × ℕ). p.1) (renumbered_part number part) (map (renumbered_part number) parts),
+      sum_by-cons (λ (p : ℕ × ℕ). p.1) part parts,
+    ) (omega arith)
 
-all_parts : (number : ℕ → ℕ) (P Q : ℕ × ℕ → Type 0) → ((part : ℕ × ℕ) → P part → Q (renumbered_part number part)) → (parts : List (ℕ × ℕ)) → All P parts → All Q (map (renumbered_part number) parts)
+all_parts : (number : ℕ → ℕ) (P Q : ℕ × ℕ → Type 0) → ((part : ℕ × ℕ) → P part → Q (renumbered_part number part)) →
+    (parts : List (ℕ × ℕ)) → All P parts → All Q (map (renumbered_part number) parts)
 all_parts number P Q moves [] all k d k_in = absurd (omega arith)
 all_parts number P Q moves (part ∷ parts) all zero d k_in = moves part (all 0 part (omega arith))
-all_parts number P Q moves (part ∷ parts) all (suc k) d k_in = all_parts number P Q moves parts (λ i e i_in. all (suc i) e (omega (arith, i_in))) k d (omega arith)
+all_parts number P Q moves (part ∷ parts) all (suc k) d k_in =
+    all_parts number P Q moves parts (λ i e i_in. all (suc i) e (omega (arith, i_in))) k d (omega arith)
 
 -- a Refute stays one
-pub renumbered_refutes : (number : ℕ → ℕ) (old new : List Form) (parts : List (ℕ × ℕ)) (box : CostBox) → KeepsForms number old new → Refutes old parts box → Refutes new (map (renumbered_part number) parts) box
+pub renumbered_refutes : (number : ℕ → ℕ) (old new : List Form) (parts : List (ℕ × ℕ)) (box : CostBox) →
+    KeepsForms number old new → Refutes old parts box → Refutes new (map (renumbered_part number) parts) box
 renumbered_refutes number old new parts box keeps refutes = record {
   rows = all_parts number (λ part. part.0 < length old) (λ part. part.0 < length new) (λ part known. keeps.known part.0 known) parts refutes.rows;
   positive = all_parts number (λ part. 0 < part.1) (λ part. 0 < part.1) (λ part some. some) parts refutes.positive;
@@ -186,7 +239,8 @@ renumbered_refutes number old new parts box keeps refutes = record {
 }
 
 -- a sound entry stays sound
-pub renumbered_sound : (number : ℕ → ℕ) (old new : List Form) (box : CostBox) (entry : Entry) → KeepsForms number old new → SoundAt old box entry → SoundAt new box (renumbered number entry)
+pub renumbered_sound : (number : ℕ → ℕ) (old new : List Form) (box : CostBox) (entry : Entry) →
+    KeepsForms number old new → SoundAt old box entry → SoundAt new box (renumbered number entry)
 renumbered_sound number old new box (Tighten var side value row) keeps sound = renumbered_tightens number old new box side var value row keeps sound
 renumbered_sound number old new box (Split var value) keeps sound = sound
 renumbered_sound number old new box (Halve var value wide) keeps sound = sound
@@ -194,11 +248,14 @@ renumbered_sound number old new box (Refute parts) keeps sound = renumbered_refu
 renumbered_sound number old new box Undone keeps sound = tt
 
 -- and earnest
-pub renumbered_earnest : (number : ℕ → ℕ) (old new : List Form) (accepts : Point → Type 0) (top : ℕ) (place : Place) (entry : Entry) → KeepsForms number old new → SoundAt old place.box entry → EarnestAt accepts top old place entry → EarnestAt accepts top new place (renumbered number entry)
+pub renumbered_earnest : (number : ℕ → ℕ) (old new : List Form) (accepts : Point → Type 0) (top : ℕ) (place : Place)
+    (entry : Entry) → KeepsForms number old new → SoundAt old place.box entry → EarnestAt accepts top old place entry →
+    EarnestAt accepts top new place (renumbered number entry)
 renumbered_earnest number old new accepts top place (Tighten var side value row) keeps sound earnest =
     (subst (λ (f : Form). pos 0 ≤ℤ greatest f (at_bound place.box var value)) (sym (keeps.same row sound.row_known)) earnest.0, earnest.1)
 renumbered_earnest number old new accepts top place (Split var value) keeps sound earnest = earnest
-renumbered_earnest number old new accepts top place (Halve var value wide) keeps sound earnest = renumbered_too_wide number old new top place.box wide keeps earnest
+renumbered_earnest number old new accepts top place (Halve var value wide) keeps sound earnest =
+    renumbered_too_wide number old new top place.box wide keeps earnest
 renumbered_earnest number old new accepts top place (Refute parts) keeps sound earnest = tt
 renumbered_earnest number old new accepts top place Undone keeps sound earnest = tt
 
@@ -210,7 +267,9 @@ same_places number place (Refute parts) = refl
 same_places number place Undone = refl
 
 -- a tree that grows, with its rows' new numbers
-pub renumbered_opens : (number : ℕ → ℕ) (old new : List Form) (accepts : Point → Type 0) (top : ℕ) (places : List Place) (entries : List Entry) (left : List Place) → KeepsForms number old new → Opens accepts top old places entries left → Opens accepts top new places (map (renumbered number) entries) left
+pub renumbered_opens : (number : ℕ → ℕ) (old new : List Form) (accepts : Point → Type 0) (top : ℕ) (places : List Place)
+    (entries : List Entry) (left : List Place) → KeepsForms number old new → Opens accepts top old places entries left →
+    Opens accepts top new places (map (renumbered number) entries) left
 renumbered_opens number old new accepts top places [] left keeps opens = opens
 renumbered_opens number old new accepts top [] (e ∷ entries) left keeps opens = absurd opens
 renumbered_opens number old new accepts top (p ∷ places) (e ∷ entries) left keeps opens = (
@@ -221,7 +280,9 @@ renumbered_opens number old new accepts top (p ∷ places) (e ∷ entries) left 
 )
 
 -- an earnest tree, with its rows' new numbers
-pub renumbered_tree : (number : ℕ → ℕ) (old new : List Form) (accepts : Point → Type 0) (top : ℕ) (places : List Place) (entries : List Entry) → KeepsForms number old new → Earnest accepts top old places entries → Earnest accepts top new places (map (renumbered number) entries)
+pub renumbered_tree : (number : ℕ → ℕ) (old new : List Form) (accepts : Point → Type 0) (top : ℕ) (places : List Place)
+    (entries : List Entry) → KeepsForms number old new → Earnest accepts top old places entries →
+    Earnest accepts top new places (map (renumbered number) entries)
 renumbered_tree number old new accepts top [] [] keeps earnest = tt
 renumbered_tree number old new accepts top (p ∷ places) [] keeps earnest = absurd earnest
 renumbered_tree number old new accepts top [] (e ∷ entries) keeps earnest = absurd earnest
@@ -255,19 +316,21 @@ same_part_list (part ∷ parts) = ap (λ (ps : List (ℕ × ℕ)). part ∷ ps) 
 same_wide : (wide : WideAt) → renumbered_wide (λ row. row) wide ≡ wide
 same_wide wide = λ i. record { step = wide.step; left = wide.left; right = wide.right; basis = same_members wide.basis i }
 
-same_entry : (entry : Entry) → renumbered (λ row. row) entry ≡ entry
+pub same_entry : (entry : Entry) → renumbered (λ row. row) entry ≡ entry
 same_entry (Tighten var side value row) = refl
 same_entry (Split var value) = refl
 same_entry (Halve var value wide) = ap (λ (w : WideAt). Halve var value w) (same_wide wide)
 same_entry (Refute parts) = ap Refute (same_part_list parts)
 same_entry Undone = refl
 
-same_entries : (entries : List Entry) → map (renumbered (λ row. row)) entries ≡ entries
+pub same_entries : (entries : List Entry) → map (renumbered (λ row. row)) entries ≡ entries
 same_entries [] = refl
 same_entries (entry ∷ entries) = cc (same_entry entry, same_entries entries)
 
 -- more forms leave a tree that grows as it is
-pub opens_kept : (accepts : Point → Type 0) (top : ℕ) (forms more : List Form) (places : List Place) (entries : List Entry) (left : List Place) → Opens accepts top forms places entries left → Opens accepts top (forms ++ more) places entries left
+pub opens_kept : (accepts : Point → Type 0) (top : ℕ) (forms more : List Form) (places : List Place)
+    (entries : List Entry) (left : List Place) → Opens accepts top forms places entries left →
+    Opens accepts top (forms ++ more) places entries left
 opens_kept accepts top forms more places entries left opens =
     subst (λ (es : List Entry). Opens accepts top (forms ++ more) places es left) (same_entries entries)
     (renumbered_opens (λ row. row) forms (forms ++ more) accepts top places entries left (forms_kept forms more) opens)
@@ -275,17 +338,21 @@ opens_kept accepts top forms more places entries left opens =
 -- and a step that is too wide
 pub too_wide_kept : (top : ℕ) (box : CostBox) (forms more : List Form) (wide : WideAt) → IsTooWide top box forms wide → IsTooWide top box (forms ++ more) wide
 too_wide_kept top box forms more wide too_wide =
-    subst (IsTooWide top box (forms ++ more)) (same_wide wide) (renumbered_too_wide (λ row. row) forms (forms ++ more) top box wide (forms_kept forms more) too_wide)
+    subst (IsTooWide top box (forms ++ more)) (same_wide wide)
+    (renumbered_too_wide (λ row. row) forms (forms ++ more) top box wide (forms_kept forms more) too_wide)
 
-part_at : (number : ℕ → ℕ) (parts : List (ℕ × ℕ)) (i : ℕ) (d : ℕ × ℕ) → i < length parts → slice_index_or (map (renumbered_part number) parts) i d ≡ renumbered_part number (slice_index_or parts i d)
+part_at : (number : ℕ → ℕ) (parts : List (ℕ × ℕ)) (i : ℕ) (d : ℕ × ℕ) → i < length parts →
+    slice_index_or (map (renumbered_part number) parts) i d ≡ renumbered_part number (slice_index_or parts i d)
 part_at number [] i d i_in = absurd (omega arith)
 part_at number (part ∷ parts) zero d i_in = refl
 part_at number (part ∷ parts) (suc i) d i_in = part_at number parts i d (omega arith)
 
 -- strictly rising numbers keep a Refute's rows rising
-pub rising_parts : (number : ℕ → ℕ) (parts : List (ℕ × ℕ)) → ((a b : ℕ) → a < b → number a < number b) → AllPairs (λ a b. a.0 < b.0) parts → AllPairs (λ a b. a.0 < b.0) (map (renumbered_part number) parts)
+pub rising_parts : (number : ℕ → ℕ) (parts : List (ℕ × ℕ)) → ((a b : ℕ) → a < b → number a < number b) →
+    AllPairs (λ a b. a.0 < b.0) parts → AllPairs (λ a b. a.0 < b.0) (map (renumbered_part number) parts)
 rising_parts number parts rises rising i j d before j_in =
     let counted = length-map parts (renumbered_part number) in
     let j_known : j < length parts = omega arith in
     let i_known : i < length parts = omega arith in
-    rw (part_at number parts i d i_known, part_at number parts j d j_known) (rises (slice_index_or parts i d).0 (slice_index_or parts j d).0 (rising i j d before j_known))
+    rw (part_at number parts i d i_known, part_at number parts j d j_known)
+    (rises (slice_index_or parts i d).0 (slice_index_or parts j d).0 (rising i j d before j_known))

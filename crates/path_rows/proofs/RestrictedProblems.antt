@@ -27,12 +27,14 @@ increasing-le n (x ∷ xs) rising below =
     omega arith
 
 -- what each request keeps, each chosen one keeps
-chosen_keep : (P : Request → Type 0) (requests : List Request) (members : List ℕ) → All P requests → All (λ m. m < length requests) members → All P (map (request_at requests) members)
+chosen_keep : (P : Request → Type 0) (requests : List Request) (members : List ℕ) → All P requests →
+    All (λ m. m < length requests) members → All P (map (request_at requests) members)
 chosen_keep P requests members each known k d k_in =
     let within : k < length members = omega (arith, length-map members (request_at requests)) in
     subst P (sym (get_or-map (request_at requests) members k 0 d within)) (each (get_or members k 0) no_request (known k 0 within))
 
-pub restricted_kept : (p : DesignProblem) (members : List ℕ) → IsProblem p → IsStrictlyIncreasing members → All (λ m. m < length p.paths) members → IsProblem (restricted p members)
+pub restricted_kept : (p : DesignProblem) (members : List ℕ) → IsProblem p → IsStrictlyIncreasing members →
+    All (λ m. m < length p.paths) members → IsProblem (restricted p members)
 restricted_kept p members kept rising known = record {
   paths = chosen_keep (λ r. IsPathOf p.graph (ends_of r) r.path.edges) p.paths members kept.paths known;
   gone = chosen_keep (λ r. TakesAway p.graph r.gone) p.paths members kept.gone known;
@@ -47,5 +49,8 @@ restricted_kept p members kept rising known = record {
 }
 
 -- a problem is its parts
-pub same_problem : (g h : Area) (vs us : List VarName) (ls ms hs ks : List ℕ) (rs qs : List Request) → g ≡ h → vs ≡ us → ls ≡ ms → hs ≡ ks → rs ≡ qs → (let p : DesignProblem = record { graph = g; vars = vs; low = ls; high = hs; paths = rs } in p) ≡ (let q : DesignProblem = record { graph = h; vars = us; low = ms; high = ks; paths = qs } in q)
+pub same_problem : (g h : Area) (vs us : List VarName) (ls ms hs ks : List ℕ) (rs qs : List Request) → g ≡ h → vs ≡ us →
+    ls ≡ ms → hs ≡ ks → rs ≡ qs →
+    (let p : DesignProblem = record { graph = g; vars = vs; low = ls; high = hs; paths = rs } in p)
+    ≡ (let q : DesignProblem = record { graph = h; vars = us; low = ms; high = ks; paths = qs } in q)
 same_problem g h vs us ls ms hs ks rs qs a b c d e = λ i. record { graph = a i; vars = b i; low = c i; high = d i; paths = e i }

@@ -14,13 +14,17 @@ pub record RowPaths (p : DesignProblem) (row : Row) (d : Request) (wanted rival 
   pub rival_path : IsPathOf p.graph (ends_of (get_or p.paths row.request d)) rival
   pub form : form_between p.graph (length p.low) wanted rival ≡ form_of_row p row
 
-pub row_paths : (p : DesignProblem) (row : Row) (d : Request) (wanted rival : List ℕ) → IsProblem p → HasRoute p row → wanted ≡ (get_or p.paths row.request d).path.edges → rival ≡ row.rival.edges → RowPaths p row d wanted rival
+pub row_paths : (p : DesignProblem) (row : Row) (d : Request) (wanted rival : List ℕ) → IsProblem p → HasRoute p row →
+    wanted ≡ (get_or p.paths row.request d).path.edges → rival ≡ row.rival.edges → RowPaths p row d wanted rival
 row_paths p row d wanted rival kept route is_wanted is_rival =
     let found = request_of_route p.graph p.paths row.request d row.rival.edges route in
     let r = get_or p.paths row.request d in
     let here : wanted ≡ path_edges (slice_get p.paths row.request) = is_wanted ∙ sym (ap path_edges found.is_there) in
     record {
-      wanted_path = subst (λ (es : List ℕ). IsPathOf p.graph (ends_of (get_or p.paths row.request d)) es) (sym is_wanted) (kept.paths row.request d found.within);
+      wanted_path = subst (λ (es : List ℕ). IsPathOf p.graph (ends_of (get_or p.paths row.request d)) es)
+          (sym is_wanted) (kept.paths row.request d found.within);
       rival_path = subst (λ (es : List ℕ). IsPathOf p.graph (ends_of (get_or p.paths row.request d)) es) (sym is_rival) found.path;
-      form = ap (λ (es : List ℕ). form_between p.graph (length p.low) es rival) here ∙ ap (λ (es : List ℕ). form_between p.graph (length p.low) (path_edges (slice_get p.paths row.request)) es) is_rival;
+      form = ap (λ (es : List ℕ). form_between p.graph (length p.low) es rival) here
+          ∙ ap (λ (es : List ℕ). form_between p.graph (length p.low) (path_edges (slice_get p.paths row.request))
+          es) is_rival;
     }

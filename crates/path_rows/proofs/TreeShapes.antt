@@ -23,9 +23,11 @@ whole_from_sound forms [] (entry ∷ entries) sound = absurd sound
 whole_from_sound forms (box ∷ boxes) (Tighten i side v row ∷ entries) sound =
     as_many (suc (length boxes)) (1 + length boxes) entries (omega arith) (whole_from_sound forms (tightened box side i v ∷ boxes) entries sound.1)
 whole_from_sound forms (box ∷ boxes) (Split i v ∷ entries) sound =
-    as_many (suc (suc (length boxes))) (2 + length boxes) entries (omega arith) (whole_from_sound forms (with_high box i v ∷ with_low box i (v + 1) ∷ boxes) entries sound.1)
+    as_many (suc (suc (length boxes))) (2 + length boxes) entries (omega arith)
+    (whole_from_sound forms (with_high box i v ∷ with_low box i (v + 1) ∷ boxes) entries sound.1)
 whole_from_sound forms (box ∷ boxes) (Halve i v wide ∷ entries) sound =
-    as_many (suc (suc (length boxes))) (2 + length boxes) entries (omega arith) (whole_from_sound forms (with_high box i v ∷ with_low box i (v + 1) ∷ boxes) entries sound.1)
+    as_many (suc (suc (length boxes))) (2 + length boxes) entries (omega arith)
+    (whole_from_sound forms (with_high box i v ∷ with_low box i (v + 1) ∷ boxes) entries sound.1)
 whole_from_sound forms (box ∷ boxes) (Refute parts ∷ entries) sound =
     as_many (length boxes) (0 + length boxes) entries (omega arith) (whole_from_sound forms boxes entries sound.1)
 whole_from_sound forms (box ∷ boxes) (Undone ∷ entries) sound =
@@ -40,10 +42,12 @@ pub whole_preorder : (t : CaseTree) (n : ℕ) (rest : List Entry) → WholeTrees
 whole_preorder (tighten i side v row t) n rest whole = as_many (suc n) (1 + n) (preorder t ++ rest) (omega arith) (whole_preorder t n rest whole)
 whole_preorder (split i v t u) n rest whole =
     subst (λ (es : List Entry). WholeTrees (2 + n) es) (sym (append_assoc (preorder t) (preorder u) rest))
-    (as_many (suc (suc n)) (2 + n) (preorder t ++ (preorder u ++ rest)) (omega arith) (whole_preorder t (suc n) (preorder u ++ rest) (whole_preorder u n rest whole)))
+    (as_many (suc (suc n)) (2 + n) (preorder t ++ (preorder u ++ rest)) (omega arith)
+    (whole_preorder t (suc n) (preorder u ++ rest) (whole_preorder u n rest whole)))
 whole_preorder (halve i v wide t u) n rest whole =
     subst (λ (es : List Entry). WholeTrees (2 + n) es) (sym (append_assoc (preorder t) (preorder u) rest))
-    (as_many (suc (suc n)) (2 + n) (preorder t ++ (preorder u ++ rest)) (omega arith) (whole_preorder t (suc n) (preorder u ++ rest) (whole_preorder u n rest whole)))
+    (as_many (suc (suc n)) (2 + n) (preorder t ++ (preorder u ++ rest)) (omega arith)
+    (whole_preorder t (suc n) (preorder u ++ rest) (whole_preorder u n rest whole)))
 whole_preorder (refute parts) n rest whole = as_many n (0 + n) rest (omega arith) whole
 whole_preorder undone n rest whole = as_many n (0 + n) rest (omega arith) whole
 
@@ -53,7 +57,8 @@ record Trees (n : ℕ) (entries : List Entry) : Type 0 where
   same : preorders trees ≡ entries
   count : length trees ≡ n
 
-one_under : (n : ℕ) (entry : Entry) (entries : List Entry) (build : CaseTree → CaseTree) → ((t : CaseTree) → preorder (build t) ≡ entry ∷ preorder t) → Trees (1 + n) entries → Trees (suc n) (entry ∷ entries)
+one_under : (n : ℕ) (entry : Entry) (entries : List Entry) (build : CaseTree → CaseTree) →
+    ((t : CaseTree) → preorder (build t) ≡ entry ∷ preorder t) → Trees (1 + n) entries → Trees (suc n) (entry ∷ entries)
 one_under n entry entries build heads found = go found.trees found.same found.count
   where
     go : (ts : List CaseTree) → preorders ts ≡ entries → length ts ≡ 1 + n → Trees (suc n) (entry ∷ entries)
@@ -64,7 +69,9 @@ one_under n entry entries build heads found = go found.trees found.same found.co
       count = omega arith;
     }
 
-two_under : (n : ℕ) (entry : Entry) (entries : List Entry) (build : CaseTree → CaseTree → CaseTree) → ((t u : CaseTree) → preorder (build t u) ≡ entry ∷ (preorder t ++ preorder u)) → Trees (2 + n) entries → Trees (suc n) (entry ∷ entries)
+two_under : (n : ℕ) (entry : Entry) (entries : List Entry) (build : CaseTree → CaseTree → CaseTree) →
+    ((t u : CaseTree) → preorder (build t u) ≡ entry ∷ (preorder t ++ preorder u)) → Trees (2 + n) entries →
+    Trees (suc n) (entry ∷ entries)
 two_under n entry entries build heads found = go found.trees found.same found.count
   where
     go : (ts : List CaseTree) → preorders ts ≡ entries → length ts ≡ 2 + n → Trees (suc n) (entry ∷ entries)
@@ -76,7 +83,8 @@ two_under n entry entries build heads found = go found.trees found.same found.co
       count = omega arith;
     }
 
-none_under : (n : ℕ) (entry : Entry) (entries : List Entry) (leaf : CaseTree) → preorder leaf ≡ entry ∷ [] → Trees (0 + n) entries → Trees (suc n) (entry ∷ entries)
+none_under : (n : ℕ) (entry : Entry) (entries : List Entry) (leaf : CaseTree) → preorder leaf ≡ entry ∷ [] →
+    Trees (0 + n) entries → Trees (suc n) (entry ∷ entries)
 none_under n entry entries leaf head found = record {
   trees = leaf ∷ found.trees;
   same = ap (λ es. es ++ preorders found.trees) head ∙ ap (λ es. entry ∷ es) found.same;
@@ -87,9 +95,12 @@ trees_from_whole : (n : ℕ) (entries : List Entry) → WholeTrees n entries →
 trees_from_whole zero [] whole = record { trees = []; same = refl; count = refl }
 trees_from_whole (suc n) [] whole = absurd whole
 trees_from_whole zero (entry ∷ entries) whole = absurd whole
-trees_from_whole (suc n) (Tighten i side v row ∷ entries) whole = one_under n (Tighten i side v row) entries (tighten i side v row) (λ t. refl) (trees_from_whole (1 + n) entries whole)
+trees_from_whole (suc n) (Tighten i side v row ∷ entries) whole =
+    one_under n (Tighten i side v row) entries (tighten i side v row) (λ t. refl)
+    (trees_from_whole (1 + n) entries whole)
 trees_from_whole (suc n) (Split i v ∷ entries) whole = two_under n (Split i v) entries (split i v) (λ t u. refl) (trees_from_whole (2 + n) entries whole)
-trees_from_whole (suc n) (Halve i v wide ∷ entries) whole = two_under n (Halve i v wide) entries (halve i v wide) (λ t u. refl) (trees_from_whole (2 + n) entries whole)
+trees_from_whole (suc n) (Halve i v wide ∷ entries) whole =
+    two_under n (Halve i v wide) entries (halve i v wide) (λ t u. refl) (trees_from_whole (2 + n) entries whole)
 trees_from_whole (suc n) (Refute parts ∷ entries) whole = none_under n (Refute parts) entries (refute parts) refl (trees_from_whole (0 + n) entries whole)
 trees_from_whole (suc n) (Undone ∷ entries) whole = none_under n Undone entries undone refl (trees_from_whole (0 + n) entries whole)
 
@@ -150,12 +161,14 @@ same_preorder (tighten i side v row t) (tighten j other x line u) rest more same
     ((cc below.0), below.1)
 same_preorder (split i v t a) (split j x u b) rest more same =
     let tails : (preorder t ++ preorder a) ++ rest ≡ (preorder u ++ preorder b) ++ more = cc in
-    let first = same_preorder t u (preorder a ++ rest) (preorder b ++ more) (sym (append_assoc (preorder t) (preorder a) rest) ∙ tails ∙ append_assoc (preorder u) (preorder b) more) in
+    let first = same_preorder t u (preorder a ++ rest) (preorder b ++ more)
+    (sym (append_assoc (preorder t) (preorder a) rest) ∙ tails ∙ append_assoc (preorder u) (preorder b) more) in
     let second = same_preorder a b rest more first.1 in
     ((cc (first.0, second.0)), second.1)
 same_preorder (halve i v wide t a) (halve j x broad u b) rest more same =
     let tails : (preorder t ++ preorder a) ++ rest ≡ (preorder u ++ preorder b) ++ more = cc in
-    let first = same_preorder t u (preorder a ++ rest) (preorder b ++ more) (sym (append_assoc (preorder t) (preorder a) rest) ∙ tails ∙ append_assoc (preorder u) (preorder b) more) in
+    let first = same_preorder t u (preorder a ++ rest) (preorder b ++ more)
+    (sym (append_assoc (preorder t) (preorder a) rest) ∙ tails ∙ append_assoc (preorder u) (preorder b) more) in
     let second = same_preorder a b rest more first.1 in
     ((cc (first.0, second.0)), second.1)
 same_preorder (refute parts) (refute others) rest more same = ((cc), (cc))

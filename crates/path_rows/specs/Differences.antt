@@ -1,4 +1,4 @@
--- Differences of lists of numbers, place by place.
+-- Differences of lists of numbers, place by place. No public clause cites it.
 use Rattle.std.specs.Prelude.{◌≡◌, ℕ, ◌<◌, List, ℤ, pos, ◌-ℤ◌, length, slice_index, slice_index_or}
 
 -- each entry is the one number less the other

@@ -25,7 +25,9 @@ GreatestReached = (n : ℕ) (f : Form) (box : CostBox) → IsBox n box → (w : 
 
 -- a closed sound tree over the box at a cap, of true rows: fit costs have a greatest cost above the cap
 abbrev pub TreesBoundCosts : Type 0
-TreesBoundCosts = (p : DesignProblem) (rows : List Row) (cap : ℕ) (tree : List Entry) → IsProblem p → All (IsRow p) rows → IsSoundTree (forms_of_rows p rows) (capped (box_of p) cap) tree → IsClosed tree → (w : List ℕ) → IsFit p w → cap < greatest_cost w
+TreesBoundCosts = (p : DesignProblem) (rows : List Row) (cap : ℕ) (tree : List Entry) → IsProblem p →
+    All (IsRow p) rows → IsSoundTree (forms_of_rows p rows) (capped (box_of p) cap) tree → IsClosed tree →
+    (w : List ℕ) → IsFit p w → cap < greatest_cost w
 
 -- no costs are fit
 abbrev pub HasNoFit : DesignProblem → Type 0
@@ -33,11 +35,14 @@ HasNoFit p = (w : List ℕ) → IsFit p w → ⊥
 
 -- a closed sound tree over the box at the greatest upper bound leaves no fit costs
 abbrev pub TreesLeaveNoFit : Type 0
-TreesLeaveNoFit = (p : DesignProblem) (rows : List Row) (proof : CapTree) → IsProblem p → All (IsRow p) rows → Proves p rows (greatest_bound p) proof → HasNoFit p
+TreesLeaveNoFit = (p : DesignProblem) (rows : List Row) (proof : CapTree) → IsProblem p → All (IsRow p) rows →
+    Proves p rows (greatest_bound p) proof → HasNoFit p
 
 -- a floor, or a proof at the cap below: no fit costs have a smaller greatest cost than the printed ones
 abbrev pub LeastIsShown : Type 0
-LeastIsShown = (p : DesignProblem) (rows : List Row) (k : ℕ) (costs : Costs) (floor : Floor) (proof : Option CapTree) → IsProblem p → All (IsRow p) rows → GivesCosts p k costs → ShowsLeast p rows k floor proof → (w : List ℕ) → IsFit p w → k ≤ greatest_cost w
+LeastIsShown = (p : DesignProblem) (rows : List Row) (k : ℕ) (costs : Costs) (floor : Floor) (proof : Option CapTree) →
+    IsProblem p → All (IsRow p) rows → GivesCosts p k costs → ShowsLeast p rows k floor proof → (w : List ℕ) →
+    IsFit p w → k ≤ greatest_cost w
 
 -- the printed costs are best, and k is their greatest
 pub record GivesBest (p : DesignProblem) (k : ℕ) (printed : Option Costs) : Type 0 where
@@ -81,7 +86,8 @@ pub record HasManyCuts (n : ℕ) (tree : List Entry) : Type 0 where
   pub unfinished : Contains tree Undone → entry_count tree ≤ 2 * n + (4 * n + 2) * cut_count tree
 
 abbrev pub EarnestTreesCut : Type 0
-EarnestTreesCut = (p : DesignProblem) (top : ℕ) (rows : List Row) (box : CostBox) (tree : List Entry) → IsEarnestFor p top rows box tree → HasManyCuts (length box.low) tree
+EarnestTreesCut = (p : DesignProblem) (top : ℕ) (rows : List Row) (box : CostBox) (tree : List Entry) →
+    IsEarnestFor p top rows box tree → HasManyCuts (length box.low) tree
 
 -- a sound tree's entries are one whole tree
 abbrev pub SoundTreesAreWhole : Type 0
@@ -110,4 +116,5 @@ SizesBoundValues = (f : Form) (w : List ℕ) → All (λ x. x < 2 ^ 16) w → na
 
 -- a weighted sum of small forms, of multipliers of sum below 2^100, fits 127 bits
 abbrev pub WeightedSumsFit : Type 0
-WeightedSumsFit = (forms : List Form) (parts : List (ℕ × ℕ)) → All (λ f. size_of f < 2 ^ 27) forms → sum_by (λ part. part.1) parts < 2 ^ 100 → size_of (weighted forms parts) < 2 ^ 127
+WeightedSumsFit = (forms : List Form) (parts : List (ℕ × ℕ)) → All (λ f. size_of f < 2 ^ 27) forms →
+    sum_by (λ part. part.1) parts < 2 ^ 100 → size_of (weighted forms parts) < 2 ^ 127

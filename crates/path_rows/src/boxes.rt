@@ -29,6 +29,10 @@ fn copied(alloc: Global, numbers: &[u16]) -> Result<Vec<u16>, OutOfMemory>
 }
 
 /// The box of the problem at a cap: each upper bound is the lesser of itself and the cap.
+///
+/// # Errors
+///
+/// `OutOfMemory`.
 pub fn box_at(alloc: Global, problem: &Problem, cap: u16) -> Result<CostBox, OutOfMemory>
     requires { All (λ low. low ≤ cap) problem.now.low }
     ensures cut { IfOk result (λ costs. costs ≡ capped (box_of problem.now) cap) }

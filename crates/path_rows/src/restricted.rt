@@ -93,6 +93,10 @@ fn requests_of(
 impl Problem {
     /// The restricted problem of the members, which are numbers of requests in rising order: the same graph, variables
     /// and bounds, and only those requests.
+    ///
+    /// # Errors
+    ///
+    /// `OutOfMemory`.
     pub fn only(&self, alloc: Global, members: &[u32]) -> Result<Problem, OutOfMemory>
         requires rising { IsStrictlyIncreasing members.now }
         requires known { All (λ m. m < length self.now.paths) members.now }

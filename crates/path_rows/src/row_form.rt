@@ -63,6 +63,10 @@ fn form_of_paths(
 
 /// The form of a row: cost(rival) - cost(wanted path) - 1, in time in proportion to the two paths and the variables.
 /// The row's request is one of the problem's, and its rival's edges are a simple path of that request.
+///
+/// # Errors
+///
+/// `OutOfMemory`.
 pub fn form_of(alloc: Global, problem: &Problem, row: &Row) -> Result<Form, OutOfMemory>
     requires { HasRoute problem.now row.now }
     ensures form { IfOk result (λ form. form ≡ form_of_row problem.now row.now) }

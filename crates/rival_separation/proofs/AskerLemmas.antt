@@ -14,7 +14,8 @@ use Rattle.rival_separation.specs.Askers.{IsReady, RequestLeads, lead_at}
 use Rattle.rival_separation.specs.Rivals.{IsFound, IsFoundTo}
 
 -- the numbers below n, and n
-pub one_more : (n count : ℕ) (order new : List ℕ) → All (λ k. k < count) order → ((k : ℕ) → k < n → Contains order k) → n < count → new ≡ order ++ n ∷ [] → All (λ k. k < count) new × ((k : ℕ) → k < n + 1 → Contains new k)
+pub one_more : (n count : ℕ) (order new : List ℕ) → All (λ k. k < count) order → ((k : ℕ) → k < n → Contains order k) →
+    n < count → new ≡ order ++ n ∷ [] → All (λ k. k < count) new × ((k : ℕ) → k < n + 1 → Contains new k)
 one_more n count order new known each more same = (
   subst (λ (xs : List ℕ). All (λ k. k < count) xs) (sym same) (All-push (λ k. k < count) order n known more),
   λ k k_in. subst (λ (xs : List ℕ). Contains xs k) (sym same) (elim (cases_lt k n) [
@@ -24,7 +25,9 @@ one_more n count order new known each more same = (
 )
 
 -- what is ready for a request has the distances with which its path is compared
-pub ready_found : (g : Area) (p : Point) (requests : List Request) (room : Findings) (k : ℕ) (shared : Shared) → IsReady g p requests room k shared → IsFoundTo g p (ends_of (request_at requests k)) (lead_at g p (request_at requests k)) room
+pub ready_found : (g : Area) (p : Point) (requests : List Request) (room : Findings) (k : ℕ) (shared : Shared) →
+    IsReady g p requests room k shared →
+    IsFoundTo g p (ends_of (request_at requests k)) (lead_at g p (request_at requests k)) room
 ready_found g p requests room k shared ready = record {
   limit = shared.limit;
   above = ready.above;
@@ -32,14 +35,17 @@ ready_found g p requests room k shared ready = record {
 }
 
 -- what holds of each number in the order holds of each request's number
-pub order_reaches : (order : List ℕ) (count place : ℕ) → ((k : ℕ) → k < count → Contains order k) → length order ≤ place → (P : ℕ → Type 0) → ((i : ℕ) → i < place → P (get_or order i 0)) → (k : ℕ) → k < count → P k
+pub order_reaches : (order : List ℕ) (count place : ℕ) → ((k : ℕ) → k < count → Contains order k) →
+    length order ≤ place → (P : ℕ → Type 0) → ((i : ℕ) → i < place → P (get_or order i 0)) → (k : ℕ) → k < count → P k
 order_reaches order count place each past P holds k k_in =
     let has = each k k_in in
     let near = has.1 in
     subst P (get_or_default order has.0 0 k has.1 ∙ has.2) (holds has.0 (omega arith))
 
 -- so each path leads where that of each number in the order does
-pub order_leads : (g : Area) (p : Point) (requests : List Request) (order : List ℕ) (place : ℕ) → ((k : ℕ) → k < length requests → Contains order k) → length order ≤ place → ((i : ℕ) → i < place → RequestLeads g p (request_at requests (get_or order i 0))) → All (RequestLeads g p) requests
+pub order_leads : (g : Area) (p : Point) (requests : List Request) (order : List ℕ) (place : ℕ) →
+    ((k : ℕ) → k < length requests → Contains order k) → length order ≤ place →
+    ((i : ℕ) → i < place → RequestLeads g p (request_at requests (get_or order i 0))) → All (RequestLeads g p) requests
 order_leads g p requests order place each past leads k d k_in =
     subst (RequestLeads g p) (get_or_default requests k no_request d k_in)
     (order_reaches order (length requests) place each past (λ i. RequestLeads g p (request_at requests i)) leads k k_in)

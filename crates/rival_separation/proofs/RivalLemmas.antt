@@ -10,11 +10,11 @@ use Rattle.area_graph.specs.Paths.{Ends, IsPathOf, Joins, Avoids, visited}
 use Rattle.area_graph.specs.Costs.{cost, price_at, FitsPoint, LeadsBy}
 use Rattle.area_graph.proofs.Walks.{simple_in_walk}
 use Rattle.area_graph.proofs.Deviations.{Deviates, deviation_joins, deviation_differs, least_deviation_simple, rival_deviates}
-use Rattle.area_graph.proofs.Numbers.{out_all}
-use Rattle.area_graph.proofs.Bounds.{cost_below}
+use Rattle.area_graph.proofs.ListedEdges.{out_all}
+use Rattle.area_graph.proofs.Bounds.{cost_below, price-le}
 use Rattle.spf_ties.specs.Distances.{AreTight, Findings, IsLeast, IsLeastBelow, adds_up, distance_at, is_tight}
 use Rattle.path_rows.proofs.PathBounds.{simple-short}
-use Rattle.rival_separation.specs.Rivals.{Completes, HasWay, IsCheapest, IsFollowed, IsFound, ends_from}
+use Rattle.rival_separation.specs.Rivals.{Completes, HasWay, IsCheapest, IsFollowed, IsFound, ends_from, with_edge}
 use Rattle.rival_separation.specs.Offers.{Offers}
 use Rattle.std.proofs.lemmas.Option.{same_Some}
 
@@ -33,22 +33,39 @@ pub record SomeLeast (g : Area) (p : Point) (ends : Ends) (d : Option ℕ) (most
   pub is : d ≡ Some least
   pub within : least ≤ most
 
-pub some_least : (g : Area) (p : Point) (ends : Ends) (limit : ℕ) (d : Option ℕ) → IsLeastBelow g p ends limit d → (es : List ℕ) → IsPathOf g ends es → cost g p es < limit → SomeLeast g p ends d (cost g p es)
+pub some_least : (g : Area) (p : Point) (ends : Ends) (limit : ℕ) (d : Option ℕ) → IsLeastBelow g p ends limit d →
+    (es : List ℕ) → IsPathOf g ends es → cost g p es < limit → SomeLeast g p ends d (cost g p es)
 some_least g p ends limit (Some x) least es path near = record { least = x; is = refl; within = least.0.none_less es path }
 some_least g p ends limit None least es path near = (let far = least es path in absurd (omega arith))
 
-least_at : (g : Area) (p : Point) (ends : Ends) (limit : ℕ) (d : Option ℕ) (x : ℕ) → IsLeastBelow g p ends limit d → d ≡ Some x → IsLeast g p ends x × (x < limit)
-least_at g p ends limit d x least is = let at_some : IsLeastBelow g p ends limit (Some x) = subst (λ (o : Option ℕ). IsLeastBelow g p ends limit o) is least in at_some
+least_at : (g : Area) (p : Point) (ends : Ends) (limit : ℕ) (d : Option ℕ) (x : ℕ) → IsLeastBelow g p ends limit d →
+    d ≡ Some x → IsLeast g p ends x × (x < limit)
+least_at g p ends limit d x least is = let at_some : IsLeastBelow g p ends limit (Some x) =
+    subst (λ (o : Option ℕ). IsLeastBelow g p ends limit o) is least in at_some
 
 pub is_least : (g : Area) (p : Point) (ends : Ends) (limit : ℕ) (d : Option ℕ) (x : ℕ) → IsLeastBelow g p ends limit d → d ≡ Some x → IsLeast g p ends x
 is_least g p ends limit d x least is = (least_at g p ends limit d x least is).0
 
 -- a least cost is below 2^26 times the scale
-pub least_below : (g : Area) (p : Point) (ends : Ends) (limit : ℕ) (d : Option ℕ) (x : ℕ) → FitsGraph g → HasMetrics g → FitsPoint g p → IsLeastBelow g p ends limit d → d ≡ Some x → x < 2 ^ 26 * p.scale
+pub least_below : (g : Area) (p : Point) (ends : Ends) (limit : ℕ) (d : Option ℕ) (x : ℕ) → FitsGraph g → HasMetrics g →
+    FitsPoint g p → IsLeastBelow g p ends limit d → d ≡ Some x → x < 2 ^ 26 * p.scale
 least_below g p ends limit d x graph metrics fits least is =
     let some = is_least g p ends limit d x least is in
     let below = cost_below g p ends.start some.path ends.end graph metrics fits some.is_path.simple.joins some.is_path.simple.none_twice in
     let costs = some.costs in
+    omega arith
+
+-- what an edge costs with the least cost from its end on is below 2^27 times the scale
+pub onward_below : (g : Area) (p : Point) (ends : Ends) (limit : ℕ) (room : Findings) (e price rest : ℕ) → FitsGraph g →
+    HasMetrics g → FitsPoint g p → IsFound g p ends limit room → e < length g.edges →
+    price ≡ price_at p (edge_at g e).price → distance_at room (edge_at g e).to ≡ Some rest →
+    price + rest < 2 ^ 27 * p.scale
+onward_below g p ends limit room e price rest graph metrics fits found known price_is distance =
+    let most = price-le g p (edge_at g e).price fits (metrics e no_edge known) (fits.priced e no_edge known) in
+    let edge : FitsEdge g (edge_at g e) = graph.edges e no_edge known in
+    let below = least_below g p (ends_from ends (edge_at g e).to) limit (distance_at room (edge_at g e).to) rest graph
+    metrics fits (found.least (edge_at g e).to edge.to) distance in
+    let scale = fits.scale in
     omega arith
 
 -- the offer that a deviation takes
@@ -59,7 +76,10 @@ record Offered (g : Area) (p : Point) (gone : List ℕ) (room : Findings) (path 
   offer : Offers g p gone room path place edge total
   within : total ≤ most
 
-offered : (g : Area) (p : Point) (ends : Ends) (limit : ℕ) (room : Findings) → FitsGraph g → IsFound g p ends limit room → ends.end < length g.vertices → (u : ℕ) (before path walk : List ℕ) → Joins g u path ends.end → Deviates g ends.gone ends.end u path walk → cost g p walk < limit → Offered g p ends.gone room (before ++ path) (cost g p before + cost g p walk)
+offered : (g : Area) (p : Point) (ends : Ends) (limit : ℕ) (room : Findings) → FitsGraph g →
+    IsFound g p ends limit room → ends.end < length g.vertices → (u : ℕ) (before path walk : List ℕ) →
+    Joins g u path ends.end → Deviates g ends.gone ends.end u path walk → cost g p walk < limit →
+    Offered g p ends.gone room (before ++ path) (cost g p before + cost g p walk)
 offered g p ends limit room graph found end u before [] walk joins deviates near = absurd deviates
 offered g p ends limit room graph found end u before (n ∷ path) [] joins deviates near = absurd deviates
 offered g p ends limit room graph found end u before (n ∷ path) (e ∷ rest) joins deviates near =
@@ -67,8 +87,17 @@ offered g p ends limit room graph found end u before (n ∷ path) (e ∷ rest) j
       | inl leaves ↦
           let edge : FitsEdge g (edge_at g e) = graph.edges e no_edge leaves.1.known in
           let longer = sum_by-cons (λ i. price_at p (edge_at g i).price) e rest in
-          let some = some_least g p (record { start = (edge_at g e).to; end = ends.end; gone = ends.gone }) limit (distance_at room (edge_at g e).to) (found.least (edge_at g e).to edge.to) rest
-          (record { simple = record { start = edge.to; end = end; joins = leaves.1.joins; none_twice = leaves.1.none_twice }; kept = leaves.1.kept }) (omega arith) in
+          let some = some_least g p (record { start = (edge_at g e).to; end = ends.end; gone = ends.gone }) limit
+          (distance_at room (edge_at g e).to) (found.least (edge_at g e).to edge.to) rest
+          (record {
+            simple = record {
+              start = edge.to;
+              end = end;
+              joins = leaves.1.joins;
+              none_twice = leaves.1.none_twice;
+            };
+            kept = leaves.1.kept;
+          }) (omega arith) in
           record {
             place = length before;
             edge = e;
@@ -101,7 +130,11 @@ offered g p ends limit room graph found end u before (n ∷ path) (e ∷ rest) j
     ]
 
 -- a walk that takes an offer deviates
-deviates_at : (g : Area) (gone : List ℕ) (t u : ℕ) (path : List ℕ) (place e : ℕ) (rest : List ℕ) → Joins g u path t → place < length path → e < length g.edges → (edge_at g e).from ≡ (edge_at g (get_or path place 0)).from → e ≢ get_or path place 0 → Lacks gone e → Joins g (edge_at g e).to rest t → NoneTwice (visited g (edge_at g e).to rest) → Avoids gone rest → Deviates g gone t u path (take place path ++ e ∷ rest)
+deviates_at : (g : Area) (gone : List ℕ) (t u : ℕ) (path : List ℕ) (place e : ℕ) (rest : List ℕ) → Joins g u path t →
+    place < length path → e < length g.edges → (edge_at g e).from ≡ (edge_at g (get_or path place 0)).from →
+    e ≢ get_or path place 0 → Lacks gone e → Joins g (edge_at g e).to rest t →
+    NoneTwice (visited g (edge_at g e).to rest) → Avoids gone rest →
+    Deviates g gone t u path (take place path ++ e ∷ rest)
 deviates_at g gone t u [] place e rest joins within known from other left rest_joins once kept = absurd (omega arith)
 deviates_at g gone t u (n ∷ path) zero e rest joins within known from other left rest_joins once kept =
     inl (other, record { known = known; from_u = from ∙ joins.1; there = left; joins = rest_joins; none_twice = once; kept = kept })
@@ -109,7 +142,10 @@ deviates_at g gone t u (n ∷ path) (suc place) e rest joins within known from o
     inr (refl, deviates_at g gone t (edge_at g n).to path place e rest joins.2 (omega arith) known from other left rest_joins once kept)
 
 -- no deviation costs less than every offer, where that is within the limit
-deviation_above : (g : Area) (p : Point) (ends : Ends) (limit : ℕ) (room : Findings) (wanted : List ℕ) (most : ℕ) → FitsGraph g → IsFound g p ends limit room → IsPathOf g ends wanted → most ≤ limit → ((place e total : ℕ) → Offers g p ends.gone room wanted place e total → most ≤ total) → (other : List ℕ) → Deviates g ends.gone ends.end ends.start wanted other → most ≤ cost g p other
+deviation_above : (g : Area) (p : Point) (ends : Ends) (limit : ℕ) (room : Findings) (wanted : List ℕ) (most : ℕ) →
+    FitsGraph g → IsFound g p ends limit room → IsPathOf g ends wanted → most ≤ limit →
+    ((place e total : ℕ) → Offers g p ends.gone room wanted place e total → most ≤ total) → (other : List ℕ) →
+    Deviates g ends.gone ends.end ends.start wanted other → most ≤ cost g p other
 deviation_above g p ends limit room wanted most graph found path far above other deviates =
     elim (cases_lt (cost g p other) limit) [
       | inl near ↦
@@ -121,20 +157,35 @@ deviation_above g p ends limit room wanted most graph found path far above other
     ]
 
 -- so no rival does
-rival_above : (g : Area) (p : Point) (ends : Ends) (limit : ℕ) (room : Findings) (wanted : List ℕ) (most : ℕ) → FitsGraph g → IsFound g p ends limit room → IsPathOf g ends wanted → most ≤ limit → ((place e total : ℕ) → Offers g p ends.gone room wanted place e total → most ≤ total) → (other : List ℕ) → IsPathOf g ends other → other ≢ wanted → most ≤ cost g p other
+rival_above : (g : Area) (p : Point) (ends : Ends) (limit : ℕ) (room : Findings) (wanted : List ℕ) (most : ℕ) →
+    FitsGraph g → IsFound g p ends limit room → IsPathOf g ends wanted → most ≤ limit →
+    ((place e total : ℕ) → Offers g p ends.gone room wanted place e total → most ≤ total) → (other : List ℕ) →
+    IsPathOf g ends other → other ≢ wanted → most ≤ cost g p other
 rival_above g p ends limit room wanted most graph found path far above other is_path differs =
     deviation_above g p ends limit room wanted most graph found path far above other
-    (rival_deviates g ends.gone ends.end ends.start wanted other path.simple.joins path.simple.none_twice is_path.simple.joins is_path.simple.none_twice is_path.kept differs)
+    (rival_deviates g ends.gone ends.end ends.start wanted other path.simple.joins path.simple.none_twice
+    is_path.simple.joins is_path.simple.none_twice is_path.kept differs)
 
 -- where every offer costs at least the path and the scale, the path leads by the scale
-pub leads_by : (g : Area) (p : Point) (ends : Ends) (limit : ℕ) (room : Findings) (wanted : List ℕ) → FitsGraph g → IsFound g p ends limit room → IsPathOf g ends wanted → cost g p wanted + p.scale ≤ limit → ((place e total : ℕ) → Offers g p ends.gone room wanted place e total → cost g p wanted + p.scale ≤ total) → LeadsBy p.scale g p ends wanted
-leads_by g p ends limit room wanted graph found path far above = λ other is_path differs. rival_above g p ends limit room wanted (cost g p wanted + p.scale) graph found path far above other is_path differs
+pub leads_by : (g : Area) (p : Point) (ends : Ends) (limit : ℕ) (room : Findings) (wanted : List ℕ) → FitsGraph g →
+    IsFound g p ends limit room → IsPathOf g ends wanted → cost g p wanted + p.scale ≤ limit →
+    ((place e total : ℕ) → Offers g p ends.gone room wanted place e total → cost g p wanted + p.scale ≤ total) →
+    LeadsBy p.scale g p ends wanted
+leads_by g p ends limit room wanted graph found path far above =
+    λ other is_path differs. rival_above g p ends limit room wanted (cost g p wanted + p.scale) graph found path far
+    above other is_path differs
 
 -- the best offer, where it is cheap, makes with any path of least cost a cheapest rival
-pub cheapest_by : (g : Area) (p : Point) (ends : Ends) (limit : ℕ) (room : Findings) (wanted : List ℕ) (place e total : ℕ) → FitsGraph g → FitsPoint g p → IsFound g p ends limit room → IsPathOf g ends wanted → (offer : Offers g p ends.gone room wanted place e total) → ((k i other : ℕ) → Offers g p ends.gone room wanted k i other → total ≤ other) → total < cost g p wanted + p.scale → cost g p wanted + p.scale ≤ limit → (rest : List ℕ) → IsPathOf g (ends_from ends (edge_at g e).to) rest → cost g p rest ≡ offer.rest → IsCheapest g p ends wanted (take place wanted ++ e ∷ rest)
+pub cheapest_by : (g : Area) (p : Point) (ends : Ends) (limit : ℕ) (room : Findings) (wanted : List ℕ)
+    (place e total : ℕ) → FitsGraph g → FitsPoint g p → IsFound g p ends limit room → IsPathOf g ends wanted →
+    (offer : Offers g p ends.gone room wanted place e total) →
+    ((k i other : ℕ) → Offers g p ends.gone room wanted k i other → total ≤ other) → total < cost g p wanted + p.scale →
+    cost g p wanted + p.scale ≤ limit → (rest : List ℕ) → IsPathOf g (ends_from ends (edge_at g e).to) rest →
+    cost g p rest ≡ offer.rest → IsCheapest g p ends wanted (take place wanted ++ e ∷ rest)
 cheapest_by g p ends limit room wanted place e total graph fits found path offer best cheap far rest is_path costs =
     let walk : List ℕ = take place wanted ++ e ∷ rest in
-    let deviates = deviates_at g ends.gone ends.end ends.start wanted place e rest path.simple.joins offer.within offer.known offer.from offer.other offer.left is_path.simple.joins is_path.simple.none_twice is_path.kept in
+    let deviates = deviates_at g ends.gone ends.end ends.start wanted place e rest path.simple.joins offer.within
+    offer.known offer.from offer.other offer.left is_path.simple.joins is_path.simple.none_twice is_path.kept in
     let split = sum_by-append (λ i. price_at p (edge_at g i).price) (take place wanted) (e ∷ rest) in
     let longer = sum_by-cons (λ i. price_at p (edge_at g i).price) e rest in
     let sums = offer.sums in
@@ -142,7 +193,8 @@ cheapest_by g p ends limit room wanted place e total graph fits found path offer
     let within : total ≤ limit = omega arith in
     let least : (other : List ℕ) → Deviates g ends.gone ends.end ends.start wanted other → cost g p (take place wanted ++ e ∷ rest) ≤ cost g p other =
     λ other off. (let above = deviation_above g p ends limit room wanted total graph found path within best other off in omega (arith, whole)) in
-    let once = least_deviation_simple g p ends.gone ends.end ends.start wanted (take place wanted ++ e ∷ rest) graph fits path.simple.joins path.simple.none_twice path.kept deviates (omega (arith, whole, cheap)) least in
+    let once = least_deviation_simple g p ends.gone ends.end ends.start wanted (take place wanted ++ e ∷ rest) graph
+    fits path.simple.joins path.simple.none_twice path.kept deviates (omega (arith, whole, cheap)) least in
     let joins = deviation_joins g ends.gone ends.end ends.start wanted (take place wanted ++ e ∷ rest) path.simple.joins path.kept deviates in
     record {
       rival = record {
@@ -150,11 +202,18 @@ cheapest_by g p ends limit room wanted place e total graph fits found path offer
         other = deviation_differs g ends.gone ends.end ends.start wanted (take place wanted ++ e ∷ rest) deviates;
       };
       cheap = omega (arith, whole, cheap);
-      none_less = λ other rival. (let above = rival_above g p ends limit room wanted total graph found path within best other rival.path rival.other in omega (arith, whole));
+      none_less = λ other rival. (let above =
+          rival_above g p ends limit room wanted total graph found path within best other rival.path rival.other in
+          omega (arith, whole));
     }
 
 -- so there is a way on from the offer's edge, behind the front of the path and that edge
-pub way_from : (g : Area) (p : Point) (ends : Ends) (limit : ℕ) (room : Findings) (wanted front : List ℕ) (place e total : ℕ) → FitsGraph g → FitsPoint g p → IsFound g p ends limit room → IsPathOf g ends wanted → (offer : Offers g p ends.gone room wanted place e total) → ((k i other : ℕ) → Offers g p ends.gone room wanted k i other → total ≤ other) → total < cost g p wanted + p.scale → cost g p wanted + p.scale ≤ limit → front ≡ take place wanted ++ e ∷ [] → HasWay g p ends (record room { path = front }) (edge_at g e).to
+pub way_from : (g : Area) (p : Point) (ends : Ends) (limit : ℕ) (room : Findings) (wanted front : List ℕ)
+    (place e total : ℕ) → FitsGraph g → FitsPoint g p → IsFound g p ends limit room → IsPathOf g ends wanted →
+    (offer : Offers g p ends.gone room wanted place e total) →
+    ((k i other : ℕ) → Offers g p ends.gone room wanted k i other → total ≤ other) → total < cost g p wanted + p.scale →
+    cost g p wanted + p.scale ≤ limit → front ≡ take place wanted ++ e ∷ [] →
+    HasWay g p ends (record room { path = front }) (edge_at g e).to
 way_from g p ends limit room wanted front place e total graph fits found path offer best cheap far is_front = record {
   known = edge.to;
   least = offer.rest;
@@ -171,7 +230,12 @@ way_from g p ends limit room wanted front place e total graph fits found path of
     edge = graph.edges e no_edge offer.known
 
 -- with the way that was followed the front is a cheapest rival
-pub followed_cheapest : (g : Area) (p : Point) (ends : Ends) (limit : ℕ) (room : Findings) (wanted front walk : List ℕ) (place e total : ℕ) → FitsGraph g → FitsPoint g p → IsFound g p ends limit room → IsPathOf g ends wanted → Offers g p ends.gone room wanted place e total → ((k i other : ℕ) → Offers g p ends.gone room wanted k i other → total ≤ other) → total < cost g p wanted + p.scale → cost g p wanted + p.scale ≤ limit → front ≡ take place wanted ++ e ∷ [] → IsFollowed g p ends (record room { path = front }) (edge_at g e).to walk → IsCheapest g p ends wanted walk
+pub followed_cheapest : (g : Area) (p : Point) (ends : Ends) (limit : ℕ) (room : Findings) (wanted front walk : List ℕ)
+    (place e total : ℕ) → FitsGraph g → FitsPoint g p → IsFound g p ends limit room → IsPathOf g ends wanted →
+    Offers g p ends.gone room wanted place e total →
+    ((k i other : ℕ) → Offers g p ends.gone room wanted k i other → total ≤ other) → total < cost g p wanted + p.scale →
+    cost g p wanted + p.scale ≤ limit → front ≡ take place wanted ++ e ∷ [] →
+    IsFollowed g p ends (record room { path = front }) (edge_at g e).to walk → IsCheapest g p ends wanted walk
 followed_cheapest g p ends limit room wanted front walk place e total graph fits found path offer best cheap far is_front followed =
     let costs = same_Some (cost g p followed.rest) offer.rest (sym followed.costs ∙ offer.distance) in
     let whole = cheapest_by g p ends limit room wanted place e total graph fits found path offer best cheap far followed.rest followed.path costs in
@@ -179,19 +243,26 @@ followed_cheapest g p ends limit room wanted front walk place e total graph fits
     subst (λ (es : List ℕ). IsCheapest g p ends wanted es) (sym same) whole
 
 -- a cheap offer that is the best shows that the path doesn't lead by the scale
-pub beaten_by : (g : Area) (p : Point) (ends : Ends) (limit : ℕ) (room : Findings) (wanted : List ℕ) (place e total : ℕ) → FitsGraph g → FitsPoint g p → IsFound g p ends limit room → IsPathOf g ends wanted → (offer : Offers g p ends.gone room wanted place e total) → ((k i other : ℕ) → Offers g p ends.gone room wanted k i other → total ≤ other) → total < cost g p wanted + p.scale → cost g p wanted + p.scale ≤ limit → LeadsBy p.scale g p ends wanted → ⊥
+pub beaten_by : (g : Area) (p : Point) (ends : Ends) (limit : ℕ) (room : Findings) (wanted : List ℕ)
+    (place e total : ℕ) → FitsGraph g → FitsPoint g p → IsFound g p ends limit room → IsPathOf g ends wanted →
+    (offer : Offers g p ends.gone room wanted place e total) →
+    ((k i other : ℕ) → Offers g p ends.gone room wanted k i other → total ≤ other) → total < cost g p wanted + p.scale →
+    cost g p wanted + p.scale ≤ limit → LeadsBy p.scale g p ends wanted → ⊥
 beaten_by g p ends limit room wanted place e total graph fits found path offer best cheap far leads =
     let edge : FitsEdge g (edge_at g e) = graph.edges e no_edge offer.known in
-    let least = is_least g p (ends_from ends (edge_at g e).to) limit (distance_at room (edge_at g e).to) offer.rest (found.least (edge_at g e).to edge.to) offer.distance in
+    let least = is_least g p (ends_from ends (edge_at g e).to) limit (distance_at room (edge_at g e).to) offer.rest
+    (found.least (edge_at g e).to edge.to) offer.distance in
     let whole = cheapest_by g p ends limit room wanted place e total graph fits found path offer best cheap far least.path least.is_path least.costs in
     let above = leads (take place wanted ++ e ∷ least.path) whole.rival.path whole.rival.other in
     let below = whole.cheap in
     omega arith
 
 -- distances to the end of a request serve another one with the same end, that takes away the same edges
-pub found_as : (g : Area) (p : Point) (ends others : Ends) (limit : ℕ) (room : Findings) → IsFound g p ends limit room → ends.end ≡ others.end → ends.gone ≡ others.gone → IsFound g p others limit room
+pub found_as : (g : Area) (p : Point) (ends others : Ends) (limit : ℕ) (room : Findings) → IsFound g p ends limit room →
+    ends.end ≡ others.end → ends.gone ≡ others.gone → IsFound g p others limit room
 found_as g p ends others limit room found same_end same_gone =
-    let same : (record { start = others.start; end = ends.end; gone = ends.gone }) ≡ others = λ i. record { start = others.start; end = same_end i; gone = same_gone i } in
+    let same : (record { start = others.start; end = ends.end; gone = ends.gone }) ≡ others =
+    λ i. record { start = others.start; end = same_end i; gone = same_gone i } in
     subst (λ (x : Ends). IsFound g p x limit room) same (record { room_for = found.room_for; marks = found.marks; least = found.least; tight = found.tight })
 
 -- numbers that add up
@@ -214,7 +285,11 @@ sums_of (Some x) None price h = absurd (clash h)
 sums_of (Some x) (Some y) price h = record { x = x; y = y; from_is = refl; to_is = refl; adds = eqb-true x (price + y) h }
 
 -- a tight edge and a path of least cost from its end are a path
-pub along_tight : (g : Area) (p : Point) (ends : Ends) (limit : ℕ) (room : Findings) (v f x y : ℕ) (rest : List ℕ) → FitsGraph g → FitsPoint g p → IsFound g p ends limit room → v < length g.vertices → f < length g.edges → (edge_at g f).from ≡ v → Lacks ends.gone f → distance_at room v ≡ Some x → x ≡ price_at p (edge_at g f).price + y → IsPathOf g (record { start = (edge_at g f).to; end = ends.end; gone = ends.gone }) rest → cost g p rest ≡ y → IsPathOf g (record { start = v; end = ends.end; gone = ends.gone }) (f ∷ rest)
+pub along_tight : (g : Area) (p : Point) (ends : Ends) (limit : ℕ) (room : Findings) (v f x y : ℕ) (rest : List ℕ) →
+    FitsGraph g → FitsPoint g p → IsFound g p ends limit room → v < length g.vertices → f < length g.edges →
+    (edge_at g f).from ≡ v → Lacks ends.gone f → distance_at room v ≡ Some x → x ≡ price_at p (edge_at g f).price + y →
+    IsPathOf g (record { start = (edge_at g f).to; end = ends.end; gone = ends.gone }) rest → cost g p rest ≡ y →
+    IsPathOf g (record { start = v; end = ends.end; gone = ends.gone }) (f ∷ rest)
 along_tight g p ends limit room v f x y rest graph fits found inside known from left distance adds path costs =
     let joins : Joins g v (f ∷ rest) ends.end = (known, from, path.simple.joins) in
     let kept : Avoids ends.gone (f ∷ rest) = (left, path.kept) in
@@ -229,7 +304,16 @@ along_tight g p ends limit room v f x y rest graph fits found inside known from 
         none_twice = elim simple.same_or_less [
           | inl same ↦ subst (λ (es : List ℕ). NoneTwice (visited g v es)) same simple.none_twice
           | inr less ↦
-              let none_less = least.none_less simple.edges (record { simple = record { start = inside; end = path.simple.end; joins = simple.joins; none_twice = simple.none_twice }; kept = simple.kept }) in
+              let none_less = least.none_less simple.edges
+              (record {
+                simple = record {
+                  start = inside;
+                  end = path.simple.end;
+                  joins = simple.joins;
+                  none_twice = simple.none_twice;
+                };
+                kept = simple.kept;
+              }) in
               let scale = fits.scale in
               absurd (omega arith)
         ];
@@ -242,7 +326,8 @@ abbrev pub IsWay : Area → Point → Ends → Findings → ℕ → List ℕ →
 IsWay g p ends room v walk = IsFollowed g p ends room v walk × (length walk < length g.vertices)
 
 -- where there is a way, the room's path is completed to it by any path of least cost
-pub way_completes : (g : Area) (p : Point) (ends : Ends) (room : Findings) (v : ℕ) → HasWay g p ends room v → Completes g p ends room (IsWay g p ends room v) room.path v
+pub way_completes : (g : Area) (p : Point) (ends : Ends) (room : Findings) (v : ℕ) → HasWay g p ends room v →
+    Completes g p ends room (IsWay g p ends room v) room.path v
 way_completes g p ends room v way = record {
   known = way.known;
   least = way.least;
@@ -254,7 +339,10 @@ way_completes g p ends room v way = record {
 }
 
 -- one more tight edge
-pub completes_more : (g : Area) (p : Point) (ends : Ends) (limit : ℕ) (room : Findings) (Whole : List ℕ → Type 0) (walk : List ℕ) (v f : ℕ) → FitsGraph g → FitsPoint g p → IsFound g p ends limit room → Completes g p ends room Whole walk v → f < length g.edges → (edge_at g f).from ≡ v → is_tight g p room f ≡ true → Lacks ends.gone f → Completes g p ends room Whole (walk ++ f ∷ []) (edge_at g f).to
+pub completes_more : (g : Area) (p : Point) (ends : Ends) (limit : ℕ) (room : Findings) (Whole : List ℕ → Type 0)
+    (walk : List ℕ) (v f : ℕ) → FitsGraph g → FitsPoint g p → IsFound g p ends limit room →
+    Completes g p ends room Whole walk v → f < length g.edges → (edge_at g f).from ≡ v → is_tight g p room f ≡ true →
+    Lacks ends.gone f → Completes g p ends room Whole (walk ++ f ∷ []) (edge_at g f).to
 completes_more g p ends limit room Whole walk v f graph fits found so_far known from tight left =
     let edge : FitsEdge g (edge_at g f) = graph.edges f no_edge known in
     let sums = sums_of (distance_at room (edge_at g f).from) (distance_at room (edge_at g f).to) (price_at p (edge_at g f).price) tight in
@@ -265,7 +353,8 @@ completes_more g p ends limit room Whole walk v f graph fits found so_far known 
       least = sums.y;
       distance = sums.to_is;
       whole = λ rest path costs. (
-          let longer_path = along_tight g p ends limit room v f so_far.least sums.y rest graph fits found so_far.known known from left so_far.distance (here ∙ adds) path costs in
+          let longer_path = along_tight g p ends limit room v f so_far.least sums.y rest graph fits found so_far.known
+          known from left so_far.distance (here ∙ adds) path costs in
           let longer = sum_by-cons (λ i. price_at p (edge_at g i).price) f rest in
           subst Whole (sym (append_assoc walk (f ∷ []) rest))
           (so_far.whole (f ∷ rest) longer_path (omega (arith, here, adds, costs, longer))));
@@ -276,7 +365,9 @@ append_nil [] = refl
 append_nil (x ∷ xs) = ap (λ ys. x ∷ ys) (append_nil xs)
 
 -- at the end the walk is whole
-pub completed : (g : Area) (p : Point) (ends : Ends) (limit : ℕ) (room : Findings) (Whole : List ℕ → Type 0) (walk : List ℕ) (v : ℕ) → IsFound g p ends limit room → Completes g p ends room Whole walk v → v ≡ ends.end → Whole walk
+pub completed : (g : Area) (p : Point) (ends : Ends) (limit : ℕ) (room : Findings) (Whole : List ℕ → Type 0)
+    (walk : List ℕ) (v : ℕ) → IsFound g p ends limit room → Completes g p ends room Whole walk v →
+    v ≡ ends.end → Whole walk
 completed g p ends limit room Whole walk v found so_far arrived =
     let path : IsPathOf g (ends_from ends v) [] = record {
       simple = record { start = so_far.known; end = subst (λ (i : ℕ). i < length g.vertices) arrived so_far.known; joins = arrived; none_twice = (tt, tt) };
@@ -287,7 +378,9 @@ completed g p ends limit room Whole walk v found so_far arrived =
     subst Whole (append_nil walk) (so_far.whole [] path (omega arith))
 
 -- short of the end some tight edge is left
-pub some_next : (g : Area) (p : Point) (ends : Ends) (limit : ℕ) (room : Findings) (Whole : List ℕ → Type 0) (walk : List ℕ) (v : ℕ) → IsFound g p ends limit room → Completes g p ends room Whole walk v → v ≢ ends.end → All (λ e. is_tight g p room e ≡ true → get_or room.marks e true ≡ false → ⊥) (edges_out g v) → ⊥
+pub some_next : (g : Area) (p : Point) (ends : Ends) (limit : ℕ) (room : Findings) (Whole : List ℕ → Type 0)
+    (walk : List ℕ) (v : ℕ) → IsFound g p ends limit room → Completes g p ends room Whole walk v → v ≢ ends.end →
+    All (λ e. is_tight g p room e ≡ true → get_or room.marks e true ≡ false → ⊥) (edges_out g v) → ⊥
 some_next g p ends limit room Whole walk v found so_far short none = by_path least.path refl
   where
     least : IsLeast g p (ends_from ends v) so_far.least
@@ -303,10 +396,13 @@ some_next g p ends limit room Whole walk v found so_far short none = by_path lea
         let costs : so_far.least ≡ cost g p (e ∷ es) = sym least.costs ∙ ap (cost g p) (sym same) in
         let tight = (found.tight v (e ∷ es) path (omega (arith, below, costs))).0 (so_far.distance ∙ ap (λ n. Some n) costs) in
         let inside : e < length room.marks = (let known = path.simple.joins.0 in let count = found.room_for.edges in omega arith) in
-        out_all (λ e. is_tight g p room e ≡ true → get_or room.marks e true ≡ false → ⊥) g v none e path.simple.joins.0 path.simple.joins.1 tight.0 ((found.marks e inside).1 path.kept.0)
+        out_all (λ e. is_tight g p room e ≡ true → get_or room.marks e true ≡ false → ⊥) g v none e path.simple.joins.0
+        path.simple.joins.1 tight.0 ((found.marks e inside).1 path.kept.0)
 
 -- where each whole walk has fewer edges than the graph has vertices, so has the walk so far
-pub short_walk : (g : Area) (p : Point) (ends : Ends) (limit : ℕ) (room : Findings) (Whole : List ℕ → Type 0) (walk : List ℕ) (v : ℕ) → IsFound g p ends limit room → Completes g p ends room Whole walk v → ((es : List ℕ) → Whole es → length es < length g.vertices) → length walk < length g.vertices
+pub short_walk : (g : Area) (p : Point) (ends : Ends) (limit : ℕ) (room : Findings) (Whole : List ℕ → Type 0)
+    (walk : List ℕ) (v : ℕ) → IsFound g p ends limit room → Completes g p ends room Whole walk v →
+    ((es : List ℕ) → Whole es → length es < length g.vertices) → length walk < length g.vertices
 short_walk g p ends limit room Whole walk v found so_far each =
     let least = is_least g p (ends_from ends v) limit (distance_at room v) so_far.least (found.least v so_far.known) so_far.distance in
     let short = each (walk ++ least.path) (so_far.whole least.path least.is_path least.costs) in
@@ -322,16 +418,35 @@ kept_tight : (g : Area) (p : Point) (room : Findings) (kept es : List ℕ) → A
 kept_tight g p room kept [] tight = tt
 kept_tight g p room kept (e ∷ es) tight = (tight.0, kept_tight g p room kept es tight.1)
 
-pub found_kept : (g : Area) (p : Point) (ends : Ends) (limit : ℕ) (room : Findings) (kept : List ℕ) → IsFound g p ends limit room → IsFound g p ends limit (record room { path = kept })
+pub found_kept : (g : Area) (p : Point) (ends : Ends) (limit : ℕ) (room : Findings) (kept : List ℕ) →
+    IsFound g p ends limit room → IsFound g p ends limit (record room { path = kept })
 found_kept g p ends limit room kept found = record {
   room_for = record { vertices = found.room_for.vertices; edges = found.room_for.edges };
   marks = found.marks;
   least = found.least;
-  tight = λ v es path near. (λ least. tight_kept g p room kept es ((found.tight v es path near).0 least), λ tight. (found.tight v es path near).1 (kept_tight g p room kept es tight));
+  tight = λ v es path near. (
+    λ least. tight_kept g p room kept es ((found.tight v es path near).0 least),
+    λ tight. (found.tight v es path near).1 (kept_tight g p room kept es tight),
+  );
 }
 
-pub completes_kept : (g : Area) (p : Point) (ends : Ends) (room : Findings) (Whole : List ℕ → Type 0) (walk kept : List ℕ) (v : ℕ) → Completes g p ends room Whole walk v → Completes g p ends (record room { path = kept }) Whole walk v
+pub completes_kept : (g : Area) (p : Point) (ends : Ends) (room : Findings) (Whole : List ℕ → Type 0)
+    (walk kept : List ℕ) (v : ℕ) → Completes g p ends room Whole walk v →
+    Completes g p ends (record room { path = kept }) Whole walk v
 completes_kept g p ends room Whole walk kept v so_far = record { known = so_far.known; least = so_far.least; distance = so_far.distance; whole = so_far.whole }
+
+-- where there is a way behind an edge, the room's path has fewer edges than the graph has vertices
+pub way_short : (g : Area) (p : Point) (ends : Ends) (limit : ℕ) (room : Findings) (e : ℕ) → FitsGraph g →
+    IsFound g p ends limit room → e < length g.edges → HasWay g p ends (with_edge room e) (edge_at g e).to →
+    length room.path < length room.costs
+way_short g p ends limit room e graph found known way =
+    let edge : FitsEdge g (edge_at g e) = graph.edges e no_edge known in
+    let some = is_least g p (ends_from ends (edge_at g e).to) limit (distance_at room (edge_at g e).to) way.least
+    (found.least (edge_at g e).to edge.to) way.distance in
+    let short = way.short some.path some.is_path some.costs in
+    let longer = length-append room.path (e ∷ []) in
+    let count = found.room_for.vertices in
+    omega arith
 
 -- the first n elements are at most n
 pub take_short : (n : ℕ) (xs : List ℕ) → length (take n xs) ≤ n

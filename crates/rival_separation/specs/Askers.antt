@@ -37,7 +37,9 @@ lead_at g p r = cost g p r.path.edges + p.scale
 
 -- the request of that number has a rival that costs less than its path and the scale where it is marked, and else leads
 abbrev pub IsMarkTrue : Area → Point → List Request → List Bool → ℕ → Type 0
-IsMarkTrue g p requests marks k = MatchBool (slice_index_or marks k true) (RequestLeads g p (request_at requests k) → ⊥) (RequestLeads g p (request_at requests k))
+IsMarkTrue g p requests marks k =
+    MatchBool (slice_index_or marks k true) (RequestLeads g p (request_at requests k) → ⊥)
+    (RequestLeads g p (request_at requests k))
 
 -- the room has the distances to the end of a request without the edges that it takes away, those below a limit
 pub record IsShared (g : Area) (p : Point) (requests : List Request) (room : Findings) (shared : Shared) : Type 0 where

@@ -1,5 +1,5 @@
 -- Where a walk may leave a path, and what it then costs at least.
-use Rattle.std.specs.Prelude.{◌≡◌, ◌≢◌, ℕ, ◌+◌, ◌<◌, ◌≤◌, List, Option, Some, None, length, take, slice_index}
+use Rattle.std.specs.Prelude.{◌≡◌, ◌≢◌, ℕ, ◌+◌, ◌<◌, ◌≤◌, ◌⊎◌, List, Option, Some, None, MatchOption, length, take, slice_index}
 use Rattle.cost_base.specs.Lists.{Lacks}
 use Rattle.area_graph.specs.declared.Point.{Point}
 use Rattle.area_graph.specs.Area.{Area, edge_at}
@@ -33,3 +33,13 @@ IsBestOf Offer Seen (Some best) = Offer best.place best.edge best.cost × ((plac
 -- so it is with the ways to leave a path
 abbrev pub IsBest : Area → Point → List ℕ → Findings → List ℕ → (ℕ → ℕ → Type 0) → Option Deviation → Type 0
 IsBest g p gone room path Seen best = IsBestOf (Offers g p gone room path) Seen best
+
+-- the better of the best deviation so far and a later one: the first, unless the later one costs less
+abbrev pub IsBetter : Option Deviation → Deviation → Deviation → Type 0
+IsBetter best later result = MatchOption best (result ≡ later) (λ first. ((result ≡ later) × (later.cost < first.cost))
+    ⊎ ((result ≡ first) × (first.cost ≤ later.cost)))
+
+-- the better of the best so far and a deviation by an edge at a place, where there is one, at this cost
+abbrev pub IsBetterBy : Option Deviation → ℕ → ℕ → Option ℕ → Option Deviation → Type 0
+IsBetterBy best place edge cost result =
+    MatchOption cost (result ≡ best) (λ total. MatchOption result ⊥ (λ better. IsBetter best (record { place = place; edge = edge; cost = total }) better))

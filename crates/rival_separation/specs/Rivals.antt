@@ -1,5 +1,5 @@
 -- Rivals of a requested path: the other simple paths of its request.
-use Rattle.std.specs.Prelude.{◌≡◌, ◌≢◌, ◌↔◌, ℕ, ◌+◌, ◌<◌, ◌≤◌, List, ◌++◌, length, slice_index_or, Some, true, false}
+use Rattle.std.specs.Prelude.{◌≡◌, ◌≢◌, ◌↔◌, ℕ, ◌+◌, ◌<◌, ◌≤◌, List, [], ◌∷◌, ◌++◌, length, slice_index_or, Some, true, false}
 use Rattle.area_graph.specs.declared.Point.{Point}
 use Rattle.area_graph.specs.Area.{Area, edge_at}
 use Rattle.area_graph.specs.Paths.{Ends, IsPathOf}
@@ -23,7 +23,8 @@ pub record IsFound (g : Area) (p : Point) (ends : Ends) (limit : ℕ) (room : Fi
   pub room_for : IsRoomFor g room
   pub marks : AreMarks ends.gone room.marks
   pub least : (v : ℕ) → v < length g.vertices → IsLeastBelow g p (record { start = v; end = ends.end; gone = ends.gone }) limit (distance_at room v)
-  pub tight : (v : ℕ) (path : List ℕ) → IsPathOf g (record { start = v; end = ends.end; gone = ends.gone }) path → cost g p path < limit → (distance_at room v ≡ Some (cost g p path)) ↔ AreTight g p room path
+  pub tight : (v : ℕ) (path : List ℕ) → IsPathOf g (record { start = v; end = ends.end; gone = ends.gone }) path →
+      cost g p path < limit → (distance_at room v ≡ Some (cost g p path)) ↔ AreTight g p room path
 
 -- so it is with a limit of at least so much
 pub record IsFoundTo (g : Area) (p : Point) (ends : Ends) (enough : ℕ) (room : Findings) : Type 0 where
@@ -41,6 +42,10 @@ pub record IsNext (g : Area) (p : Point) (room : Findings) (v e : ℕ) : Type 0 
 -- the ends of a request, from another vertex on
 abbrev pub ends_from : Ends → ℕ → Ends
 ends_from ends v = record { start = v; end = ends.end; gone = ends.gone }
+
+-- the room with an edge behind the path that it keeps
+abbrev pub with_edge : Findings → ℕ → Findings
+with_edge room e = record room { path = room.path ++ e ∷ [] }
 
 -- behind the path that a room keeps came a path of least cost from a vertex to the end of the request
 pub record IsFollowed (g : Area) (p : Point) (ends : Ends) (room : Findings) (v : ℕ) (walk : List ℕ) : Type 0 where

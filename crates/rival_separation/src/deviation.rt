@@ -1,11 +1,11 @@
 //! The deviation of least cost from a path.
 
-ghost use Rattle.std.specs.Prelude.{◌≡◌, ◌+◌, ◌<◌, ◌≤◌, ◌*◌, ◌^◌, ◌⊎◌, ℕ, IfSome, MatchOption, Some, length, slice_index, take};
+ghost use Rattle.std.specs.Prelude.{◌≡◌, ◌+◌, ◌<◌, ◌≤◌, ◌*◌, ◌^◌, ℕ, IfSome, MatchOption, Some, length, slice_index, take};
 ghost use Rattle.area_graph.specs.Area.{edge_at};
 ghost use Rattle.area_graph.specs.Costs.{FitsPoint, cost};
 ghost use Rattle.area_graph.specs.Paths.{IsPathOf};
 ghost use Rattle.path_rows.specs.Problems.{ends_of};
-ghost use Rattle.rival_separation.specs.Offers.{IsBest, IsOnward, Offers};
+ghost use Rattle.rival_separation.specs.Offers.{IsBest, IsBetter, IsBetterBy, IsOnward, Offers};
 ghost use Rattle.rival_separation.specs.Rivals.{IsFound};
 
 use area_graph::{Graph, Point, edge_of, price_of};
@@ -83,8 +83,8 @@ fn offer(
 }
 
 /// The better of the best deviation so far and a later one: the first, unless the later one costs less.
-pub fn better(best: Option<Deviation>, later: Deviation) -> Deviation
-    ensures { MatchOption best (result ≡ later) (λ first. ((result ≡ later) × (later.cost < first.cost)) ⊎ ((result ≡ first) × (first.cost ≤ later.cost))) }
+fn better(best: Option<Deviation>, later: Deviation) -> Deviation
+    ensures { IsBetter best later result }
 {
     match best {
         Some(first) => {
@@ -95,6 +95,21 @@ pub fn better(best: Option<Deviation>, later: Deviation) -> Deviation
             }
         }
         None => later,
+    }
+}
+
+/// The better of the best deviation so far and the one that leaves by an edge at a place, where there is one, at this cost.
+pub fn better_by(
+    best: Option<Deviation>,
+    place: usize,
+    edge: u32,
+    cost: Option<u128>,
+) -> Option<Deviation>
+    ensures { IsBetterBy best place edge cost result }
+{
+    match cost {
+        Some(cost) => Some(better(best, Deviation { place, edge, cost })),
+        None => best,
     }
 }
 
@@ -121,17 +136,8 @@ fn better_at(
     let named = request.path.edges.as_slice()[place];
     let mut found = best;
     for number in graph.edges_out(edge_of(graph, named).from) {
-        found = match offer(graph, request, point, room, place, before, *number) {
-            Some(cost) => Some(better(
-                found,
-                Deviation {
-                    place,
-                    edge: *number,
-                    cost,
-                },
-            )),
-            None => found,
-        };
+        let cost = offer(graph, request, point, room, place, before, *number);
+        found = better_by(found, place, *number, cost);
     }
     found
 }

@@ -6,5 +6,5 @@ mod deviation;
 mod rival;
 
 pub use asker::Asker;
-pub use deviation::{Deviation, better, onward};
-pub use rival::{Rival, cheapest_rival, find_rival, follow, put_front};
+pub use deviation::{Deviation, better_by, onward};
+pub use rival::{Rival, cheapest_rival, find_rival, leave_by, put_front};

@@ -9,7 +9,7 @@ ghost use Rattle.path_rows.specs.Problems.{ends_of};
 ghost use Rattle.spf_ties.specs.Distances.{IsRoomFor, is_tight};
 ghost use Rattle.rival_separation.specs.Answers.{IsAnswer};
 ghost use Rattle.rival_separation.specs.Offers.{IsBest};
-ghost use Rattle.rival_separation.specs.Rivals.{HasWay, IsCheapest, IsFollowed, IsFound, IsFoundTo, IsNext};
+ghost use Rattle.rival_separation.specs.Rivals.{HasWay, IsCheapest, IsFollowed, IsFound, IsFoundTo, IsNext, with_edge};
 ghost use Rattle.rival_separation.specs.declared.deviation.Deviation.{Deviation};
 
 use crate::deviation::{Deviation, least_deviation};
@@ -66,7 +66,7 @@ pub fn put_front(room: &mut Room, edges: &[u32])
 
 /// Goes from a vertex along the least-numbered tight edges that weren't taken away, to the end of the request, and puts
 /// each behind the path that the room keeps: a path of least cost. The room has the distances to that end.
-pub fn follow(graph: &Graph, request: &Request, point: &Point, start: u32, room: &mut Room)
+fn follow(graph: &Graph, request: &Request, point: &Point, start: u32, room: &mut Room)
     requires fits { FitsPoint graph.now point.now }
     requires found { (limit : ℕ) × IsFound graph.now point.now (ends_of request.now) limit room.old }
     requires way { HasWay graph.now point.now (ends_of request.now) room.old start }
@@ -84,6 +84,21 @@ pub fn follow(graph: &Graph, request: &Request, point: &Point, start: u32, room:
             None => return,
         }
     }
+}
+
+/// Puts an edge behind the path that the room keeps, and goes on from the edge's end as `follow` does: so a walk that leaves
+/// a path by that edge becomes whole. The room has the distances to the end of the request.
+pub fn leave_by(graph: &Graph, request: &Request, point: &Point, edge: u32, room: &mut Room)
+    requires fits { FitsPoint graph.now point.now }
+    requires known { edge < length graph.now.edges }
+    requires found { (limit : ℕ) × IsFound graph.now point.now (ends_of request.now) limit room.old }
+    requires way { HasWay graph.now point.now (ends_of request.now) (with_edge room.old edge) (edge_at graph.now edge).to }
+    ensures room { IsRoomFor graph.now room.new }
+    ensures followed { IsFollowed graph.now point.now (ends_of request.now) (with_edge room.old edge) (edge_at graph.now edge).to room.new.path }
+{
+    graph.keeps_conditions();
+    room.add_to_path(edge);
+    follow(graph, request, point, edge_of(graph, edge).to, room);
 }
 
 /// What a rival costs at least where the path of a request leads by the scale: what the path costs, and the scale.
@@ -160,8 +175,7 @@ fn lay_out(graph: &Graph, request: &Request, point: &Point, best: Deviation, roo
 {
     graph.keeps_conditions();
     put_front(room, &request.path.edges.as_slice()[..best.place]);
-    room.add_to_path(best.edge);
-    follow(graph, request, point, edge_of(graph, best.edge).to, room);
+    leave_by(graph, request, point, best.edge, room);
 }
 
 /// The cheapest rival of a request's path at a point. It is Cheaper exactly where some other simple path of the request

@@ -90,7 +90,8 @@ module _ (g : Area) (ends : Ends) (wanted : List (List ℕ)) (steps : List Step)
       let known : i + 1 ≤ length steps = omega arith in
       let path = begun_path (i + 1) known in
       let front = prefix (step_at steps i).place in
-      let whole = subst (λ (es : List ℕ). Joins g ends.start (es ++ (tree.grown.begun (i + 1) known).more) ends.end) (tree.grown.grown i within) path.simple.joins in
+      let whole = subst (λ (es : List ℕ). Joins g ends.start (es ++ (tree.grown.begun (i + 1) known).more) ends.end)
+      (tree.grown.grown i within) path.simple.joins in
       (cut g ends.start front (e ∷ []) _ (cut g ends.start (front ++ e ∷ []) (tree.grown.begun (i + 1) known).more ends.end whole).before).behind.0
 
   pub place_joins : (k : ℕ) → k ≤ length steps → Joins g ends.start (prefix k) (vertex_of g ends steps k)
@@ -128,7 +129,8 @@ module _ (g : Area) (ends : Ends) (wanted : List (List ℕ)) (steps : List Step)
       omega arith
 
   -- the costs that are written down are those of the prefixes
-  pub prefix_cost : (p : Point) (costs : List ℕ) (m : ℕ) → m ≤ length steps → ArePlaceCosts g p steps m costs → (n k : ℕ) → k ≤ n → k ≤ m → slice_index costs k ≡ cost g p (prefix k)
+  pub prefix_cost : (p : Point) (costs : List ℕ) (m : ℕ) → m ≤ length steps → ArePlaceCosts g p steps m costs →
+      (n k : ℕ) → k ≤ n → k ≤ m → slice_index costs k ≡ cost g p (prefix k)
   prefix_cost p costs m few are n zero below known = are.root ∙ ap (cost g p) (sym tree.grown.root)
   prefix_cost p costs m few are zero (suc i) below known = absurd (omega arith)
   prefix_cost p costs m few are (suc n) (suc i) below known =
@@ -143,7 +145,8 @@ module _ (g : Area) (ends : Ends) (wanted : List (List ℕ)) (steps : List Step)
       let one = sum_by-cons (λ j. price_at p (edge_at g j).price) s.edge [] in
       omega arith
 
-  pub place_below : (p : Point) (costs : List ℕ) (m : ℕ) → m ≤ length steps → ArePlaceCosts g p steps m costs → FitsGraph g → HasMetrics g → FitsPoint g p → (k : ℕ) → k ≤ m → slice_index costs k < 2 ^ 26 * p.scale
+  pub place_below : (p : Point) (costs : List ℕ) (m : ℕ) → m ≤ length steps → ArePlaceCosts g p steps m costs →
+      FitsGraph g → HasMetrics g → FitsPoint g p → (k : ℕ) → k ≤ m → slice_index costs k < 2 ^ 26 * p.scale
   place_below p costs m few are graph metrics fits k known =
       let same = prefix_cost p costs m few are k k (omega arith) known in
       let below = prefix_below p graph metrics fits k (omega arith) in
@@ -166,7 +169,12 @@ has_or_lacks steps k e = by_test (list_any (is_step k e) steps) refl
   where
     by_test : (b : Bool) → list_any (is_step k e) steps ≡ b → HasStep steps k e ⊎ (HasStep steps k e → ⊥)
     by_test true some = inl (any_step steps k e some)
-    by_test false none = inr (λ has. false≢true (sym none ∙ list_any_at (is_step k e) steps has.0 no_step has.1.within (rw (eq-eqb k (step_at steps has.0).place (sym has.1.from), eq-eqb e (step_at steps has.0).edge (sym has.1.by)) refl)))
+    by_test false none = inr (λ has.
+        false≢true (sym none ∙ list_any_at (is_step k e) steps has.0 no_step has.1.within
+        (rw (
+          eq-eqb k (step_at steps has.0).place (sym has.1.from),
+          eq-eqb e (step_at steps has.0).edge (sym has.1.by),
+        ) refl)))
 
 -- the departure that a walk takes
 record Departed (g : Area) (p : Point) (ends : Ends) (room : Findings) (steps : List Step) (costs : List ℕ) (most : ℕ) : Type 0 where
@@ -176,7 +184,9 @@ record Departed (g : Area) (p : Point) (ends : Ends) (room : Findings) (steps : 
   departs : Departs g p ends room steps costs place edge total
   within : total ≤ most
 
-module _ (g : Area) (p : Point) (ends : Ends) (limit : ℕ) (room : Findings) (wanted : List (List ℕ)) (steps : List Step) (costs : List ℕ) (graph : FitsGraph g) (found : IsFound g p ends limit room) (tree : IsTreeOf g ends wanted steps) (are : ArePlaceCosts g p steps (length steps) costs) where
+module _ (g : Area) (p : Point) (ends : Ends) (limit : ℕ) (room : Findings) (wanted : List (List ℕ)) (steps : List Step)
+    (costs : List ℕ) (graph : FitsGraph g) (found : IsFound g p ends limit room) (tree : IsTreeOf g ends wanted steps)
+    (are : ArePlaceCosts g p steps (length steps) costs) where
   abbrev place_prefix : ℕ → List ℕ
   place_prefix k = prefix_at tree.grown.prefixes k
 
@@ -191,27 +201,35 @@ module _ (g : Area) (p : Point) (ends : Ends) (limit : ℕ) (room : Findings) (w
       longer = begun_path g ends wanted steps tree k known
 
       by_more : (more : List ℕ) → more ≡ begins.more → Contains wanted q
-      by_more [] is = subst (Contains wanted) (begins.same ∙ ap (λ (es : List ℕ). place_prefix k ++ es) (sym is) ∙ append-nil (place_prefix k) ∙ sym same) begins.listed
+      by_more [] is = subst (Contains wanted) (begins.same ∙ ap (λ (es : List ℕ). place_prefix k ++ es) (sym is)
+          ∙ append-nil (place_prefix k) ∙ sym same) begins.listed
       by_more (e ∷ more) is =
           let whole = subst (λ (es : List ℕ). IsPathOf g ends (place_prefix k ++ es)) (sym is) longer in
           let parts = cut g ends.start (place_prefix k) (e ∷ more) ends.end whole.simple.joins in
-          let at_end = one_end g ends.start (place_prefix k) parts.at_vertex ends.end parts.before (subst (λ (es : List ℕ). Joins g ends.start es ends.end) same path.simple.joins) in
+          let at_end = one_end g ends.start (place_prefix k) parts.at_vertex ends.end parts.before
+          (subst (λ (es : List ℕ). Joins g ends.start es ends.end) same path.simple.joins) in
           let behind = subst (λ (v : ℕ). Joins g v (e ∷ more) ends.end) at_end parts.behind in
-          let once = once_behind g ends.start (place_prefix k) (e ∷ more) ends.end (subst (λ (v : ℕ). Joins g ends.start (place_prefix k) v) at_end parts.before) whole.simple.none_twice in
+          let once = once_behind g ends.start (place_prefix k) (e ∷ more) ends.end
+          (subst (λ (v : ℕ). Joins g ends.start (place_prefix k) v) at_end parts.before) whole.simple.none_twice in
           absurd (ends_visited g (edge_at g e).to more ends.end behind.2 once.0)
 
-  leaves : (q : List ℕ) → IsOutsider g ends wanted q → cost g p q < limit → (k : ℕ) → k ≤ length steps → (rest : List ℕ) → q ≡ place_prefix k ++ rest → Departed g p ends room steps costs (cost g p q)
+  leaves : (q : List ℕ) → IsOutsider g ends wanted q → cost g p q < limit → (k : ℕ) → k ≤ length steps →
+      (rest : List ℕ) → q ≡ place_prefix k ++ rest → Departed g p ends room steps costs (cost g p q)
   leaves q outsider near k known [] same =
       absurd (All-contains (λ w. q ≢ w) wanted q outsider.other (ended q outsider.path k known (same ∙ append-nil (place_prefix k))) refl)
   leaves q outsider near k known (e ∷ rest) same = elim (has_or_lacks steps k e) [
     | inl has ↦ (
         let within = has.1.within in
-        let grown = tree.grown.grown has.0 has.1.within ∙ ap (λ (n : ℕ). place_prefix n ++ (step_at steps has.0).edge ∷ []) has.1.from ∙ ap (λ (n : ℕ). place_prefix k ++ n ∷ []) has.1.by in
-        leaves q outsider near (has.0 + 1) (omega arith) rest (same ∙ sym (append_assoc (place_prefix k) (e ∷ []) rest) ∙ ap (λ (es : List ℕ). es ++ rest) (sym grown)))
+        let grown = tree.grown.grown has.0 has.1.within
+        ∙ ap (λ (n : ℕ). place_prefix n ++ (step_at steps has.0).edge ∷ []) has.1.from
+        ∙ ap (λ (n : ℕ). place_prefix k ++ n ∷ []) has.1.by in
+        leaves q outsider near (has.0 + 1) (omega arith) rest (same ∙ sym (append_assoc (place_prefix k) (e ∷ []) rest)
+        ∙ ap (λ (es : List ℕ). es ++ rest) (sym grown)))
     | inr none ↦ (
         let path = subst (IsPathOf g ends) same outsider.path in
         let parts = cut g ends.start (place_prefix k) (e ∷ rest) ends.end path.simple.joins in
-        let vertex = one_end g ends.start (place_prefix k) parts.at_vertex (vertex_of g ends steps k) parts.before (place_joins g ends wanted steps tree k known) in
+        let vertex = one_end g ends.start (place_prefix k) parts.at_vertex (vertex_of g ends steps k) parts.before
+        (place_joins g ends wanted steps tree k known) in
         let once = once_behind g ends.start (place_prefix k) (e ∷ rest) parts.at_vertex parts.before path.simple.none_twice in
         let kept = avoids_back ends.gone (place_prefix k) (e ∷ rest) path.kept in
         let edge : FitsEdge g (edge_at g e) = graph.edges e no_edge parts.behind.0 in
@@ -239,7 +257,8 @@ module _ (g : Area) (p : Point) (ends : Ends) (limit : ℕ) (room : Findings) (w
   ]
 
   -- no outsider costs less than every departure, where that is within the limit
-  pub outsiders_above : (most : ℕ) → most ≤ limit → ((k e total : ℕ) → Departs g p ends room steps costs k e total → most ≤ total) → CostAtLeast g p ends wanted most
+  pub outsiders_above : (most : ℕ) → most ≤ limit →
+      ((k e total : ℕ) → Departs g p ends room steps costs k e total → most ≤ total) → CostAtLeast g p ends wanted most
   outsiders_above most far above = λ q outsider. elim (cases_lt (cost g p q) limit) [
     | inl near ↦ (
         let departed = leaves q outsider near 0 (omega arith) q (ap (λ (es : List ℕ). es ++ q) (sym tree.grown.root)) in
@@ -249,9 +268,14 @@ module _ (g : Area) (p : Point) (ends : Ends) (limit : ℕ) (room : Findings) (w
     | inr beyond ↦ omega arith
   ]
 
-  module _ (most place e total : ℕ) (fits : FitsPoint g p) (tied : All (λ w. cost g p w ≡ most) wanted) (departs : Departs g p ends room steps costs place e total) (best : (k i other : ℕ) → Departs g p ends room steps costs k i other → total ≤ other) (cheap : total < most + p.scale) (far : most + p.scale ≤ limit) where
+  module _ (most place e total : ℕ) (fits : FitsPoint g p) (tied : All (λ w. cost g p w ≡ most) wanted)
+      (departs : Departs g p ends room steps costs place e total) (best : (k i other : ℕ) →
+      Departs g p ends room steps costs k i other → total ≤ other) (cheap : total < most + p.scale)
+      (far : most + p.scale ≤ limit) where
     -- the best departure, where it is cheap, makes with any path of least cost a cheapest outsider
-    pub cheapest_by : (rest : List ℕ) → IsPathOf g (ends_from ends (edge_at g e).to) rest → cost g p rest ≡ departs.onward.rest → IsCheapestOutsider g p ends wanted (most + p.scale) (place_prefix place ++ e ∷ rest)
+    pub cheapest_by : (rest : List ℕ) → IsPathOf g (ends_from ends (edge_at g e).to) rest →
+        cost g p rest ≡ departs.onward.rest →
+        IsCheapestOutsider g p ends wanted (most + p.scale) (place_prefix place ++ e ∷ rest)
     cheapest_by rest path costs_so =
         let within : total ≤ limit = omega arith in
         let front = place_prefix place in
@@ -268,7 +292,15 @@ module _ (g : Area) (p : Point) (ends : Ends) (limit : ℕ) (room : Findings) (w
         let start_known = (begun_path g ends wanted steps tree 0 (omega arith)).simple.start in
         let lesser : cost g p simple.edges + p.scale ≤ cost g p (front ++ e ∷ rest) → ⊥ =
         λ less. (let outsider : IsOutsider g ends wanted simple.edges = record {
-          path = record { simple = record { start = start_known; end = path.simple.end; joins = simple.joins; none_twice = simple.none_twice }; kept = simple.kept };
+          path = record {
+            simple = record {
+              start = start_known;
+              end = path.simple.end;
+              joins = simple.joins;
+              none_twice = simple.none_twice;
+            };
+            kept = simple.kept;
+          };
           other = λ k d k_in same. (let costs_same = ap (cost g p) same in let all = tied k d k_in in omega (arith, whole, cheap, less, fits.scale));
         } in
         let above = outsiders_above total within best simple.edges outsider in
@@ -280,7 +312,9 @@ module _ (g : Area) (p : Point) (ends : Ends) (limit : ℕ) (room : Findings) (w
         record {
           outsider = record {
             path = record { simple = record { start = start_known; end = path.simple.end; joins = joins; none_twice = once }; kept = kept };
-            other = λ k d k_in same. departs.other (tree.grown.passed (get_or wanted k d) (k, k_in, get_or_default wanted k _ d k_in) place e rest departs.within (sym same));
+            other = λ k d k_in same. departs.other
+                (tree.grown.passed (get_or wanted k d) (k, k_in, get_or_default wanted k _ d k_in) place e rest
+                departs.within (sym same));
           };
           cheap = omega (arith, whole, cheap);
           none_less = λ others outsider. (let above = outsiders_above total within best others outsider in omega (arith, whole, above));
@@ -300,7 +334,9 @@ module _ (g : Area) (p : Point) (ends : Ends) (limit : ℕ) (room : Findings) (w
           omega arith;
     }
 
-    pub followed_cheapest : (walk : List ℕ) → IsFollowed g p ends (record room { path = place_prefix place ++ e ∷ [] }) (edge_at g e).to walk → IsCheapestOutsider g p ends wanted (most + p.scale) walk
+    pub followed_cheapest : (walk : List ℕ) →
+        IsFollowed g p ends (record room { path = place_prefix place ++ e ∷ [] }) (edge_at g e).to walk →
+        IsCheapestOutsider g p ends wanted (most + p.scale) walk
     followed_cheapest walk followed =
         let costs_so = same_Some (cost g p followed.rest) departs.onward.rest (sym followed.costs ∙ departs.onward.distance) in
         let whole = cheapest_by followed.rest followed.path costs_so in

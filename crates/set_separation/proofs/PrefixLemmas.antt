@@ -12,7 +12,8 @@ use Rattle.set_separation.specs.declared.prefix_tree.Step.{Step}
 use Rattle.set_separation.specs.PrefixTrees.{Begins, HasStep, IsGone, IsGrown, IsStep, IsUnderway, no_step, prefix_at, step_at}
 
 -- where the last element of a longer list stands: an equal list ends there, or goes on behind it
-snoc_cut : (xs : List ℕ) (x : ℕ) (pre : List ℕ) (e : ℕ) (rest : List ℕ) → xs ++ x ∷ [] ≡ pre ++ e ∷ rest → ((pre ≡ xs) × (e ≡ x)) ⊎ ((more : List ℕ) × (xs ≡ pre ++ e ∷ more))
+snoc_cut : (xs : List ℕ) (x : ℕ) (pre : List ℕ) (e : ℕ) (rest : List ℕ) → xs ++ x ∷ [] ≡ pre ++ e ∷ rest →
+    ((pre ≡ xs) × (e ≡ x)) ⊎ ((more : List ℕ) × (xs ≡ pre ++ e ∷ more))
 snoc_cut [] x [] e rest same = inl (refl, head same)
   where
     head : x ∷ [] ≡ e ∷ rest → e ≡ x
@@ -66,14 +67,24 @@ pub any_step : (steps : List Step) (place edge : ℕ) → list_any (is_step plac
 any_step steps place edge some =
     let any = Any-from_list_any (is_step place edge) steps some in
     let both = and_parts (place == any.1.place) (edge == any.1.edge) any.4 in
-    let same : step_at steps any.0 ≡ any.1 = get_or_default steps any.0 no_step any.1 any.2 ∙ any.3 in
-    (any.0, record { within = any.2; from = ap (λ (s : Step). s.place) same ∙ sym (eqb-true place any.1.place both.0); by = ap (λ (s : Step). s.edge) same ∙ sym (eqb-true edge any.1.edge both.1) })
+    let same : step_at steps any.0 ≡ any.1 = get_or_default steps any.0 no_step any.1 any.2 ∙ any.3 in (
+      any.0,
+      record {
+        within = any.2;
+        from = ap (λ (s : Step). s.place) same ∙ sym (eqb-true place any.1.place both.0);
+        by = ap (λ (s : Step). s.edge) same ∙ sym (eqb-true edge any.1.edge both.1);
+      },
+    )
 
 -- a key that isn't there comes last
-pub keys_grown : (steps : List Step) (place edge : ℕ) → (HasStep steps place edge → ⊥) → (if list_any (is_step place edge) steps then steps else steps ++ record { place = place; edge = edge } ∷ []) ≡ steps ++ record { place = place; edge = edge } ∷ []
+pub keys_grown : (steps : List Step) (place edge : ℕ) → (HasStep steps place edge → ⊥) →
+    (if list_any (is_step place edge) steps then steps else steps ++ record { place = place; edge = edge } ∷ [])
+    ≡ steps ++ record { place = place; edge = edge } ∷ []
 keys_grown steps place edge none = by_test (list_any (is_step place edge) steps) refl
   where
-    by_test : (b : Bool) → list_any (is_step place edge) steps ≡ b → cond b steps (steps ++ record { place = place; edge = edge } ∷ []) ≡ steps ++ record { place = place; edge = edge } ∷ []
+    by_test : (b : Bool) → list_any (is_step place edge) steps ≡ b →
+        cond b steps (steps ++ record { place = place; edge = edge } ∷ [])
+        ≡ steps ++ record { place = place; edge = edge } ∷ []
     by_test false lacks = refl
     by_test true some = absurd (none (any_step steps place edge some))
 
@@ -87,7 +98,8 @@ underway_begins wanted done steps tree = record {
   passed = λ k e rest known same. absurd (not_nil (prefix_at tree.prefixes k) e rest same);
 }
 
-pub underway_ends : (wanted done : List (List ℕ)) (edges : List ℕ) (place : ℕ) (steps : List Step) → IsUnderway wanted done edges place steps → IsGrown wanted (done ++ edges ∷ []) steps
+pub underway_ends : (wanted done : List (List ℕ)) (edges : List ℕ) (place : ℕ) (steps : List Step) →
+    IsUnderway wanted done edges place steps → IsGrown wanted (done ++ edges ∷ []) steps
 underway_ends wanted done edges place steps way = record {
   prefixes = way.tree.prefixes;
   count = way.tree.count;
@@ -103,13 +115,18 @@ underway_ends wanted done edges place steps way = record {
 }
 
 -- the step is there already
-along : (wanted done : List (List ℕ)) (edges : List ℕ) (place e i : ℕ) (steps : List Step) → IsUnderway wanted done edges place steps → IsStep steps place e i → IsUnderway wanted done (edges ++ e ∷ []) (i + 1) steps
+along : (wanted done : List (List ℕ)) (edges : List ℕ) (place e i : ℕ) (steps : List Step) →
+    IsUnderway wanted done edges place steps → IsStep steps place e i →
+    IsUnderway wanted done (edges ++ e ∷ []) (i + 1) steps
 along wanted done edges place e i steps way step =
     let within = step.within in
     record {
       tree = way.tree;
       known = omega arith;
-      here = way.tree.grown i step.within ∙ ap (λ (k : ℕ). prefix_at way.tree.prefixes k ++ (step_at steps i).edge ∷ []) step.from ∙ ap (λ (n : ℕ). prefix_at way.tree.prefixes place ++ n ∷ []) step.by ∙ ap (λ (es : List ℕ). es ++ e ∷ []) way.here;
+      here = way.tree.grown i step.within
+          ∙ ap (λ (k : ℕ). prefix_at way.tree.prefixes k ++ (step_at steps i).edge ∷ []) step.from
+          ∙ ap (λ (n : ℕ). prefix_at way.tree.prefixes place ++ n ∷ []) step.by
+          ∙ ap (λ (es : List ℕ). es ++ e ∷ []) way.here;
       passed = λ k f rest known same. elim (snoc_cut edges e (prefix_at way.tree.prefixes k) f rest same) [
         | inl last ↦ (
             let at_place : k ≡ place = way.tree.different k place known way.known (last.0 ∙ sym way.here) in
@@ -131,7 +148,9 @@ step_kept steps more place e has =
       },
     )
 
-module _ (wanted done : List (List ℕ)) (edges : List ℕ) (place e : ℕ) (steps : List Step) (way : IsUnderway wanted done edges place steps) (none : HasStep steps place e → ⊥) (begins : Begins wanted (edges ++ e ∷ [])) where
+module _ (wanted done : List (List ℕ)) (edges : List ℕ) (place e : ℕ) (steps : List Step)
+    (way : IsUnderway wanted done edges place steps) (none : HasStep steps place e → ⊥)
+    (begins : Begins wanted (edges ++ e ∷ [])) where
   abbrev olds : List (List ℕ)
   olds = way.tree.prefixes
 
@@ -213,7 +232,8 @@ module _ (wanted done : List (List ℕ)) (edges : List ℕ) (place e : ℕ) (ste
       | inr past ↦ (
           let last : length steps ≡ i = omega (arith, long) in
           subst (λ (n : ℕ). prefix_at news (n + 1) ≡ prefix_at news (step_at longer n).place ++ (step_at longer n).edge ∷ []) last
-          (new_prefix ∙ ap (λ (es : List ℕ). es ++ e ∷ []) (sym way.here ∙ sym (old_prefix place way.known)) ∙ ap (λ (t : Step). prefix_at news t.place ++ t.edge ∷ []) (sym new_step)))
+          (new_prefix ∙ ap (λ (es : List ℕ). es ++ e ∷ []) (sym way.here ∙ sym (old_prefix place way.known))
+          ∙ ap (λ (t : Step). prefix_at news t.place ++ t.edge ∷ []) (sym new_step)))
     ];
     different = λ k l k_known l_known same. elim (cases_lt k (length steps + 1)) [
       | inl k_old ↦ elim (cases_lt l (length steps + 1)) [
@@ -230,12 +250,18 @@ module _ (wanted done : List (List ℕ)) (edges : List ℕ) (place e : ℕ) (ste
           ])
     ];
     begun = λ k known.
-        old_or_new (λ (n : ℕ). Begins wanted (prefix_at news n)) (length steps) (λ n old. subst (Begins wanted) (sym (old_prefix n old)) (way.tree.begun n old)) (subst (Begins wanted) (sym new_prefix) begins) k (omega (arith, long));
+        old_or_new (λ (n : ℕ). Begins wanted (prefix_at news n)) (length steps)
+        (λ n old. subst (Begins wanted) (sym (old_prefix n old)) (way.tree.begun n old))
+        (subst (Begins wanted) (sym new_prefix) begins) k (omega (arith, long));
     passed = λ path listed k f rest known same. elim (cases_lt k (length steps + 1)) [
-      | inl old ↦ step_kept steps (step ∷ []) k f (way.tree.passed path listed k f rest (omega arith) (same ∙ ap (λ (es : List ℕ). es ++ f ∷ rest) (old_prefix k (omega arith))))
+      | inl old ↦ step_kept steps (step ∷ []) k f
+          (way.tree.passed path listed k f rest (omega arith)
+          (same ∙ ap (λ (es : List ℕ). es ++ f ∷ rest) (old_prefix k (omega arith))))
       | inr new ↦ (
           let last : k ≡ length steps + 1 = omega (arith, long) in
-          let whole = same ∙ ap (λ (n : ℕ). prefix_at news n ++ f ∷ rest) last ∙ ap (λ (es : List ℕ). es ++ f ∷ rest) new_prefix ∙ append_assoc edges (e ∷ []) (f ∷ rest) ∙ ap (λ (es : List ℕ). es ++ e ∷ f ∷ rest) (sym way.here) in
+          let whole = same ∙ ap (λ (n : ℕ). prefix_at news n ++ f ∷ rest) last
+          ∙ ap (λ (es : List ℕ). es ++ f ∷ rest) new_prefix ∙ append_assoc edges (e ∷ []) (f ∷ rest)
+          ∙ ap (λ (es : List ℕ). es ++ e ∷ f ∷ rest) (sym way.here) in
           absurd (none (way.tree.passed path listed place e (f ∷ rest) way.known whole)))
     ];
   }
@@ -255,24 +281,35 @@ module _ (wanted done : List (List ℕ)) (edges : List ℕ) (place e : ℕ) (ste
       ]
       | inr new ↦ (
           let last : k ≡ length steps + 1 = omega (arith, long) in
-          absurd (not_longer (edges ++ e ∷ []) f rest (same ∙ ap (λ (n : ℕ). prefix_at news n ++ f ∷ rest) last ∙ ap (λ (es : List ℕ). es ++ f ∷ rest) new_prefix)))
+          absurd (not_longer (edges ++ e ∷ []) f rest (same ∙ ap (λ (n : ℕ). prefix_at news n ++ f ∷ rest) last
+          ∙ ap (λ (es : List ℕ). es ++ f ∷ rest) new_prefix)))
     ];
   }
 
 -- one edge more of the path
-pub underway_more : (wanted done : List (List ℕ)) (path : List ℕ) (j place next e : ℕ) (old new : List Step) → Contains wanted path → j < length path → e ≡ get_or path j 0 → IsUnderway wanted done (take j path) place old → IsGone old new place e next → IsUnderway wanted done (take (j + 1) path) next new
+pub underway_more : (wanted done : List (List ℕ)) (path : List ℕ) (j place next e : ℕ) (old new : List Step) →
+    Contains wanted path → j < length path → e ≡ get_or path j 0 → IsUnderway wanted done (take j path) place old →
+    IsGone old new place e next → IsUnderway wanted done (take (j + 1) path) next new
 underway_more wanted done path j place next e old new listed within is way gone =
     subst (λ (es : List ℕ). IsUnderway wanted done es next new) (sym whole) (elim gone [
       | inl there ↦
           subst (λ (n : ℕ). IsUnderway wanted done (take j path ++ e ∷ []) n new) (sym there.1.2)
-          (subst (λ (s : List Step). IsUnderway wanted done (take j path ++ e ∷ []) (there.1.0 + 1) s) (sym there.0) (along wanted done (take j path) place e there.1.0 old way there.1.1))
+          (subst (λ (s : List Step). IsUnderway wanted done (take j path ++ e ∷ []) (there.1.0 + 1) s) (sym there.0)
+          (along wanted done (take j path) place e there.1.0 old way there.1.1))
       | inr made ↦
           subst (λ (n : ℕ). IsUnderway wanted done (take j path ++ e ∷ []) n new) (sym made.2)
-          (subst (λ (s : List Step). IsUnderway wanted done (take j path ++ e ∷ []) (length old + 1) s) (sym made.0) (anew wanted done (take j path) place e old way made.1 begins))
+          (subst (λ (s : List Step). IsUnderway wanted done (take j path ++ e ∷ []) (length old + 1) s) (sym made.0)
+          (anew wanted done (take j path) place e old way made.1 begins))
     ])
   where
     whole : take (j + 1) path ≡ take j path ++ e ∷ []
     whole = take_more path j 0 within ∙ ap (λ (n : ℕ). take j path ++ n ∷ []) (sym is)
 
     begins : Begins wanted (take j path ++ e ∷ [])
-    begins = record { path = path; listed = listed; more = drop (j + 1) path; same = sym (take-append-drop (j + 1) path) ∙ ap (λ (es : List ℕ). es ++ drop (j + 1) path) whole }
+    begins = record {
+      path = path;
+      listed = listed;
+      more = drop (j + 1) path;
+      same = sym (take-append-drop (j + 1) path)
+          ∙ ap (λ (es : List ℕ). es ++ drop (j + 1) path) whole;
+    }

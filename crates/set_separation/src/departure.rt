@@ -12,7 +12,7 @@ ghost use Rattle.set_separation.specs.PrefixTrees.{IsTreeOf};
 use crate::PrefixTree;
 use area_graph::{Graph, Point, edge_of, price_of};
 use path_rows::Request;
-use rival_separation::{Deviation, better, onward};
+use rival_separation::{Deviation, better_by, onward};
 use spf_ties::Room;
 
 /// Writes down what the prefix of each place costs, in the order of the places.
@@ -103,17 +103,8 @@ fn best_at(
     graph.keeps_conditions();
     let mut found = best;
     for number in graph.edges_out(vertex_of(graph, request, tree, place)) {
-        found = match departure(graph, request, point, room, tree, costs, place, *number) {
-            Some(cost) => Some(better(
-                found,
-                Deviation {
-                    place,
-                    edge: *number,
-                    cost,
-                },
-            )),
-            None => found,
-        };
+        let cost = departure(graph, request, point, room, tree, costs, place, *number);
+        found = better_by(found, place, *number, cost);
     }
     found
 }

@@ -14,9 +14,9 @@ ghost use Rattle.set_separation.specs.PrefixTrees.{IsGrown, IsTreeOf, prefix_at}
 
 use crate::PrefixTree;
 use crate::departure::{least_departure, put_place_costs};
-use area_graph::{Graph, Point, edge_of, path_cost};
+use area_graph::{Graph, Point, path_cost};
 use path_rows::Request;
-use rival_separation::{Deviation, follow};
+use rival_separation::{Deviation, leave_by};
 use spf_ties::Room;
 
 /// Makes the path that the room keeps the prefix of a place.
@@ -47,19 +47,23 @@ fn lay_out(
     room: &mut Room,
 )
     requires fits { FitsPoint graph.now point.now }
-    requires found { IsFoundTo graph.now point.now (ends_of request.now) (cost graph.now point.now request.now.path.edges + point.now.scale) room.old }
-    requires tree { (wanted : List (List ℕ)) × IsTiedTree graph.now point.now (ends_of request.now) (cost graph.now point.now request.now.path.edges) wanted tree.now }
+    requires found { IsFoundTo graph.now point.now (ends_of request.now)
+        (cost graph.now point.now request.now.path.edges + point.now.scale) room.old }
+    requires tree { (wanted : List (List ℕ)) ×
+        IsTiedTree graph.now point.now (ends_of request.now) (cost graph.now point.now request.now.path.edges) wanted tree.now }
     requires costs { ArePlaceCosts graph.now point.now tree.now (length tree.now) costs.now }
-    requires best { IsBestOf (Departs graph.now point.now (ends_of request.now) room.old tree.now costs.now) (λ place e. place ≤ length tree.now) (Some best) }
+    requires best { IsBestOf (Departs graph.now point.now (ends_of request.now) room.old tree.now costs.now)
+        (λ place e. place ≤ length tree.now) (Some best) }
     requires cheap { best.cost < cost graph.now point.now request.now.path.edges + point.now.scale }
     ensures room { IsRoomFor graph.now room.new }
-    ensures cheapest { (wanted : List (List ℕ)) → IsTiedTree graph.now point.now (ends_of request.now) (cost graph.now point.now request.now.path.edges) wanted tree.now →
-        IsCheapestOutsider graph.now point.now (ends_of request.now) wanted (cost graph.now point.now request.now.path.edges + point.now.scale) room.new.path }
+    ensures cheapest { (wanted : List (List ℕ)) →
+        IsTiedTree graph.now point.now (ends_of request.now) (cost graph.now point.now request.now.path.edges) wanted tree.now →
+        IsCheapestOutsider graph.now point.now (ends_of request.now) wanted
+        (cost graph.now point.now request.now.path.edges + point.now.scale) room.new.path }
 {
     graph.keeps_conditions();
     put_prefix(graph, request, tree, best.place, room);
-    room.add_to_path(best.edge);
-    follow(graph, request, point, edge_of(graph, best.edge).to, room);
+    leave_by(graph, request, point, best.edge, room);
 }
 
 /// Looks for the cheapest outsider of some wanted paths at a point at which they cost the same, and tells whether one costs
@@ -77,14 +81,18 @@ pub fn find_outsider(
     requires room { IsRoomFor graph.now room.old }
     requires fits { FitsPoint graph.now point.now }
     requires path { IsPathOf graph.now (ends_of request.now) request.now.path.edges }
-    requires tree { (wanted : List (List ℕ)) × IsTiedTree graph.now point.now (ends_of request.now) (cost graph.now point.now request.now.path.edges) wanted tree.now }
+    requires tree { (wanted : List (List ℕ)) ×
+        IsTiedTree graph.now point.now (ends_of request.now) (cost graph.now point.now request.now.path.edges) wanted tree.now }
     requires enough { length tree.now + 1 ≤ length costs.old }
     ensures room { IsRoomFor graph.now room.new }
     ensures count { length costs.new ≡ length costs.old }
-    ensures outsider { (wanted : List (List ℕ)) → IsTiedTree graph.now point.now (ends_of request.now) (cost graph.now point.now request.now.path.edges) wanted tree.now →
+    ensures outsider { (wanted : List (List ℕ)) →
+        IsTiedTree graph.now point.now (ends_of request.now) (cost graph.now point.now request.now.path.edges) wanted tree.now →
         MatchBool result
-        (IsCheapestOutsider graph.now point.now (ends_of request.now) wanted (cost graph.now point.now request.now.path.edges + point.now.scale) room.new.path)
-        (CostAtLeast graph.now point.now (ends_of request.now) wanted (cost graph.now point.now request.now.path.edges + point.now.scale)) }
+        (IsCheapestOutsider graph.now point.now (ends_of request.now) wanted
+        (cost graph.now point.now request.now.path.edges + point.now.scale) room.new.path)
+        (CostAtLeast graph.now point.now (ends_of request.now) wanted
+        (cost graph.now point.now request.now.path.edges + point.now.scale)) }
 {
     graph.keeps_conditions();
     let limit = path_cost(graph, &request.path, point) + point.scale;

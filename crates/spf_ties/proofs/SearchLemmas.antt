@@ -40,7 +40,8 @@ contains_first x xs = (zero, omega arith, refl)
 -- an edge into a vertex is among those into it
 not_lacked : (g : Area) (v e : ℕ) → e < length g.edges → (edge_at g e).to ≡ v → Lacks (edges_in g v) e → ⊥
 not_lacked g v e known to lacks =
-    kept_all (λ y. e ≢ y) (λ i. eqb (edge_at g i).to v) 0 (length g.edges) (all_lacks (edges_in g v) e lacks) e (omega arith) (omega arith) (eq-eqb (edge_at g e).to v to) refl
+    kept_all (λ y. e ≢ y) (λ i. eqb (edge_at g i).to v) 0 (length g.edges) (all_lacks (edges_in g v) e lacks) e
+    (omega arith) (omega arith) (eq-eqb (edge_at g e).to v to) refl
 
 -- the edges into a vertex are edges of the graph
 pub in_known : (g : Area) (v : ℕ) → All (λ e. e < length g.edges) (edges_in g v)
@@ -53,29 +54,41 @@ none_settled (suc n) zero = refl
 none_settled (suc n) (suc v) = none_settled n v
 
 -- an entry of a settled vertex is passed over
-pub passed_over : (g : Area) (p : Point) (gone : List ℕ) (t limit least : ℕ) (d : List ℕ) (settled : List Bool) (entry : Entry) (waiting rest : List Entry) → Underway g p gone t limit least [] d settled waiting → IsPermutation waiting (entry ∷ rest) → is_settled settled entry.vertex ≡ true → Underway g p gone t limit least [] d settled rest
+pub passed_over : (g : Area) (p : Point) (gone : List ℕ) (t limit least : ℕ) (d : List ℕ) (settled : List Bool)
+    (entry : Entry) (waiting rest : List Entry) → Underway g p gone t limit least [] d settled waiting →
+    IsPermutation waiting (entry ∷ rest) → is_settled settled entry.vertex ≡ true →
+    Underway g p gone t limit least [] d settled rest
 passed_over g p gone t limit least d settled entry waiting rest under moved done = record {
   reached = under.reached;
   bounded = under.bounded;
   before = under.before;
-  waits = λ v known unsettled near. elim (contains_cases entry (entry_of (get_or d v 0) v) rest (Contains-permutation waiting (entry ∷ rest) (entry_of (get_or d v 0) v) moved (under.waits v known unsettled near))) [
-    | inl same ↦ clash (sym done ∙ ap (λ (e : Entry). is_settled settled e.vertex) same ∙ unsettled)
-    | inr later ↦ later
-  ];
+  waits = λ v known unsettled near.
+      elim (contains_cases entry (entry_of (get_or d v 0) v) rest
+      (Contains-permutation waiting (entry ∷ rest) (entry_of (get_or d v 0) v) moved
+      (under.waits v known unsettled near))) [
+        | inl same ↦ clash (sym done ∙ ap (λ (e : Entry). is_settled settled e.vertex) same ∙ unsettled)
+        | inr later ↦ later
+      ];
   entries = All-tail (MayWait limit least d) entry rest (All-permutation (MayWait limit least d) waiting (entry ∷ rest) moved under.entries);
   edges = under.edges;
   closed = under.closed;
 }
 
 -- the nearest vertex that waits is settled, and the edges into it are yet to be looked at
-pub settled_next : (g : Area) (p : Point) (gone : List ℕ) (t limit least : ℕ) (d : List ℕ) (settled : List Bool) (entry : Entry) (waiting rest : List Entry) → IsFront g p d settled → Underway g p gone t limit least [] d settled waiting → IsPermutation waiting (entry ∷ rest) → All (λ other. entry.distance ≤ other.distance) waiting → is_settled settled entry.vertex ≡ false → Underway g p gone t limit entry.distance (edges_in g entry.vertex) d (set settled entry.vertex true) rest
+pub settled_next : (g : Area) (p : Point) (gone : List ℕ) (t limit least : ℕ) (d : List ℕ) (settled : List Bool)
+    (entry : Entry) (waiting rest : List Entry) → IsFront g p d settled →
+    Underway g p gone t limit least [] d settled waiting → IsPermutation waiting (entry ∷ rest) →
+    All (λ other. entry.distance ≤ other.distance) waiting → is_settled settled entry.vertex ≡ false →
+    Underway g p gone t limit entry.distance (edges_in g entry.vertex) d (set settled entry.vertex true) rest
 settled_next g p gone t limit least d settled entry waiting rest front under moved nearest unsettled = record {
   reached = under.reached;
   bounded = under.bounded;
   before = before;
   waits = waits;
-  entries = λ i other within. let may = may_wait i other within in let near = nearer i other within in record { known = may.known; near = may.near; later = near; not_below = may.not_below };
-  edges = all_kept (LeadsToLast g entry.distance d marked) (λ e. eqb (edge_at g e).to entry.vertex) 0 (length g.edges) (λ e above below yes. leads e (omega arith) (eqb-true (edge_at g e).to entry.vertex yes));
+  entries = λ i other within. let may = may_wait i other within in let near = nearer i other within in
+      record { known = may.known; near = may.near; later = near; not_below = may.not_below };
+  edges = all_kept (LeadsToLast g entry.distance d marked) (λ e. eqb (edge_at g e).to entry.vertex) 0 (length g.edges)
+      (λ e above below yes. leads e (omega arith) (eqb-true (edge_at g e).to entry.vertex yes));
   closed = closed;
 }
   where
@@ -89,7 +102,8 @@ settled_next g p gone t limit least d settled entry waiting rest front under mov
     may_wait = All-tail (MayWait limit least d) entry rest (All-permutation (MayWait limit least d) waiting (entry ∷ rest) moved under.entries)
 
     nearer : All (λ other. entry.distance ≤ other.distance) rest
-    nearer = All-tail (λ (other : Entry). entry.distance ≤ other.distance) entry rest (All-permutation (λ (other : Entry). entry.distance ≤ other.distance) waiting (entry ∷ rest) moved nearest)
+    nearer = All-tail (λ (other : Entry). entry.distance ≤ other.distance) entry rest
+        (All-permutation (λ (other : Entry). entry.distance ≤ other.distance) waiting (entry ∷ rest) moved nearest)
 
     within : entry.vertex < length settled
     within = let known = first.known in let count = front.count in let marks = front.marks in omega arith
@@ -119,10 +133,12 @@ settled_next g p gone t limit least d settled entry waiting rest front under mov
     waits : (v : ℕ) → v < length d → is_settled (set settled entry.vertex true) v ≡ false → get_or d v 0 < limit → Contains rest (entry_of (get_or d v 0) v)
     waits v known still near = elim (ℕ_discrete v entry.vertex) [
       | yes same ↦ clash (sym here ∙ ap (is_settled (set settled entry.vertex true)) (sym same) ∙ still)
-      | no other ↦ elim (contains_cases entry (entry_of (get_or d v 0) v) rest (Contains-permutation waiting (entry ∷ rest) (entry_of (get_or d v 0) v) moved (under.waits v known (sym (there v other) ∙ still) near))) [
-        | inl same ↦ absurd (other (sym (ap (λ (e : Entry). e.vertex) same)))
-        | inr later ↦ later
-      ]
+      | no other ↦ elim (contains_cases entry (entry_of (get_or d v 0) v) rest
+          (Contains-permutation waiting (entry ∷ rest) (entry_of (get_or d v 0) v) moved
+          (under.waits v known (sym (there v other) ∙ still) near))) [
+            | inl same ↦ absurd (other (sym (ap (λ (e : Entry). e.vertex) same)))
+            | inr later ↦ later
+          ]
     ]
 
     leads : (e : ℕ) → e < length g.edges → (edge_at g e).to ≡ entry.vertex → LeadsToLast g entry.distance d (set settled entry.vertex true) e
@@ -132,14 +148,18 @@ settled_next g p gone t limit least d settled entry waiting rest front under mov
       last = let value = ap (λ (i : ℕ). get_or d i 0) to in let least = at_least in omega arith;
     }
 
-    closed : (e : ℕ) → e < length g.edges → Lacks gone e → is_settled (set settled entry.vertex true) (edge_at g e).to ≡ true → Lacks (edges_in g entry.vertex) e → get_or d (edge_at g e).from 0 ≤ through p (edge_at g e) d
+    closed : (e : ℕ) → e < length g.edges → Lacks gone e → is_settled (set settled entry.vertex true) (edge_at g e).to
+        ≡ true → Lacks (edges_in g entry.vertex) e → get_or d (edge_at g e).from 0 ≤ through p (edge_at g e) d
     closed e known left done lacks = elim (ℕ_discrete (edge_at g e).to entry.vertex) [
       | yes same ↦ absurd (not_lacked g entry.vertex e known same lacks)
       | no other ↦ under.closed e known left (sym (there (edge_at g e).to other) ∙ done) tt
     ]
 
 -- an edge that is gone, or leads to no smaller number
-pub kept : (g : Area) (p : Point) (gone : List ℕ) (t limit least e : ℕ) (todo : List ℕ) (d : List ℕ) (settled : List Bool) (waiting : List Entry) → Underway g p gone t limit least (e ∷ todo) d settled waiting → (Lacks gone e → get_or d (edge_at g e).from 0 ≤ through p (edge_at g e) d) → Underway g p gone t limit least todo d settled waiting
+pub kept : (g : Area) (p : Point) (gone : List ℕ) (t limit least e : ℕ) (todo : List ℕ) (d : List ℕ)
+    (settled : List Bool) (waiting : List Entry) → Underway g p gone t limit least (e ∷ todo) d settled waiting →
+    (Lacks gone e → get_or d (edge_at g e).from 0 ≤ through p (edge_at g e) d) →
+    Underway g p gone t limit least todo d settled waiting
 kept g p gone t limit least e todo d settled waiting under short = record {
   reached = under.reached;
   bounded = under.bounded;
@@ -154,14 +174,26 @@ kept g p gone t limit least e todo d settled waiting under short = record {
 }
 
 -- an edge that leads to a smaller number: it is lowered, and its vertex waits under it
-pub lowered : (g : Area) (p : Point) (gone : List ℕ) (t limit least e : ℕ) (todo : List ℕ) (d : List ℕ) (settled : List Bool) (waiting new : List Entry) → FitsGraph g → IsFront g p d settled → Underway g p gone t limit least (e ∷ todo) d settled waiting → Lacks gone e → through p (edge_at g e) d < get_or d (edge_at g e).from 0 → IsPermutation (entry_of (through p (edge_at g e) d) (edge_at g e).from ∷ waiting) new → Underway g p gone t limit least todo (set d (edge_at g e).from (through p (edge_at g e) d)) settled new
+pub lowered : (g : Area) (p : Point) (gone : List ℕ) (t limit least e : ℕ) (todo : List ℕ) (d : List ℕ)
+    (settled : List Bool) (waiting new : List Entry) → FitsGraph g → IsFront g p d settled →
+    Underway g p gone t limit least (e ∷ todo) d settled waiting → Lacks gone e →
+    through p (edge_at g e) d < get_or d (edge_at g e).from 0 →
+    IsPermutation (entry_of (through p (edge_at g e) d) (edge_at g e).from ∷ waiting) new →
+    Underway g p gone t limit least todo (set d (edge_at g e).from (through p (edge_at g e) d)) settled new
 lowered g p gone t limit least e todo d settled waiting new graph front under left less moved = record {
   reached = reached_by_walk g p gone t limit from x d within less walk under.reached;
   bounded = All-set (λ y. y ≤ limit) d from x (let most = bound in omega (arith, less)) under.bounded;
   before = λ v done. let old = under.before v done in let value = settled_same v done in omega arith;
   waits = waits;
-  entries = All-permutation (MayWait limit least now) (entry_of x from ∷ waiting) new moved (All-cons (MayWait limit least now) (entry_of x from) waiting first others);
-  edges = λ i other inside. let old = rest i other inside in record { known = old.known; is_settled_there = old.is_settled_there; last = let value = settled_same (edge_at g (get_or todo i other)).to old.is_settled_there in let least_there = old.last in omega arith };
+  entries = All-permutation (MayWait limit least now) (entry_of x from ∷ waiting) new moved
+      (All-cons (MayWait limit least now) (entry_of x from) waiting first others);
+  edges = λ i other inside. let old = rest i other inside in
+      record {
+        known = old.known;
+        is_settled_there = old.is_settled_there;
+        last = let value = settled_same (edge_at g (get_or todo i other)).to old.is_settled_there in let least_there =
+            old.last in omega arith;
+      };
   closed = closed;
 }
   where
@@ -203,7 +235,12 @@ lowered g p gone t limit least e todo d settled waiting new graph front under le
     walk near =
         let behind = under.reached.reached (edge_at g e).to to_within (omega arith) in
         let longer = sum_by-cons (λ i. price_at p (edge_at g i).price) e behind.edges in
-        record { edges = e ∷ behind.edges; joins = (head.known, refl, behind.joins); kept = (left, behind.kept); within = let cost = behind.within in omega arith }
+        record {
+          edges = e ∷ behind.edges;
+          joins = (head.known, refl, behind.joins);
+          kept = (left, behind.kept);
+          within = let cost = behind.within in omega arith;
+        }
 
     here : get_or (set d (edge_at g e).from (through p (edge_at g e) d)) (edge_at g e).from 0 ≡ through p (edge_at g e) d
     here = get_or-set_same d (edge_at g e).from (through p (edge_at g e) d) 0 within
@@ -216,7 +253,8 @@ lowered g p gone t limit least e todo d settled waiting new graph front under le
 
     not_more : (v : ℕ) → get_or (set d (edge_at g e).from (through p (edge_at g e) d)) v 0 ≤ get_or d v 0
     not_more v = elim (ℕ_discrete v (edge_at g e).from) [
-      | yes same ↦ let value = ap (λ (i : ℕ). get_or (set d (edge_at g e).from (through p (edge_at g e) d)) i 0) same in let old = ap (λ (i : ℕ). get_or d i 0) same in let is = here in omega (arith, less)
+      | yes same ↦ let value = ap (λ (i : ℕ). get_or (set d (edge_at g e).from (through p (edge_at g e) d)) i 0) same in
+          let old = ap (λ (i : ℕ). get_or d i 0) same in let is = here in omega (arith, less)
       | no other ↦ let value = there v other in omega arith
     ]
 
@@ -239,20 +277,26 @@ lowered g p gone t limit least e todo d settled waiting new graph front under le
       not_below = let old = may.not_below in let less = not_more (get_or waiting i other).vertex in omega arith;
     }
 
-    waits : (v : ℕ) → v < length (set d (edge_at g e).from (through p (edge_at g e) d)) → is_settled settled v ≡ false → get_or (set d (edge_at g e).from (through p (edge_at g e) d)) v 0 < limit → Contains new (entry_of (get_or (set d (edge_at g e).from (through p (edge_at g e) d)) v 0) v)
+    waits : (v : ℕ) → v < length (set d (edge_at g e).from (through p (edge_at g e) d)) → is_settled settled v ≡ false →
+        get_or (set d (edge_at g e).from (through p (edge_at g e) d)) v 0 < limit →
+        Contains new (entry_of (get_or (set d (edge_at g e).from (through p (edge_at g e) d)) v 0) v)
     waits v known still near = elim (ℕ_discrete v (edge_at g e).from) [
       | yes same ↦
-          let value : get_or (set d (edge_at g e).from (through p (edge_at g e) d)) v 0 ≡ through p (edge_at g e) d = ap (λ (i : ℕ). get_or (set d (edge_at g e).from (through p (edge_at g e) d)) i 0) same ∙ here in
+          let value : get_or (set d (edge_at g e).from (through p (edge_at g e) d)) v 0 ≡ through p (edge_at g e) d =
+          ap (λ (i : ℕ). get_or (set d (edge_at g e).from (through p (edge_at g e) d)) i 0) same ∙ here in
           subst (λ (y : ℕ). Contains new (entry_of y v)) (sym value) (subst (λ (i : ℕ). Contains new (entry_of (through p (edge_at g e) d) i)) (sym same)
           (Contains-permutation (entry_of x from ∷ waiting) new (entry_of x from) moved (contains_first (entry_of x from) waiting)))
       | no other ↦
           let value = there v other in
           subst (λ (y : ℕ). Contains new (entry_of y v)) (sym value)
-          (Contains-permutation (entry_of x from ∷ waiting) new (entry_of (get_or d v 0) v) moved (contains_behind (entry_of x from) (entry_of (get_or d v 0) v) waiting
+          (Contains-permutation (entry_of x from ∷ waiting) new (entry_of (get_or d v 0) v) moved
+          (contains_behind (entry_of x from) (entry_of (get_or d v 0) v) waiting
           (under.waits v (let same = size in omega arith) still (subst (λ (y : ℕ). y < limit) value near))))
     ]
 
-    closed : (i : ℕ) → i < length g.edges → Lacks gone i → is_settled settled (edge_at g i).to ≡ true → Lacks todo i → get_or (set d (edge_at g e).from (through p (edge_at g e) d)) (edge_at g i).from 0 ≤ through p (edge_at g i) (set d (edge_at g e).from (through p (edge_at g e) d))
+    closed : (i : ℕ) → i < length g.edges → Lacks gone i → is_settled settled (edge_at g i).to ≡ true → Lacks todo i →
+        get_or (set d (edge_at g e).from (through p (edge_at g e) d)) (edge_at g i).from 0
+        ≤ through p (edge_at g i) (set d (edge_at g e).from (through p (edge_at g e) d))
     closed i known there_left done lacks =
         let end = settled_same (edge_at g i).to done in
         elim (ℕ_discrete i e) [
@@ -268,7 +312,9 @@ bounded_begun : (t limit n : ℕ) → All (λ x. x ≤ limit) (set (replicate n 
 bounded_begun t limit n = All-set (λ x. x ≤ limit) (replicate n limit) t 0 (omega arith) (All-replicate (λ x. x ≤ limit) n limit (omega arith))
 
 -- the target alone waits at the start
-pub begun : (g : Area) (p : Point) (gone : List ℕ) (t limit n m : ℕ) (waiting : List Entry) → t < n → IsPermutation (entry_of 0 t ∷ []) waiting → Underway g p gone t limit 0 [] (set (replicate n limit) t 0) (replicate m false) waiting
+pub begun : (g : Area) (p : Point) (gone : List ℕ) (t limit n m : ℕ) (waiting : List Entry) → t < n →
+    IsPermutation (entry_of 0 t ∷ []) waiting →
+    Underway g p gone t limit 0 [] (set (replicate n limit) t 0) (replicate m false) waiting
 begun g p gone t limit n m waiting within moved = record {
   reached = reached_none g p gone t limit n within;
   bounded = bounded_begun t limit n;
@@ -276,14 +322,20 @@ begun g p gone t limit n m waiting within moved = record {
   waits = λ v known unsettled near. elim (ℕ_discrete v t) [
     | yes same ↦
         let value : get_or (set (replicate n limit) t 0) v 0 ≡ 0 = ap (λ (i : ℕ). get_or (set (replicate n limit) t 0) i 0) same ∙ here in
-        subst (λ (y : ℕ). Contains waiting (entry_of y v)) (sym value) (subst (λ (i : ℕ). Contains waiting (entry_of 0 i)) (sym same) (Contains-permutation (entry_of 0 t ∷ []) waiting (entry_of 0 t) moved (contains_first (entry_of 0 t) [])))
+        subst (λ (y : ℕ). Contains waiting (entry_of y v)) (sym value)
+        (subst (λ (i : ℕ). Contains waiting (entry_of 0 i)) (sym same)
+        (Contains-permutation (entry_of 0 t ∷ []) waiting (entry_of 0 t) moved
+        (contains_first (entry_of 0 t) [])))
     | no other ↦
         let size = length-replicate n limit in
         let kept_size = length-set (replicate n limit) t 0 in
-        let value : get_or (set (replicate n limit) t 0) v 0 ≡ limit = get_or-set_other (replicate n limit) t v 0 0 other ∙ get_or-replicate n v limit 0 (omega arith) in
+        let value : get_or (set (replicate n limit) t 0) v 0 ≡ limit =
+        get_or-set_other (replicate n limit) t v 0 0 other ∙ get_or-replicate n v limit 0 (omega arith) in
         absurd (omega (arith, near))
   ];
-  entries = All-permutation (MayWait limit 0 (set (replicate n limit) t 0)) (entry_of 0 t ∷ []) waiting moved (All-cons (MayWait limit 0 (set (replicate n limit) t 0)) (entry_of 0 t) [] first (All-nil (MayWait limit 0 (set (replicate n limit) t 0))));
+  entries = All-permutation (MayWait limit 0 (set (replicate n limit) t 0)) (entry_of 0 t ∷ []) waiting moved
+      (All-cons (MayWait limit 0 (set (replicate n limit) t 0)) (entry_of 0 t) [] first
+      (All-nil (MayWait limit 0 (set (replicate n limit) t 0))));
   edges = All-nil (LeadsToLast g 0 (set (replicate n limit) t 0) (replicate m false));
   closed = λ e known left done lacks. clash (sym done ∙ none_settled m (edge_at g e).to);
 }
@@ -303,7 +355,8 @@ begun g p gone t limit n m waiting within moved = record {
     }
 
 -- the front at the start
-pub front_begun : (g : Area) (p : Point) (t limit n m : ℕ) → limit ≤ far p → n ≡ length g.vertices → m ≡ length g.vertices → IsFront g p (set (replicate n limit) t 0) (replicate m false)
+pub front_begun : (g : Area) (p : Point) (t limit n m : ℕ) → limit ≤ far p → n ≡ length g.vertices →
+    m ≡ length g.vertices → IsFront g p (set (replicate n limit) t 0) (replicate m false)
 front_begun g p t limit n m most count marks = record {
   count = length-set (replicate n limit) t 0 ∙ length-replicate n limit ∙ count;
   marks = length-replicate m false ∙ marks;
@@ -311,7 +364,8 @@ front_begun g p t limit n m most count marks = record {
 }
 
 -- what is settled is no longer open
-open_step : (settled : List Bool) (v to : ℕ) → v < length settled → is_settled settled v ≡ false → cond (not (is_settled settled to)) 1 0 ≡ cond (not (is_settled (set settled v true) to)) 1 0 + cond (eqb to v) 1 0
+open_step : (settled : List Bool) (v to : ℕ) → v < length settled → is_settled settled v ≡ false →
+    cond (not (is_settled settled to)) 1 0 ≡ cond (not (is_settled (set settled v true) to)) 1 0 + cond (eqb to v) 1 0
 open_step settled v to within unsettled = elim (ℕ_discrete to v) [
   | yes same ↦
       let counted : Bool → ℕ = λ b. cond b 1 0 in
@@ -326,7 +380,10 @@ open_step settled v to within unsettled = elim (ℕ_discrete to v) [
       omega arith
 ]
 
-open_less : (g : Area) (settled : List Bool) (v : ℕ) → v < length settled → is_settled settled v ≡ false → (xs : List ℕ) → count_by (λ e. not (is_settled settled (edge_at g e).to)) xs ≡ count_by (λ e. not (is_settled (set settled v true) (edge_at g e).to)) xs + count_by (λ e. eqb (edge_at g e).to v) xs
+open_less : (g : Area) (settled : List Bool) (v : ℕ) → v < length settled → is_settled settled v ≡ false →
+    (xs : List ℕ) → count_by (λ e. not (is_settled settled (edge_at g e).to)) xs
+    ≡ count_by (λ e. not (is_settled (set settled v true) (edge_at g e).to)) xs
+    + count_by (λ e. eqb (edge_at g e).to v) xs
 open_less g settled v within unsettled [] = refl
 open_less g settled v within unsettled (e ∷ xs) =
     let rest = open_less g settled v within unsettled xs in
@@ -337,7 +394,8 @@ open_less g settled v within unsettled (e ∷ xs) =
     omega arith
 
 -- a vertex that is settled takes the edges into it from those that are open
-pub open_settled : (g : Area) (settled : List Bool) (v : ℕ) → v < length settled → is_settled settled v ≡ false → open_edges g settled ≡ open_edges g (set settled v true) + length (edges_in g v)
+pub open_settled : (g : Area) (settled : List Bool) (v : ℕ) → v < length settled → is_settled settled v ≡ false →
+    open_edges g settled ≡ open_edges g (set settled v true) + length (edges_in g v)
 open_settled g settled v within unsettled =
     let less = open_less g settled v within unsettled (numbers_from 0 (length g.edges)) in
     let counted = length-filter (λ e. eqb (edge_at g e).to v) (numbers_from 0 (length g.edges)) in

@@ -19,4 +19,5 @@ not_nearer x y o h = grind (arith, nat_tests)
 pub nearest : (x : Reverse Entry) (xs : List (Reverse Entry)) → IsUpperBound reversed x xs → All (λ other. x.0.distance ≤ other.distance) (map (λ r. r.0) xs)
 nearest x [] above = All-nil (λ (other : Entry). x.0.distance ≤ other.distance)
 nearest x (y ∷ ys) above =
-    All-cons (λ (other : Entry). x.0.distance ≤ other.distance) y.0 (map (λ r. r.0) ys) (not_nearer x.0.distance y.0.distance (nat_cmp y.0.vertex x.0.vertex) above.0) (nearest x ys above.1)
+    All-cons (λ (other : Entry). x.0.distance ≤ other.distance) y.0 (map (λ r. r.0) ys)
+    (not_nearer x.0.distance y.0.distance (nat_cmp y.0.vertex x.0.vertex) above.0) (nearest x ys above.1)

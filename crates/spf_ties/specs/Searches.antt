@@ -1,4 +1,5 @@
--- A search for least costs on its way: vertices are settled one by one, the nearest to the target first.
+-- A search for least costs on its way: vertices are settled one by one, the nearest to the target first. No public
+-- clause cites it.
 use Rattle.std.specs.Prelude.{◌≡◌, ℕ, ◌<◌, ◌≤◌, List, length, slice_index, slice_index_or, All, Contains, Bool, true, false, not, count_by}
 use Rattle.cost_base.specs.Lists.{Lacks, numbers_from}
 use Rattle.area_graph.specs.declared.Point.{Point}
@@ -34,11 +35,14 @@ pub record LeadsToLast (g : Area) (least : ℕ) (d : List ℕ) (settled : List B
 
 -- where a search for least costs below a limit stands that settled a vertex at `least` last, and has yet to look at the
 -- edges `todo` into it
-pub record Underway (g : Area) (p : Point) (gone : List ℕ) (t limit least : ℕ) (todo : List ℕ) (d : List ℕ) (settled : List Bool) (waiting : List Entry) : Type 0 where
+pub record Underway (g : Area) (p : Point) (gone : List ℕ) (t limit least : ℕ) (todo : List ℕ) (d : List ℕ)
+    (settled : List Bool) (waiting : List Entry) : Type 0 where
   pub reached : AreReached g p gone t limit d
   pub bounded : All (λ x. x ≤ limit) d
   pub before : (v : ℕ) → is_settled settled v ≡ true → slice_index d v ≤ least
-  pub waits : (v : ℕ) → v < length d → is_settled settled v ≡ false → slice_index d v < limit → Contains waiting (record { distance = slice_index d v; vertex = v })
+  pub waits : (v : ℕ) → v < length d → is_settled settled v ≡ false → slice_index d v < limit →
+      Contains waiting (record { distance = slice_index d v; vertex = v })
   pub entries : All (MayWait limit least d) waiting
   pub edges : All (LeadsToLast g least d settled) todo
-  pub closed : (e : ℕ) → e < length g.edges → Lacks gone e → is_settled settled (edge_at g e).to ≡ true → Lacks todo e → slice_index d (edge_at g e).from ≤ through p (edge_at g e) d
+  pub closed : (e : ℕ) → e < length g.edges → Lacks gone e → is_settled settled (edge_at g e).to ≡ true → Lacks todo e →
+      slice_index d (edge_at g e).from ≤ through p (edge_at g e) d

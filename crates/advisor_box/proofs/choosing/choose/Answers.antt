@@ -1,6 +1,6 @@
 use Rattle.std.proofs.Common.{◌≡◌, ◌<◌, length, arith}
 use Rattle.std.proofs.lemmas.Grind.{common_steps}
-use Rattle.advisor_box.proofs.Asked.{chosen_later, chosen_here, chosen_none}
+use Rattle.advisor_box.proofs.AskedAdvisors.{chosen_later, chosen_here, chosen_none}
 use Rattle.advisor_box.proofs.choosing.choose.Goals as goal
 
 pub loop-advisors-init : goal.loop-advisors-init

@@ -1,5 +1,5 @@
 use Rattle.std.proofs.Common.{arith}
-use Rattle.advisor_box.proofs.Asked.{told_more, told_all}
+use Rattle.advisor_box.proofs.AskedAdvisors.{told_more, told_all}
 use Rattle.advisor_box.proofs.choosing.tell.Goals as goal
 
 pub loop-advisor-init : goal.loop-advisor-init
@@ -11,4 +11,5 @@ loop-advisor-preserved g c =
     (c.tell_one.ensures.itself, c.tell_one.ensures.state) c.loop-advisor.invariant
 
 pub returns : goal.returns
-returns g c = told_all _ _ _ c.loop-advisor.advisor-items _ c.loop-advisor.advisor-index _ c.deref_mut-advisor-items.ensures.value (omega arith) (omega arith) c.loop-advisor.invariant
+returns g c = told_all _ _ _ c.loop-advisor.advisor-items _ c.loop-advisor.advisor-index _
+    c.deref_mut-advisor-items.ensures.value (omega arith) (omega arith) c.loop-advisor.invariant

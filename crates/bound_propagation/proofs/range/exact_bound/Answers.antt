@@ -6,7 +6,8 @@ use Rattle.bound_propagation.proofs.range.exact_bound.Goals as goal
 
 pub returns-in_err-steps-clause-none : goal.returns-in_err-steps-clause-none
 returns-in_err-steps-clause-none c =
-    let weight = c.unsigned_abs.ensures.value ∙ ap nat_abs (to_z-of_z w64 c.args.coefficient c.ranges.coefficient) in λ _. no_bound c.args.coefficient c.args.slack c.args.low c.args.high
+    let weight = c.unsigned_abs.ensures.value ∙ ap nat_abs (to_z-of_z w64 c.args.coefficient c.ranges.coefficient) in
+    λ _. no_bound c.args.coefficient c.args.slack c.args.low c.args.high
     (subst (λ (w : ℕ). w * (c.args.high - c.args.low) ≤ c.args.slack) weight (c.in_err-steps.ensures.none refl))
 
 pub returns-then-coefficient-gt0-clause-exact : goal.returns-then-coefficient-gt0-clause-exact

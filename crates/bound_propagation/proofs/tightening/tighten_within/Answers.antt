@@ -25,8 +25,13 @@ returns-in-Some-clause-exact c =
     let ts = c.terms-terms.result.now in
     let k = c.loop-term.term-index in
     let fits : SFits w64 (get_or ts k none).coefficient = search rules in
-    let place = place_of c.args.form.now c.args.costs.now ts c.as_slice-low.result.now c.as_slice-high.result.now k none _ c.terms-terms.ensures.terms c.loop-term-test.true c.requires.low c.requires.high c.as_slice-low.ensures c.as_slice-high.ensures (to_z-of_z w64 (get_or ts k none).coefficient fits) in
-    exact_of_range c.args.form.now c.args.costs.now (get_or ts k none).var c.unsigned_abs-slack.result _ _ _ c.in-Some.bound.side c.in-Some.bound.value place (slack_is c.args.most c.unsigned_abs-slack.result _ c.ranges.most c.unsigned_abs-slack.ensures.value c.requires.unrefuted c.requires.known) c.in-Some.ensures.exact
+    let place = place_of c.args.form.now c.args.costs.now ts c.as_slice-low.result.now c.as_slice-high.result.now k none
+    _ c.terms-terms.ensures.terms c.loop-term-test.true c.requires.low c.requires.high c.as_slice-low.ensures
+    c.as_slice-high.ensures (to_z-of_z w64 (get_or ts k none).coefficient fits) in
+    exact_of_range c.args.form.now c.args.costs.now (get_or ts k none).var c.unsigned_abs-slack.result _ _ _
+    c.in-Some.bound.side c.in-Some.bound.value place
+    (slack_is c.args.most c.unsigned_abs-slack.result _ c.ranges.most c.unsigned_abs-slack.ensures.value
+    c.requires.unrefuted c.requires.known) c.in-Some.ensures.exact
 
 -- the terms behind are of no smaller variables
 no_smaller : (ts : List Term) (k j : ℕ) → AllPairs (λ (t u : Term). t.var < u.var) ts → k ≤ j → j < length ts → (get_or ts k none).var ≤ (get_or ts j none).var
@@ -41,8 +46,13 @@ returns-in-Some-clause-first c =
     let ts = c.terms-terms.result.now in
     let k = c.loop-term.term-index in
     let inside = c.terms-terms.ensures.known k none c.loop-term-test.true in
-    let rising : AllPairs (λ (t u : Term). t.var < u.var) ts = subst (λ (us : List Term). AllPairs (λ (t u : Term). t.var < u.var) us) (sym c.terms-terms.ensures.terms) (rising_from 0 c.args.form.now.coefficients) in
-    none_before c.args.form.now c.args.costs.now ts c.unsigned_abs-slack.result k (get_or ts k none).var none c.terms-terms.ensures.terms c.requires.low c.requires.high (slack_is c.args.most c.unsigned_abs-slack.result _ c.ranges.most c.unsigned_abs-slack.ensures.value c.requires.unrefuted c.requires.known)
+    let rising : AllPairs (λ (t u : Term). t.var < u.var) ts =
+    subst (λ (us : List Term). AllPairs (λ (t u : Term). t.var < u.var) us) (sym c.terms-terms.ensures.terms)
+    (rising_from 0 c.args.form.now.coefficients) in
+    none_before c.args.form.now c.args.costs.now ts c.unsigned_abs-slack.result k (get_or ts k none).var none
+    c.terms-terms.ensures.terms c.requires.low c.requires.high
+    (slack_is c.args.most c.unsigned_abs-slack.result _ c.ranges.most c.unsigned_abs-slack.ensures.value
+    c.requires.unrefuted c.requires.known)
     (let e : (get_or ts k none).var ≤ length c.args.form.now.coefficients = omega (arith, inside) in e)
     (λ j past j_in. no_smaller ts k j rising past j_in)
     c.loop-term.invariant
@@ -52,15 +62,23 @@ loop-term-preserved c =
     let ts = c.terms-terms.result.now in
     let k = c.loop-term.term-index in
     let fits : SFits w64 (get_or ts k none).coefficient = search rules in
-    let place = place_of c.args.form.now c.args.costs.now ts c.as_slice-low.result.now c.as_slice-high.result.now k none _ c.terms-terms.ensures.terms c.loop-term-test.true c.requires.low c.requires.high c.as_slice-low.ensures c.as_slice-high.ensures (to_z-of_z w64 (get_or ts k none).coefficient fits) in
+    let place = place_of c.args.form.now c.args.costs.now ts c.as_slice-low.result.now c.as_slice-high.result.now k none
+    _ c.terms-terms.ensures.terms c.loop-term-test.true c.requires.low c.requires.high c.as_slice-low.ensures
+    c.as_slice-high.ensures (to_z-of_z w64 (get_or ts k none).coefficient fits) in
     below_more _ _ c.loop-term.invariant
-    (λ (side : Side) (value : ℕ). none_of_range c.args.form.now c.args.costs.now (get_or ts k none).var c.unsigned_abs-slack.result _ _ _ side value place (slack_is c.args.most c.unsigned_abs-slack.result _ c.ranges.most c.unsigned_abs-slack.ensures.value c.requires.unrefuted c.requires.known) (c.in_default.ensures.none refl))
+    (λ (side : Side) (value : ℕ). none_of_range c.args.form.now c.args.costs.now (get_or ts k none).var
+    c.unsigned_abs-slack.result _ _ _ side value place
+    (slack_is c.args.most c.unsigned_abs-slack.result _ c.ranges.most c.unsigned_abs-slack.ensures.value
+    c.requires.unrefuted c.requires.known) (c.in_default.ensures.none refl))
 
 pub returns-clause-none : goal.returns-clause-none
 returns-clause-none c is_none =
     let ts = c.terms-terms.result.now in
     let k = c.loop-term.term-index in
-    none_before c.args.form.now c.args.costs.now ts c.unsigned_abs-slack.result k (length c.args.costs.now.low) none c.terms-terms.ensures.terms c.requires.low c.requires.high (slack_is c.args.most c.unsigned_abs-slack.result _ c.ranges.most c.unsigned_abs-slack.ensures.value c.requires.unrefuted c.requires.known)
+    none_before c.args.form.now c.args.costs.now ts c.unsigned_abs-slack.result k (length c.args.costs.now.low) none
+    c.terms-terms.ensures.terms c.requires.low c.requires.high
+    (slack_is c.args.most c.unsigned_abs-slack.result _ c.ranges.most c.unsigned_abs-slack.ensures.value
+    c.requires.unrefuted c.requires.known)
     (omega (arith, c.requires.low))
     (λ j past j_in. absurd (omega (arith, past, j_in, c.loop-term-test.false)))
     c.loop-term.invariant

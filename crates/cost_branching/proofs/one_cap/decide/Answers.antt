@@ -26,7 +26,8 @@ same_rows g c =
 pub returns-clause-pool : goal.returns-clause-pool
 returns-clause-pool g c =
     same_pool c.args.problem.now c.args.pool.now c.truncate.new.self (same_rows g c)
-    (c.truncate.ensures.forms ∙ forms_back c.args.problem.now c.args.pool.now c.search_rivals.new.pool (length c.rows-begun.result.now) (ap length c.rows-begun.ensures) c.requires.pool c.in-Err.ensures.forms)
+    (c.truncate.ensures.forms ∙ forms_back c.args.problem.now c.args.pool.now c.search_rivals.new.pool
+    (length c.rows-begun.result.now) (ap length c.rows-begun.ensures) c.requires.pool c.in-Err.ensures.forms)
     c.requires.pool
 
 pub returns-clause-more : goal.returns-clause-more

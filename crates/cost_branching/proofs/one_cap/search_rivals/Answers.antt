@@ -21,6 +21,8 @@ pub returns-clause-pool : goal.returns-clause-pool
 returns-clause-pool g c =
     let source = c.search-found.new.source in
     let forms = c.search-found.new.pool in
-    IfOk-weaker c.search-found.result (λ found. IsPool source.problem (record { rows = source.rows; forms = forms })) (λ found. IsPool c.args.problem.now (record { rows = c.into_rows.result.items; forms = forms }))
-    (λ found in_step. pool_as c.args.problem.now source.problem source.rows c.into_rows.result.items forms (c.into_rows.ensures.problem ∙ sym c.requires.problem) c.into_rows.ensures.rows in_step)
+    IfOk-weaker c.search-found.result (λ found. IsPool source.problem (record { rows = source.rows; forms = forms }))
+    (λ found. IsPool c.args.problem.now (record { rows = c.into_rows.result.items; forms = forms }))
+    (λ found in_step. pool_as c.args.problem.now source.problem source.rows c.into_rows.result.items forms
+    (c.into_rows.ensures.problem ∙ sym c.requires.problem) c.into_rows.ensures.rows in_step)
     c.search-found.ensures.in_step

@@ -11,7 +11,8 @@ pub loop-request-init : goal.loop-request-init
 loop-request-init c = record {
   asker = c.requires.asker;
   marks = c.requires.marks;
-  asked = none_asked_among c.args.point.now (record { problem = c.args.problem.now; rows = c.args.rows.now.items }) c.args.pool.now c.requires.rows c.requires.met;
+  asked = none_asked_among c.args.point.now (record { problem = c.args.problem.now; rows = c.args.rows.now.items })
+      c.args.pool.now c.requires.rows c.requires.met;
   more = record { more = []; same = sym (append-nil c.args.rows.now.items) };
 }
 
@@ -34,7 +35,8 @@ loop-request-preserved c =
       asked = elim c.if-branch.branch [
         | then-branch w ↦
             subst Then (sym w.asked-is)
-            (one_added_among point request old forms now now_forms new new_forms c.loop-request.asked c.loop-request.invariant.asked c.requires.met c.requires.point.count
+            (one_added_among point request old forms now now_forms new new_forms c.loop-request.asked
+            c.loop-request.invariant.asked c.requires.met c.requires.point.count
             (subst IsOne w.if-branch.true c.in_ok-ask_one.ensures.one))
         | else-branch w ↦
             subst Then (sym w.asked-is)
@@ -48,4 +50,5 @@ pub returns-clause-asked : goal.returns-clause-asked
 returns-clause-asked c =
     let known : List Row → KnownRows = λ rows. record { problem = c.args.problem.now; rows = rows } in
     let all : length c.args.problem.now.paths ≤ c.loop-request.request = omega (arith, c.requests-count.ensures, c.loop-request-test.false) in
-    all_asked_among c.args.point.now c.loop-request.request (known c.args.rows.now.items) c.args.pool.now (known c.loop-request.rows.items) c.loop-request.pool c.loop-request.asked all c.loop-request.invariant.asked
+    all_asked_among c.args.point.now c.loop-request.request (known c.args.rows.now.items) c.args.pool.now
+    (known c.loop-request.rows.items) c.loop-request.pool c.loop-request.asked all c.loop-request.invariant.asked

@@ -7,6 +7,7 @@ abbrev pub invariant-loop-request : goal.invariant-loop-request
 invariant-loop-request l = record {
   asker : IsAskerFor l.problem.graph l.problem.paths l.asker;
   marks : AreMarkedAt l.problem l.point l.asker.marks;
-  asked : AreAskedAmong l.point l.request (record { problem = l.problem; rows = l.fn.rows.items }) l.fn.pool (record { problem = l.problem; rows = l.rows.items }) l.pool l.asked;
+  asked : AreAskedAmong l.point l.request (record { problem = l.problem; rows = l.fn.rows.items }) l.fn.pool
+      (record { problem = l.problem; rows = l.rows.items }) l.pool l.asked;
   more : BeginWith l.fn.rows.items l.rows.items;
 }

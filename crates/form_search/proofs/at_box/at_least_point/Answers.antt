@@ -2,7 +2,7 @@ use Rattle.std.proofs.Common.{refl, subst}
 use Rattle.area_graph.specs.declared.Point.{Point}
 use Rattle.form_search.specs.Turns.{IsSplitAt}
 use Rattle.form_search.proofs.AdvisorLaws.{left_alike}
-use Rattle.form_search.proofs.Entries.{next_split_at}
+use Rattle.form_search.proofs.NextEntries.{next_split_at}
 use Rattle.form_search.proofs.at_box.at_least_point.Goals as goal
 
 pub returns-in_err-found-clause-advisors : goal.returns-in_err-found-clause-advisors

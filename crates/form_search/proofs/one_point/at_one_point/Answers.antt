@@ -3,7 +3,7 @@ use Rattle.std.specs.Prelude.{pos, ◌<ℤ◌}
 use Rattle.path_rows.specs.Forms.{Form}
 use Rattle.path_rows.specs.Boxes.{greatest}
 use Rattle.path_rows.specs.Forms.{form_at}
-use Rattle.form_search.proofs.Entries.{next_refute, row_next}
+use Rattle.form_search.proofs.NextEntries.{next_refute, row_next}
 use Rattle.form_search.proofs.one_point.at_one_point.Goals as goal
 
 pub returns-in_ok-refute_by-in-Some-clause-next : goal.returns-in_ok-refute_by-in-Some-clause-next
@@ -13,4 +13,5 @@ returns-in_ok-refute_by-in-Some-clause-next g c top since =
     let row = c.in-Some.row in
     let found = subst (λ (fs : List Form). (row < length fs) × (greatest (form_at fs row) costs <ℤ pos 0)) c.as_slice.ensures c.in-Some.ensures in
     row_next (g.S.RowSource.accepted c.args.source.now) top pool (record { box = costs; since = since }) c.in_ok-refute_by-in-Some.field-0
-    (next_refute pool row (record { box = costs; since = since }) (form_at pool row) costs c.in_ok-refute_by-in-Some.field-0 found.0 refl refl found.1 c.in_ok-refute_by-in-Some.ensures)
+    (next_refute pool row (record { box = costs; since = since }) (form_at pool row) costs
+    c.in_ok-refute_by-in-Some.field-0 found.0 refl refl found.1 c.in_ok-refute_by-in-Some.ensures)

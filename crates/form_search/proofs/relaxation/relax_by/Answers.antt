@@ -1,7 +1,7 @@
 use Rattle.std.proofs.Common.{◌≡◌, ◌<◌, ℕ, sym, subst, List, None, Ok}
 use Rattle.path_rows.specs.Forms.{Form}
 use Rattle.form_search.specs.Tables.{StandsAt}
-use Rattle.form_search.proofs.Missing.{missing}
+use Rattle.form_search.proofs.MissingForms.{missing}
 use Rattle.form_search.proofs.Relaxing.{new_falls}
 use Rattle.form_search.proofs.SourceLaws.{grows_then, same_then}
 use Rattle.form_search.proofs.relaxation.relax_by.Goals as goal

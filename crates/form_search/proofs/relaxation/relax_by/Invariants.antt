@@ -2,7 +2,7 @@
 use Rattle.std.proofs.Common.{◌≡◌, length}
 use Rattle.form_search.specs.Sources.{Grows, SameSource}
 use Rattle.form_search.specs.Tables.{StandsAt}
-use Rattle.form_search.proofs.Missing.{missing}
+use Rattle.form_search.proofs.MissingForms.{missing}
 use Rattle.form_search.proofs.relaxation.relax_by.Given as goal
 
 abbrev pub invariant-rounds : goal.invariant-rounds

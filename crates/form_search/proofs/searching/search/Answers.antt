@@ -53,13 +53,15 @@ next_at-requires-clause-ranges g c =
     let kept : IsCostsBox n costs = subst (λ (m : ℕ). IsCostsBox m costs) c.variables.ensures c.in_ok-tree.ensures.ranges in
     subst (λ (m : ℕ). IsCostsBox m (first_place tree.places).box) (sym was.same.same_count)
     (first_costs n costs (first_place tree.places).box kept
-    (first_in (g.S.RowSource.accepted c.args.source.now) limits.top n c.boxes.pool costs tree.entries tree.places kept.is_box (c.is_open.ensures.0 c.boxes-test.true) was.growing.opens))
+    (first_in (g.S.RowSource.accepted c.args.source.now) limits.top n c.boxes.pool costs tree.entries tree.places
+    kept.is_box (c.is_open.ensures.0 c.boxes-test.true) was.growing.opens))
 
 pub returns-in_err-next-clause-grows : goal.returns-in_err-next-clause-grows
 returns-in_err-next-clause-grows g c =
     let IsTrue = g.S.RowSource.true_form in
     let was = c.boxes.invariant in
-    grows_then (IsTrue c.args.source.now) (IsTrue c.boxes.source) c.args.pool.now c.boxes.pool c.next_at.new.pool was.same.same_forms was.grows c.next_at.ensures.grows
+    grows_then (IsTrue c.args.source.now) (IsTrue c.boxes.source) c.args.pool.now c.boxes.pool c.next_at.new.pool
+    was.same.same_forms was.grows c.next_at.ensures.grows
 
 pub returns-in_err-next-clause-advisors : goal.returns-in_err-next-clause-advisors
 returns-in_err-next-clause-advisors g c = left_then _ _ _ _ c.boxes.invariant.advisors c.next_at.ensures.advisors
@@ -73,7 +75,8 @@ pub returns-in_err-longer-clause-grows : goal.returns-in_err-longer-clause-grows
 returns-in_err-longer-clause-grows g c =
     let IsTrue = g.S.RowSource.true_form in
     let was = c.boxes.invariant in
-    grows_then (IsTrue c.args.source.now) (IsTrue c.boxes.source) c.args.pool.now c.boxes.pool c.next_at.new.pool was.same.same_forms was.grows c.next_at.ensures.grows
+    grows_then (IsTrue c.args.source.now) (IsTrue c.boxes.source) c.args.pool.now c.boxes.pool c.next_at.new.pool
+    was.same.same_forms was.grows c.next_at.ensures.grows
 
 pub returns-in_err-longer-clause-advisors : goal.returns-in_err-longer-clause-advisors
 returns-in_err-longer-clause-advisors g c = left_then _ _ _ _ (left_then _ _ _ _ c.boxes.invariant.advisors c.next_at.ensures.advisors) c.turn.ensures.advisors
@@ -137,7 +140,8 @@ pub returns-in-Break-clause-grows : goal.returns-in-Break-clause-grows
 returns-in-Break-clause-grows g c =
     let IsTrue = g.S.RowSource.true_form in
     let was = c.boxes.invariant in
-    grows_then (IsTrue c.args.source.now) (IsTrue c.boxes.source) c.args.pool.now c.boxes.pool c.next_at.new.pool was.same.same_forms was.grows c.next_at.ensures.grows
+    grows_then (IsTrue c.args.source.now) (IsTrue c.boxes.source) c.args.pool.now c.boxes.pool c.next_at.new.pool
+    was.same.same_forms was.grows c.next_at.ensures.grows
 
 pub returns-in-Break-clause-advisors : goal.returns-in-Break-clause-advisors
 returns-in-Break-clause-advisors g c = left_then _ _ _ _ (left_then _ _ _ _ c.boxes.invariant.advisors c.next_at.ensures.advisors) c.turn.ensures.advisors

@@ -13,7 +13,8 @@ invariant-boxes g l = record {
   grows : Grows (g.S.RowSource.true_form l.initial.source) l.initial.pool l.pool;
   same : SameSource g.S.RowSource.count g.S.RowSource.accepted g.S.RowSource.true_form g.S.RowSource.candidates l.initial.source l.source;
   advisors : AreLeft
-      (IsCalled (λ b c. c.vtable ≡ b.vtable) (λ b. (goal.Advisor-dyn g (b.vtable, b.value)).state b.value) (λ b. (goal.Advisor-dyn g (b.vtable, b.value)).left) (λ b. (goal.Advisor-dyn g (b.vtable, b.value)).after))
+      (IsCalled (λ b c. c.vtable ≡ b.vtable) (λ b. (goal.Advisor-dyn g (b.vtable, b.value)).state b.value)
+      (λ b. (goal.Advisor-dyn g (b.vtable, b.value)).left) (λ b. (goal.Advisor-dyn g (b.vtable, b.value)).after))
       l.initial.advisors.items l.advisors.items;
 }
 

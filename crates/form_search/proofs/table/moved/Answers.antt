@@ -4,12 +4,14 @@ use Rattle.path_rows.specs.Forms.{Form}
 use Rattle.fraction_table.specs.Tableaus.{FitsBox}
 use Rattle.form_search.specs.declared.table.HeldTableau.{HeldTableau}
 use Rattle.form_search.specs.Tables.{IsHeld, IsKept}
-use Rattle.form_search.proofs.Entries.{all_take}
+use Rattle.form_search.proofs.NextEntries.{all_take}
 use Rattle.form_search.proofs.table.moved.Goals as goal
 
 pub rebase-requires-clause-fits : goal.rebase-requires-clause-fits
 rebase-requires-clause-fits c =
     let costs = c.args.costs.now in
     let forms = c.requires.fits.0 in
-    let kept : IsHeld c.args.top (length costs.low) forms c.in-Some.table = subst (λ (o : Option HeldTableau). IsKept c.args.top (length costs.low) forms o) c.in-Some.is c.requires.fits.1 in
+    let kept : IsHeld c.args.top (length costs.low) forms c.in-Some.table =
+    subst (λ (o : Option HeldTableau). IsKept c.args.top (length costs.low) forms o) c.in-Some.is
+    c.requires.fits.1 in
     subst (λ (rows : List Form). All (FitsBox costs) rows) (sym kept.rows) (all_take (FitsBox costs) kept.taken forms c.requires.fits.2)

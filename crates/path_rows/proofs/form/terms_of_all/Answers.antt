@@ -8,4 +8,5 @@ pub loop-var-preserved : goal.loop-var-preserved
 loop-var-preserved c =
     let coefficient = get_or c.args.coefficients.now c.loop-var.var (pos 0) in
     let fits : SFits w64 coefficient = search rules in
-    terms_next c.args.coefficients.now c.loop-var.var _ c.loop-var.terms.items c.push_term.new.terms.items c.loop-var-test.true (to_z-of_z w64 coefficient fits) c.loop-var.invariant c.in_ok-push_term.ensures
+    terms_next c.args.coefficients.now c.loop-var.var _ c.loop-var.terms.items c.push_term.new.terms.items
+    c.loop-var-test.true (to_z-of_z w64 coefficient fits) c.loop-var.invariant c.in_ok-push_term.ensures

@@ -7,7 +7,8 @@ use Rattle.path_rows.proofs.GreatestSums.{small_term_read, summed_more, summed_a
 use Rattle.path_rows.proofs.greatest.greatest_with.Goals as goal
 
 pub greatest_term-requires : goal.greatest_term-requires
-greatest_term-requires c = small_term_read c.args.form.now c.terms-terms.result.now c.loop-term.term-index _ c.terms-terms.ensures.terms c.requires.sizes c.loop-term-test.true
+greatest_term-requires c = small_term_read c.args.form.now c.terms-terms.result.now c.loop-term.term-index _
+    c.terms-terms.ensures.terms c.requires.sizes c.loop-term-test.true
 
 pub loop-term-preserved : goal.loop-term-preserved
 loop-term-preserved c =
@@ -23,7 +24,8 @@ loop-term-preserved c =
     c.terms-terms.ensures.terms c.requires.sizes c.loop-term-test.true
     (read ∙ c.greatest_term.ensures.value
     ∙ ap (λ (x : ℕ). upper (to_z w64 (of_z w64 t.coefficient)) x c.end_at-most.result) c.end_at-least.ensures
-    ∙ ap (λ (x : ℕ). upper (to_z w64 (of_z w64 t.coefficient)) (get_or low t.var 0) x) c.end_at-most.ensures) (subst (λ n. n ≤ 2 ^ 42) (sym (ap nat_abs read)) c.greatest_term.ensures.size) next c.loop-term.invariant
+    ∙ ap (λ (x : ℕ). upper (to_z w64 (of_z w64 t.coefficient)) (get_or low t.var 0) x) c.end_at-most.ensures)
+    (subst (λ n. n ≤ 2 ^ 42) (sym (ap nat_abs read)) c.greatest_term.ensures.size) next c.loop-term.invariant
 
 pub returns : goal.returns
 returns c =
@@ -33,5 +35,8 @@ returns c =
     (c.requires.low ∙ sym (ap length c.as_slice-low.ensures) ∙ sym (length-set c.as_slice-low.result.now c.args.var c.args.low_end))
     (c.requires.high ∙ sym (ap length c.as_slice-high.ensures) ∙ sym (length-set c.as_slice-high.result.now c.args.var c.args.high_end))
     c.loop-term-test.false c.loop-term.invariant
-    ∙ ap (λ (ls : List ℕ). c.args.form.now.constant +ℤ upper_sum c.args.form.now.coefficients (slice_set ls c.args.var c.args.low_end) high) c.as_slice-low.ensures
-    ∙ ap (λ (hs : List ℕ). c.args.form.now.constant +ℤ upper_sum c.args.form.now.coefficients (slice_set c.args.costs.now.low c.args.var c.args.low_end) (slice_set hs c.args.var c.args.high_end)) c.as_slice-high.ensures
+    ∙ ap (λ (ls : List ℕ). c.args.form.now.constant +ℤ upper_sum c.args.form.now.coefficients
+    (slice_set ls c.args.var c.args.low_end) high) c.as_slice-low.ensures
+    ∙ ap (λ (hs : List ℕ). c.args.form.now.constant +ℤ upper_sum c.args.form.now.coefficients
+    (slice_set c.args.costs.now.low c.args.var c.args.low_end) (slice_set hs c.args.var c.args.high_end))
+    c.as_slice-high.ensures

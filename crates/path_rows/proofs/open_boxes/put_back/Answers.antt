@@ -13,7 +13,8 @@ returns-in-Second-clause-next c =
     sym c.loop-change.invariant.same
     ∙ waiting_pushed box popped c.loop-change.changes.items c.in-Some.change c.in-Some.ensures.items
     ∙ ap (λ (change : Change). waiting box (change ∷ reverse popped)) c.in-Second.is
-    ∙ second_next box c.set-in-Second-2.new.self c.set-in-Second.new.self popped c.push_reserved.new.self.items c.in-Second.var c.in-Second.value c.in-Second.was (get_or c.as_slice.result.now c.in-Second.var 0)
+    ∙ second_next box c.set-in-Second-2.new.self c.set-in-Second.new.self popped c.push_reserved.new.self.items
+    c.in-Second.var c.in-Second.value c.in-Second.was (get_or c.as_slice.result.now c.in-Second.var 0)
     c.set-in-Second.ensures c.set-in-Second-2.ensures c.push_reserved.ensures.items (ap (λ xs. get_or xs c.in-Second.var 0) c.as_slice.ensures)
 
 pub returns-in-Second-clause-stack : goal.returns-in-Second-clause-stack
@@ -24,7 +25,9 @@ returns-in-Second-clause-stack c =
     let next : CostBox = record { low = c.set-in-Second-2.new.self; high = c.set-in-Second.new.self } in
     let lows = ap length c.set-in-Second-2.ensures ∙ length-set box.low var (c.in-Second.value + 1) in
     let highs = ap length c.set-in-Second.ensures ∙ length-set box.high var c.in-Second.was in
-    let change = popped_change box c.loop-change.changes.items popped c.in-Some.change (Second var c.in-Second.value c.in-Second.was) c.in-Some.ensures.items c.in-Second.is c.loop-change.invariant.stack in
+    let change = popped_change box c.loop-change.changes.items popped c.in-Some.change
+    (Second var c.in-Second.value c.in-Second.was) c.in-Some.ensures.items c.in-Second.is
+    c.loop-change.invariant.stack in
     let here = subst (λ (n : ℕ). var < n) (sym lows) change.0 in
     stack_pushed next next popped c.push_reserved.new.self.items (Low var (get_or c.as_slice.result.now var 0)) c.push_reserved.ensures.items refl refl here
     (stack_popped box next c.loop-change.changes.items popped c.in-Some.change c.in-Some.ensures.items lows highs c.loop-change.invariant.stack)

@@ -2,15 +2,18 @@ use Rattle.std.proofs.Common.{◌≡◌, ◌∙◌, ap, rules, arith, length, Li
 use Rattle.std.proofs.lemmas.List.{length-map}
 use Rattle.std.proofs.lemmas.Result.{IfOk-weaker}
 use Rattle.cost_base.specs.Lists.{numbers_from}
+use Rattle.cost_base.proofs.ListLemmas.{length-numbers_from}
 use Rattle.std.specs.Prelude.{ℤ}
 use Rattle.std.proofs.lemmas.Int.{to_z-of_z}
 use Rattle.path_rows.specs.Forms.{Form}
 use Rattle.path_rows.specs.Rows.{uses, form_between}
-use Rattle.path_rows.proofs.Tallies.{differences_tabulated, length-numbers_from}
+use Rattle.path_rows.proofs.Tallies.{differences_tabulated}
 use Rattle.path_rows.proofs.row_form.form_of_paths.Goals as goal
 
 -- a form is its constant and its coefficients
-same_form : (a b : ℤ) (cs ds : List ℤ) → a ≡ b → cs ≡ ds → (let f : Form = record { constant = a; coefficients = cs } in f) ≡ (let g : Form = record { constant = b; coefficients = ds } in g)
+same_form : (a b : ℤ) (cs ds : List ℤ) → a ≡ b → cs ≡ ds →
+    (let f : Form = record { constant = a; coefficients = cs } in f)
+    ≡ (let g : Form = record { constant = b; coefficients = ds } in g)
 same_form a b cs ds e q = λ i. record { constant = e i; coefficients = q i }
 
 -- there are as many differences as variables
@@ -28,6 +31,8 @@ returns c =
     let n = c.args.variables in
     let fits : SFits w64 c.constant_of-constant.result = search rules in
     let constant = to_z-of_z w64 c.constant_of-constant.result fits ∙ c.constant_of-constant.ensures in
-    let coefficients = differences_tabulated c.in_ok-coefficients.coefficients.items c.deref.result.now c.deref-2.result.now (uses g c.args.rival.now) (uses g c.args.wanted.now) n c.in_ok-coefficients.ensures (c.deref.ensures.value ∙ c.in_ok-paid.ensures) (c.deref-2.ensures.value ∙ c.in_ok-saved.ensures) in
+    let coefficients = differences_tabulated c.in_ok-coefficients.coefficients.items c.deref.result.now
+    c.deref-2.result.now (uses g c.args.rival.now) (uses g c.args.wanted.now) n c.in_ok-coefficients.ensures
+    (c.deref.ensures.value ∙ c.in_ok-paid.ensures) (c.deref-2.ensures.value ∙ c.in_ok-saved.ensures) in
     IfOk-weaker c.from_coefficients.result _ (λ f. f ≡ form_between g n c.args.wanted.now c.args.rival.now)
     (λ f e. e ∙ same_form _ _ _ _ constant (c.deref-3.ensures.value ∙ coefficients)) c.from_coefficients.ensures

@@ -5,7 +5,8 @@ use Rattle.path_rows.proofs.tree_builder.go_on.Goals as goal
 
 pub returns-in_ok-tighten-in-Tighten-clause-marks : goal.returns-in_ok-tighten-in-Tighten-clause-marks
 returns-in_ok-tighten-in-Tighten-clause-marks c n entries marked counted =
-    subst (λ (e : Entry). IsMarked n (entries ++ e ∷ []) c.mark.new.self) (sym c.in-Tighten.is) (c.mark.ensures n entries c.in-Tighten.value c.in-Tighten.row marked counted)
+    subst (λ (e : Entry). IsMarked n (entries ++ e ∷ []) c.mark.new.self) (sym c.in-Tighten.is)
+    (c.mark.ensures n entries c.in-Tighten.value c.in-Tighten.row marked counted)
 
 pub returns-in_ok-cut-in-Split-clause-marks : goal.returns-in_ok-cut-in-Split-clause-marks
 returns-in_ok-cut-in-Split-clause-marks c n entries marked counted =

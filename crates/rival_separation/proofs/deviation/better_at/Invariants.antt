@@ -5,4 +5,6 @@ use Rattle.rival_separation.proofs.OfferLemmas.{SeenBut}
 use Rattle.rival_separation.proofs.deviation.better_at.Given as goal
 
 abbrev pub invariant-loop-number : goal.invariant-loop-number
-invariant-loop-number l = IsBest l.graph l.point l.request.gone l.room l.request.path.edges (SeenBut l.place (drop l.number-index (edges_out l.graph (edge_at l.graph (get_or l.request.path.edges l.place 0)).from))) l.found
+invariant-loop-number l = IsBest l.graph l.point l.request.gone l.room l.request.path.edges
+    (SeenBut l.place (drop l.number-index
+    (edges_out l.graph (edge_at l.graph (get_or l.request.path.edges l.place 0)).from))) l.found

@@ -18,7 +18,9 @@ add_to_path-requires c =
     let g = c.args.graph.now in
     let p = c.args.point.now in
     let ends = ends_of c.args.request.now in
-    let short = short_walk g p ends c.loop-at.invariant.found.0 c.loop-at.room (IsWay g p ends c.args.room.now c.args.start) c.loop-at.room.path c.loop-at.at c.loop-at.invariant.found.1 c.loop-at.invariant.so_far (λ es whole. whole.1) in
+    let short = short_walk g p ends c.loop-at.invariant.found.0 c.loop-at.room
+    (IsWay g p ends c.args.room.now c.args.start) c.loop-at.room.path c.loop-at.at c.loop-at.invariant.found.1
+    c.loop-at.invariant.so_far (λ es whole. whole.1) in
     let count = c.loop-at.invariant.found.1.room_for.vertices in
     omega arith
 
@@ -27,7 +29,9 @@ loop-at-smaller c =
     let g = c.args.graph.now in
     let p = c.args.point.now in
     let ends = ends_of c.args.request.now in
-    let short = short_walk g p ends c.loop-at.invariant.found.0 c.loop-at.room (IsWay g p ends c.args.room.now c.args.start) c.loop-at.room.path c.loop-at.at c.loop-at.invariant.found.1 c.loop-at.invariant.so_far (λ es whole. whole.1) in
+    let short = short_walk g p ends c.loop-at.invariant.found.0 c.loop-at.room
+    (IsWay g p ends c.args.room.now c.args.start) c.loop-at.room.path c.loop-at.at c.loop-at.invariant.found.1
+    c.loop-at.invariant.so_far (λ es whole. whole.1) in
     let count = c.loop-at.invariant.found.1.room_for.vertices in
     let same = ap (λ (r : Findings). length r.costs) c.add_to_path.ensures in
     let longer = ap (λ (r : Findings). length r.path) c.add_to_path.ensures ∙ length-append c.loop-at.room.path (c.in-Some.edge ∷ []) in
@@ -43,18 +47,32 @@ loop-at-preserved c =
     let next = c.in-Some.ensures in
     let longer = room.path ++ edge ∷ [] in
     let Whole : List ℕ → Type 0 = IsWay g p ends c.args.room.now c.args.start in
-    let left = (c.loop-at.invariant.found.1.marks edge (let known = next.known in let count = c.loop-at.invariant.found.1.room_for.edges in omega arith)).0 next.left in
-    let more = completes_more g p ends c.loop-at.invariant.found.0 room (IsWay g p ends c.args.room.now c.args.start) room.path c.loop-at.at edge c.keeps_conditions.ensures.fits c.requires.fits c.loop-at.invariant.found.1 c.loop-at.invariant.so_far next.known next.from next.tight left in
+    let left = (c.loop-at.invariant.found.1.marks edge (let known = next.known in let count =
+    c.loop-at.invariant.found.1.room_for.edges in omega arith)).0 next.left in
+    let more = completes_more g p ends c.loop-at.invariant.found.0 room (IsWay g p ends c.args.room.now c.args.start)
+    room.path c.loop-at.at edge c.keeps_conditions.ensures.fits c.requires.fits c.loop-at.invariant.found.1
+    c.loop-at.invariant.so_far next.known next.from next.tight left in
     record {
-      found = (c.loop-at.invariant.found.0, subst (λ (r : Findings). IsFound g p ends c.loop-at.invariant.found.0 r) (sym c.add_to_path.ensures) (found_kept g p ends c.loop-at.invariant.found.0 room longer c.loop-at.invariant.found.1));
+      found = (
+        c.loop-at.invariant.found.0,
+        subst (λ (r : Findings). IsFound g p ends c.loop-at.invariant.found.0 r)
+            (sym c.add_to_path.ensures)
+            (found_kept g p ends c.loop-at.invariant.found.0 room longer c.loop-at.invariant.found.1),
+      );
       so_far = subst (λ (e : Edge). Completes g p ends c.add_to_path.new.self Whole c.add_to_path.new.self.path e.to) (sym c.edge_of-at.ensures)
-          (subst (λ (r : Findings). Completes g p ends r Whole r.path (edge_at g edge).to) (sym c.add_to_path.ensures) (completes_kept g p ends room Whole longer longer (edge_at g edge).to more));
+          (subst (λ (r : Findings). Completes g p ends r Whole r.path (edge_at g edge).to) (sym c.add_to_path.ensures)
+          (completes_kept g p ends room Whole longer longer (edge_at g edge).to more));
     }
 
 pub returns-clause-followed : goal.returns-clause-followed
 returns-clause-followed c =
-    (completed c.args.graph.now c.args.point.now (ends_of c.args.request.now) c.loop-at.invariant.found.0 c.loop-at.room (IsWay c.args.graph.now c.args.point.now (ends_of c.args.request.now) c.args.room.now c.args.start) c.loop-at.room.path c.loop-at.at c.loop-at.invariant.found.1 c.loop-at.invariant.so_far (search rules)).0
+    (completed c.args.graph.now c.args.point.now (ends_of c.args.request.now) c.loop-at.invariant.found.0 c.loop-at.room
+    (IsWay c.args.graph.now c.args.point.now (ends_of c.args.request.now) c.args.room.now c.args.start)
+    c.loop-at.room.path c.loop-at.at c.loop-at.invariant.found.1 c.loop-at.invariant.so_far (search rules)).0
 
 pub returns-in-None-clause-followed : goal.returns-in-None-clause-followed
 returns-in-None-clause-followed c =
-    absurd (some_next c.args.graph.now c.args.point.now (ends_of c.args.request.now) c.loop-at.invariant.found.0 c.loop-at.room (IsWay c.args.graph.now c.args.point.now (ends_of c.args.request.now) c.args.room.now c.args.start) c.loop-at.room.path c.loop-at.at c.loop-at.invariant.found.1 c.loop-at.invariant.so_far (search rules) c.in-None.ensures)
+    absurd (some_next c.args.graph.now c.args.point.now (ends_of c.args.request.now) c.loop-at.invariant.found.0
+    c.loop-at.room (IsWay c.args.graph.now c.args.point.now (ends_of c.args.request.now) c.args.room.now
+    c.args.start) c.loop-at.room.path c.loop-at.at c.loop-at.invariant.found.1 c.loop-at.invariant.so_far
+    (search rules) c.in-None.ensures)

@@ -4,4 +4,5 @@ use Rattle.spf_ties.specs.Distances.{is_tight}
 use Rattle.rival_separation.proofs.rival.next_edge.Given as goal
 
 abbrev pub invariant-loop-number : goal.invariant-loop-number
-invariant-loop-number l = All (λ e. is_tight l.graph l.point l.room e ≡ true → get_or l.room.marks e true ≡ false → ⊥) (take l.number-index (edges_out l.graph l.vertex))
+invariant-loop-number l = All (λ e. is_tight l.graph l.point l.room e ≡ true → get_or l.room.marks e true ≡ false → ⊥)
+    (take l.number-index (edges_out l.graph l.vertex))

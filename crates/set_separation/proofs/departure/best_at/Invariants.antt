@@ -8,4 +8,6 @@ use Rattle.set_separation.proofs.departure.best_at.Given as goal
 
 abbrev pub invariant-loop-number : goal.invariant-loop-number
 invariant-loop-number l =
-    IsBestOf (Departs l.graph l.point (ends_of l.request) l.room l.tree l.costs) (SeenBut l.place (drop l.number-index (edges_out l.graph (vertex_of l.graph (ends_of l.request) l.tree l.place)))) l.found
+    IsBestOf (Departs l.graph l.point (ends_of l.request) l.room l.tree l.costs)
+    (SeenBut l.place (drop l.number-index
+    (edges_out l.graph (vertex_of l.graph (ends_of l.request) l.tree l.place)))) l.found

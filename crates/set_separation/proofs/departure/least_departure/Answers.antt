@@ -6,4 +6,7 @@ use Rattle.set_separation.proofs.departure.least_departure.Goals as goal
 
 pub returns : goal.returns
 returns c =
-    best_of_fewer (Departs c.args.graph.now c.args.point.now (ends_of c.args.request.now) c.args.room.now c.args.tree.now c.args.costs.now) (λ k e. k < c.loop-place.place) (λ k e. k ≤ length c.args.tree.now) c.loop-place.best c.loop-place.invariant (λ k e total seen departs. omega (arith, c.loop-place-test.false, ap length c.steps.ensures))
+    best_of_fewer (Departs c.args.graph.now c.args.point.now (ends_of c.args.request.now) c.args.room.now
+    c.args.tree.now c.args.costs.now) (λ k e. k < c.loop-place.place) (λ k e. k ≤ length c.args.tree.now)
+    c.loop-place.best c.loop-place.invariant
+    (λ k e total seen departs. omega (arith, c.loop-place-test.false, ap length c.steps.ensures))

@@ -14,7 +14,8 @@ edge_of-requires c =
     let g = c.args.graph.now in
     let i = c.loop-i.i in
     let within : i < length c.args.tree.now = subst (λ (steps : List Step). i < length steps) c.steps-step-items.ensures c.loop-i-test.true in
-    subst (λ (steps : List Step). (step_at steps i).edge < length g.edges) (sym c.steps-step-items.ensures) (step_known g (ends_of c.args.request.now) c.requires.tree.0 c.args.tree.now c.requires.tree.1 i within)
+    subst (λ (steps : List Step). (step_at steps i).edge < length g.edges) (sym c.steps-step-items.ensures)
+    (step_known g (ends_of c.args.request.now) c.requires.tree.0 c.args.tree.now c.requires.tree.1 i within)
 
 pub overflow_add-costs : goal.overflow_add-costs
 overflow_add-costs c =
@@ -27,11 +28,14 @@ overflow_add-costs c =
     let within : i < length steps = subst (λ (ss : List Step). i < length ss) c.steps-step-items.ensures c.loop-i-test.true in
     let tree = c.requires.tree.1 in
     let low = tree.grown.before i within in
-    let near = place_below g ends c.requires.tree.0 steps tree p c.loop-i.costs i (omega arith) c.loop-i.invariant.costs c.keeps_conditions.ensures.fits c.keeps_conditions.ensures.metrics c.requires.fits s.place low in
+    let near = place_below g ends c.requires.tree.0 steps tree p c.loop-i.costs i (omega arith) c.loop-i.invariant.costs
+    c.keeps_conditions.ensures.fits c.keeps_conditions.ensures.metrics c.requires.fits s.place low in
     let known = step_known g ends c.requires.tree.0 steps tree i within in
     let price : c.price_of.result ≡ price_at p (edge_at g s.edge).price =
-    c.price_of.ensures ∙ ap (λ (edge : Edge). price_at p edge.price) c.edge_of.ensures ∙ ap (λ (ss : List Step). price_at p (edge_at g (step_at ss i).edge).price) c.steps-step-items.ensures in
-    let most = price-le g p (edge_at g s.edge).price c.requires.fits (c.keeps_conditions.ensures.metrics s.edge no_edge known) (c.requires.fits.priced s.edge no_edge known) in
+    c.price_of.ensures ∙ ap (λ (edge : Edge). price_at p edge.price) c.edge_of.ensures
+    ∙ ap (λ (ss : List Step). price_at p (edge_at g (step_at ss i).edge).price) c.steps-step-items.ensures in
+    let most = price-le g p (edge_at g s.edge).price c.requires.fits
+    (c.keeps_conditions.ensures.metrics s.edge no_edge known) (c.requires.fits.priced s.edge no_edge known) in
     let here = ap (λ (ss : List Step). get_or c.loop-i.costs (step_at ss i).place 0) c.steps-step-items.ensures in
     let scale = c.requires.fits.scale_below in
     omega arith

@@ -16,7 +16,8 @@ add_to_path-requires n c =
     let before = (step_at c.args.tree.now i).place in
     let short = place_short c.args.graph.now (ends_of c.args.request.now) wanted c.args.tree.now tree c.keeps_conditions.ensures.fits before (omega arith) in
     let room = c.put_prefix.ensures wanted wanted tree.grown in
-    let path = ap (λ (r : Findings). length r.path) room ∙ ap (λ (ss : List Step). length (prefix_at tree.grown.prefixes (step_at ss i).place)) c.steps.ensures in
+    let path = ap (λ (r : Findings). length r.path) room
+    ∙ ap (λ (ss : List Step). length (prefix_at tree.grown.prefixes (step_at ss i).place)) c.steps.ensures in
     let costs = ap (λ (r : Findings). length r.costs) room in
     let count = c.requires.room.vertices in
     omega arith
@@ -32,4 +33,5 @@ returns n c = λ wanted done tree.
     c.add_to_path.ensures
     ∙ ap (λ (r : Findings). let moved : Findings = record r { path = r.path ++ e ∷ [] } in moved) (c.put_prefix.ensures wanted done tree)
     ∙ ap (λ (es : List ℕ). let moved : Findings = record old { path = es } in moved)
-    (ap (λ (s : List Step). prefix_at tree.prefixes (step_at s i).place ++ (step_at s i).edge ∷ []) c.steps.ensures ∙ sym (tree.grown i within) ∙ ap (λ (k : ℕ). prefix_at tree.prefixes k) here)
+    (ap (λ (s : List Step). prefix_at tree.prefixes (step_at s i).place ++ (step_at s i).edge ∷ []) c.steps.ensures
+    ∙ sym (tree.grown i within) ∙ ap (λ (k : ℕ). prefix_at tree.prefixes k) here)

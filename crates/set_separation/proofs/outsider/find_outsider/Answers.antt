@@ -23,7 +23,9 @@ returns-in-None-clause-outsider c = λ wanted tied.
     let p = c.args.point.now in
     let limit = c.path_cost.result + p.scale in
     let found : IsFound g p (ends_of c.args.request.now) limit c.distances_within.new.self = search rules in
-    outsiders_above g p (ends_of c.args.request.now) limit c.distances_within.new.self wanted c.args.tree.now c.put_place_costs.new.costs c.keeps_conditions.ensures.fits found tied.tree c.put_place_costs.ensures.costs (cost g p c.args.request.now.path.edges + p.scale)
+    outsiders_above g p (ends_of c.args.request.now) limit c.distances_within.new.self wanted c.args.tree.now
+    c.put_place_costs.new.costs c.keeps_conditions.ensures.fits found tied.tree c.put_place_costs.ensures.costs
+    (cost g p c.args.request.now.path.edges + p.scale)
     (let value = c.path_cost.ensures.value in omega arith)
     (λ place e total departs. absurd (c.in-None.ensures place e total departs.within departs))
 
@@ -33,6 +35,9 @@ returns-then-limit-best-clause-outsider c = λ wanted tied.
     let p = c.args.point.now in
     let limit = c.path_cost.result + p.scale in
     let found : IsFound g p (ends_of c.args.request.now) limit c.distances_within.new.self = search rules in
-    outsiders_above g p (ends_of c.args.request.now) limit c.distances_within.new.self wanted c.args.tree.now c.put_place_costs.new.costs c.keeps_conditions.ensures.fits found tied.tree c.put_place_costs.ensures.costs (cost g p c.args.request.now.path.edges + p.scale)
+    outsiders_above g p (ends_of c.args.request.now) limit c.distances_within.new.self wanted c.args.tree.now
+    c.put_place_costs.new.costs c.keeps_conditions.ensures.fits found tied.tree c.put_place_costs.ensures.costs
+    (cost g p c.args.request.now.path.edges + p.scale)
     (let value = c.path_cost.ensures.value in omega arith)
-    (λ place e total departs. let least = c.in-Some.ensures.1 place e total departs.within departs in let value = c.path_cost.ensures.value in let more = c.if-limit-best.true in omega arith)
+    (λ place e total departs. let least = c.in-Some.ensures.1 place e total departs.within departs in let value =
+    c.path_cost.ensures.value in let more = c.if-limit-best.true in omega arith)

@@ -21,13 +21,17 @@ loop-entry-init c =
     let within : t < n = let target = c.requires.target in let count = c.requires.count in omega arith in
     record {
       front = subst (λ (d : List ℕ). IsFront g p (set d t 0) c.fill-2.new.self.items) (sym numbers)
-          (subst (λ (settled : List Bool). IsFront g p (set (replicate n limit) t 0) settled) (sym marks) (front_begun g p t limit n m c.requires.limit c.requires.count c.requires.marks));
+          (subst (λ (settled : List Bool). IsFront g p (set (replicate n limit) t 0) settled) (sym marks)
+          (front_begun g p t limit n m c.requires.limit c.requires.count c.requires.marks));
       places = let places = ap (λ w. w.places) c.clear.ensures in let before = c.requires.places in let more = c.push.ensures.places in omega arith;
-      room = let count = length_permutation (entry_of 0 t ∷ []) c.push.new.self.entries alone in let most = open-le c.args.graph.now c.fill-2.new.self.items in omega arith;
+      room = let count = length_permutation (entry_of 0 t ∷ []) c.push.new.self.entries alone in let most =
+          open-le c.args.graph.now c.fill-2.new.self.items in omega arith;
       underway = (
         0,
         subst (λ (d : List ℕ). Underway g p c.args.removal.now t limit 0 [] (set d t 0) c.fill-2.new.self.items c.push.new.self.entries) (sym numbers)
-            (subst (λ (settled : List Bool). Underway g p c.args.removal.now t limit 0 [] (set (replicate n limit) t 0) settled c.push.new.self.entries) (sym marks)
+            (subst (λ (settled : List Bool).
+            Underway g p c.args.removal.now t limit 0 [] (set (replicate n limit) t 0) settled
+            c.push.new.self.entries) (sym marks)
             (begun g p c.args.removal.now t limit n m c.push.new.self.entries within alone)),
       );
     }
@@ -36,7 +40,9 @@ pub take_in-requires-clause-vertex : goal.take_in-requires-clause-vertex
 take_in-requires-clause-vertex c =
     let under = c.loop-entry.invariant.underway.1 in
     let may = All-head (MayWait c.args.limit c.loop-entry.invariant.underway.0 c.loop-entry.front.numbers.items) c.in-Some.entry c.pop.new.self.entries
-    (All-permutation (MayWait c.args.limit c.loop-entry.invariant.underway.0 c.loop-entry.front.numbers.items) c.loop-entry.front.waiting.entries (c.in-Some.entry ∷ c.pop.new.self.entries) c.in-Some.ensures.entry under.entries) in
+    (All-permutation (MayWait c.args.limit c.loop-entry.invariant.underway.0 c.loop-entry.front.numbers.items)
+    c.loop-entry.front.waiting.entries (c.in-Some.entry ∷ c.pop.new.self.entries) c.in-Some.ensures.entry
+    under.entries) in
     let known = may.known in
     let count = c.loop-entry.invariant.front.count in
     omega arith
@@ -62,5 +68,7 @@ loop-entry-preserved c =
       front = c.take_in.ensures.front;
       places = let before = c.loop-entry.invariant.places in let same = c.in-Some.ensures.places in let after = c.take_in.ensures.places in omega arith;
       room = let before = c.loop-entry.invariant.room in let fewer = c.take_in.ensures.fewer in omega arith;
-      underway = c.take_in.ensures.underway c.args.target c.args.limit c.loop-entry.invariant.underway.0 c.loop-entry.front.waiting.entries c.loop-entry.invariant.underway.1 c.in-Some.ensures.entry c.in-Some.ensures.none;
+      underway = c.take_in.ensures.underway c.args.target c.args.limit c.loop-entry.invariant.underway.0
+          c.loop-entry.front.waiting.entries c.loop-entry.invariant.underway.1 c.in-Some.ensures.entry
+          c.in-Some.ensures.none;
     }

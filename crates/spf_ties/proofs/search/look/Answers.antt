@@ -12,7 +12,8 @@ use Rattle.spf_ties.proofs.search.look.Goals as goal
 
 pub returns-then-not-leaves-clause-underway : goal.returns-then-not-leaves-clause-underway
 returns-then-not-leaves-clause-underway c = λ t limit least todo under.
-    kept c.args.graph.now c.args.point.now c.args.removal.now t limit least c.args.number todo c.args.front.now.numbers.items c.args.front.now.settled.items c.args.front.now.waiting.entries under
+    kept c.args.graph.now c.args.point.now c.args.removal.now t limit least c.args.number todo
+    c.args.front.now.numbers.items c.args.front.now.settled.items c.args.front.now.waiting.entries under
     (λ left. let kept_edge : c.leaves.result ≡ true = c.leaves.ensures.1 left in let gone : c.leaves.result ≡ false = search rules in absurd (cc))
 
 pub returns-then-distance-index-clause-one : goal.returns-then-distance-index-clause-one
@@ -26,21 +27,30 @@ returns-then-distance-index-clause-underway c = λ t limit least todo under.
     let d = c.args.front.now.numbers.items in
     let from : c.edge_of-edge.result.from ≡ (edge_at g e).from = ap (λ (edge : Edge). edge.from) c.edge_of-edge.ensures in
     let to : get_or d c.edge_of-edge.result.to 0 ≡ get_or d (edge_at g e).to 0 = ap (λ (edge : Edge). get_or d edge.to 0) c.edge_of-edge.ensures in
-    let price : c.narrow_price.result ≡ price_at p (edge_at g e).price = c.narrow_price.ensures ∙ ap (λ (edge : Edge). price_at p edge.price) c.edge_of-edge.ensures in
+    let price : c.narrow_price.result ≡ price_at p (edge_at g e).price = c.narrow_price.ensures
+    ∙ ap (λ (edge : Edge). price_at p edge.price) c.edge_of-edge.ensures in
     let to_within : c.edge_of-edge.result.to < length d = search rules in
     let from_within : c.edge_of-edge.result.from < length d = search rules in
-    let number : c.index.result.now ≡ get_or d c.edge_of-edge.result.to 0 = c.index.ensures ∙ get_or_default d c.edge_of-edge.result.to c.index.result.now 0 to_within in
+    let number : c.index.result.now ≡ get_or d c.edge_of-edge.result.to 0 = c.index.ensures
+    ∙ get_or_default d c.edge_of-edge.result.to c.index.result.now 0 to_within in
     let x : c.narrow_price.result + c.index.result.now ≡ through p (edge_at g e) d = omega arith in
     let left : Lacks c.args.removal.now e = search rules in
     let start : get_or d c.edge_of-edge.result.from 0 ≡ get_or d (edge_at g e).from 0 = ap (λ (edge : Edge). get_or d edge.from 0) c.edge_of-edge.ensures in
-    let old : c.index-2.result.now ≡ get_or d c.edge_of-edge.result.from 0 = c.index-2.ensures ∙ get_or_default d c.edge_of-edge.result.from c.index-2.result.now 0 from_within in
+    let old : c.index-2.result.now ≡ get_or d c.edge_of-edge.result.from 0 = c.index-2.ensures
+    ∙ get_or_default d c.edge_of-edge.result.from c.index-2.result.now 0 from_within in
     let less : through p (edge_at g e) d < get_or d (edge_at g e).from 0 = omega (arith, c.if-distance-index.true) in
     let moved : IsPermutation (entry_of (through p (edge_at g e) d) (edge_at g e).from ∷ c.args.front.now.waiting.entries) c.push.new.self.entries =
     subst (λ (i : ℕ). IsPermutation (entry_of (through p (edge_at g e) d) i ∷ c.args.front.now.waiting.entries) c.push.new.self.entries) from
-    (subst (λ (y : ℕ). IsPermutation (entry_of y c.edge_of-edge.result.from ∷ c.args.front.now.waiting.entries) c.push.new.self.entries) x c.push.ensures.entries) in
-    subst (λ (i : ℕ). Underway g p c.args.removal.now t limit least todo (set d i (c.narrow_price.result + c.index.result.now)) c.args.front.now.settled.items c.push.new.self.entries) (sym from)
-    (subst (λ (y : ℕ). Underway g p c.args.removal.now t limit least todo (set d (edge_at g e).from y) c.args.front.now.settled.items c.push.new.self.entries) (sym x)
-    (lowered g p c.args.removal.now t limit least e todo d c.args.front.now.settled.items c.args.front.now.waiting.entries c.push.new.self.entries c.keeps_conditions.ensures.fits c.requires.front under left less moved))
+    (subst (λ (y : ℕ). IsPermutation (entry_of y c.edge_of-edge.result.from ∷ c.args.front.now.waiting.entries)
+    c.push.new.self.entries) x c.push.ensures.entries) in
+    subst (λ (i : ℕ). Underway g p c.args.removal.now t limit least todo
+    (set d i (c.narrow_price.result + c.index.result.now)) c.args.front.now.settled.items
+    c.push.new.self.entries) (sym from)
+    (subst (λ (y : ℕ). Underway g p c.args.removal.now t limit least todo (set d (edge_at g e).from y)
+    c.args.front.now.settled.items c.push.new.self.entries) (sym x)
+    (lowered g p c.args.removal.now t limit least e todo d c.args.front.now.settled.items
+    c.args.front.now.waiting.entries c.push.new.self.entries c.keeps_conditions.ensures.fits c.requires.front
+    under left less moved))
 
 pub returns-else-distance-index-clause-underway : goal.returns-else-distance-index-clause-underway
 returns-else-distance-index-clause-underway c = λ t limit least todo under.
@@ -50,9 +60,13 @@ returns-else-distance-index-clause-underway c = λ t limit least todo under.
     let d = c.args.front.now.numbers.items in
     let to : get_or d c.edge_of-edge.result.to 0 ≡ get_or d (edge_at g e).to 0 = ap (λ (edge : Edge). get_or d edge.to 0) c.edge_of-edge.ensures in
     let from : get_or d c.edge_of-edge.result.from 0 ≡ get_or d (edge_at g e).from 0 = ap (λ (edge : Edge). get_or d edge.from 0) c.edge_of-edge.ensures in
-    let price : c.narrow_price.result ≡ price_at p (edge_at g e).price = c.narrow_price.ensures ∙ ap (λ (edge : Edge). price_at p edge.price) c.edge_of-edge.ensures in
+    let price : c.narrow_price.result ≡ price_at p (edge_at g e).price = c.narrow_price.ensures
+    ∙ ap (λ (edge : Edge). price_at p edge.price) c.edge_of-edge.ensures in
     let to_within : c.edge_of-edge.result.to < length d = search rules in
     let from_within : c.edge_of-edge.result.from < length d = search rules in
-    let number : c.index.result.now ≡ get_or d c.edge_of-edge.result.to 0 = c.index.ensures ∙ get_or_default d c.edge_of-edge.result.to c.index.result.now 0 to_within in
-    let old : c.index-2.result.now ≡ get_or d c.edge_of-edge.result.from 0 = c.index-2.ensures ∙ get_or_default d c.edge_of-edge.result.from c.index-2.result.now 0 from_within in
-    kept g p c.args.removal.now t limit least e todo d c.args.front.now.settled.items c.args.front.now.waiting.entries under (λ left. omega (arith, c.if-distance-index.false))
+    let number : c.index.result.now ≡ get_or d c.edge_of-edge.result.to 0 = c.index.ensures
+    ∙ get_or_default d c.edge_of-edge.result.to c.index.result.now 0 to_within in
+    let old : c.index-2.result.now ≡ get_or d c.edge_of-edge.result.from 0 = c.index-2.ensures
+    ∙ get_or_default d c.edge_of-edge.result.from c.index-2.result.now 0 from_within in
+    kept g p c.args.removal.now t limit least e todo d c.args.front.now.settled.items c.args.front.now.waiting.entries
+    under (λ left. omega (arith, c.if-distance-index.false))

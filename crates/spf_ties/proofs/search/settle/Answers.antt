@@ -8,7 +8,8 @@ use Rattle.spf_ties.proofs.search.settle.Goals as goal
 
 pub look-requires-clause-known : goal.look-requires-clause-known
 look-requires-clause-known c =
-    subst (λ (es : List ℕ). All (λ e. e < length c.args.graph.now.edges) es) (sym c.edges_in-number-items.ensures) (in_known c.args.graph.now c.args.vertex) c.loop-number.number-index 0 c.loop-number-test.true
+    subst (λ (es : List ℕ). All (λ e. e < length c.args.graph.now.edges) es) (sym c.edges_in-number-items.ensures)
+    (in_known c.args.graph.now c.args.vertex) c.loop-number.number-index 0 c.loop-number-test.true
 
 pub look-requires-clause-room : goal.look-requires-clause-room
 look-requires-clause-room c =
@@ -24,14 +25,17 @@ loop-number-preserved c =
     let i = c.loop-number.number-index in
     let here : i < length es = subst (λ (xs : List ℕ). i < length xs) c.edges_in-number-items.ensures c.loop-number-test.true in
     let split : drop i es ≡ get_or c.edges_in-number-items.result.now i 0 ∷ drop (i + 1) es =
-    drop-cons es i 0 here ∙ ap (λ (n : ℕ). get_or es i 0 ∷ drop n es) (sym (add-one i)) ∙ ap (λ (xs : List ℕ). get_or xs i 0 ∷ drop (i + 1) es) (sym c.edges_in-number-items.ensures) in
+    drop-cons es i 0 here ∙ ap (λ (n : ℕ). get_or es i 0 ∷ drop n es) (sym (add-one i))
+    ∙ ap (λ (xs : List ℕ). get_or xs i 0 ∷ drop (i + 1) es) (sym c.edges_in-number-items.ensures) in
     record {
       front = c.look.ensures.front;
       settled = c.look.ensures.settled ∙ c.loop-number.invariant.settled;
       places = let before = c.loop-number.invariant.places in let after = c.look.ensures.places in omega arith;
       count = let before = c.loop-number.invariant.count in let after = c.look.ensures.one in omega arith;
       underway = λ t limit least under. c.look.ensures.underway t limit least (drop (i + 1) es)
-          (subst (λ (xs : List ℕ). Underway g c.args.point.now c.args.removal.now t limit least xs c.loop-number.front.numbers.items c.loop-number.front.settled.items c.loop-number.front.waiting.entries) split
+          (subst (λ (xs : List ℕ). Underway g c.args.point.now c.args.removal.now t limit least xs
+          c.loop-number.front.numbers.items c.loop-number.front.settled.items
+          c.loop-number.front.waiting.entries) split
           (c.loop-number.invariant.underway t limit least under));
     }
 
@@ -48,6 +52,9 @@ returns-clause-fewer c =
 pub returns-clause-underway : goal.returns-clause-underway
 returns-clause-underway c = λ t limit least under.
     let es = edges_in c.args.graph.now c.args.vertex in
-    let past : length es ≤ c.loop-number.number-index = subst (λ (xs : List ℕ). length xs ≤ c.loop-number.number-index) c.edges_in-number-items.ensures c.loop-number-test.false in
-    subst (λ (xs : List ℕ). Underway c.args.graph.now c.args.point.now c.args.removal.now t limit least xs c.loop-number.front.numbers.items c.loop-number.front.settled.items c.loop-number.front.waiting.entries)
+    let past : length es ≤ c.loop-number.number-index =
+    subst (λ (xs : List ℕ). length xs ≤ c.loop-number.number-index) c.edges_in-number-items.ensures
+    c.loop-number-test.false in
+    subst (λ (xs : List ℕ). Underway c.args.graph.now c.args.point.now c.args.removal.now t limit least xs
+    c.loop-number.front.numbers.items c.loop-number.front.settled.items c.loop-number.front.waiting.entries)
     (drop_of_length-le es past) (c.loop-number.invariant.underway t limit least under)

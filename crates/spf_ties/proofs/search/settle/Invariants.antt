@@ -9,5 +9,9 @@ invariant-loop-number l = record {
   settled : l.front.settled.items ≡ l.initial.front.settled.items;
   places : l.initial.front.waiting.places ≤ l.front.waiting.places;
   count : length l.front.waiting.entries ≤ length l.initial.front.waiting.entries + l.number-index;
-  underway : (t limit least : ℕ) → Underway l.graph l.point l.removal t limit least (edges_in l.graph l.vertex) l.initial.front.numbers.items l.initial.front.settled.items l.initial.front.waiting.entries → Underway l.graph l.point l.removal t limit least (drop l.number-index (edges_in l.graph l.vertex)) l.front.numbers.items l.front.settled.items l.front.waiting.entries;
+  underway : (t limit least : ℕ) →
+      Underway l.graph l.point l.removal t limit least (edges_in l.graph l.vertex) l.initial.front.numbers.items
+      l.initial.front.settled.items l.initial.front.waiting.entries →
+      Underway l.graph l.point l.removal t limit least (drop l.number-index (edges_in l.graph l.vertex))
+      l.front.numbers.items l.front.settled.items l.front.waiting.entries;
 }

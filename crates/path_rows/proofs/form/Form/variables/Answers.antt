@@ -1,8 +1,8 @@
 use Rattle.std.proofs.Common.{◌∙◌, sym, ap, length}
 use Rattle.std.proofs.lemmas.List.{length-map}
 use Rattle.cost_base.specs.Lists.{numbers_from}
+use Rattle.cost_base.proofs.ListLemmas.{length-numbers_from}
 use Rattle.path_rows.specs.Forms.{Form, coefficient_of}
-use Rattle.path_rows.proofs.Tallies.{length-numbers_from}
 use Rattle.path_rows.proofs.form.Form.variables.Goals as goal
 
 pub returns : goal.returns

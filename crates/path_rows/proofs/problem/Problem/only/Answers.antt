@@ -9,7 +9,9 @@ use Rattle.path_rows.proofs.problem.Problem.only.Goals as goal
 pub invariant_of-result : goal.invariant_of-result
 invariant_of-result c =
     let p = the_view c.self.inside in
-    let made = same_problem c.in_ok-graph.graph c.self.inside.graph c.from_items.result c.self.inside.vars c.in_ok-low.low c.self.inside.low c.in_ok-high.high c.self.inside.high c.from_items-2.result (map (request_at c.self.inside.paths) c.args.members.now)
+    let made = same_problem c.in_ok-graph.graph c.self.inside.graph c.from_items.result c.self.inside.vars
+    c.in_ok-low.low c.self.inside.low c.in_ok-high.high c.self.inside.high c.from_items-2.result
+    (map (request_at c.self.inside.paths) c.args.members.now)
     c.in_ok-graph.ensures
     (c.from_items.ensures ∙ c.in_ok-vars.ensures ∙ c.as_slice-2.ensures)
     (c.in_ok-low.ensures ∙ c.as_slice-3.ensures)

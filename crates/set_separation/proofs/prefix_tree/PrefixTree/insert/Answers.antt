@@ -9,9 +9,12 @@ loop-edge-init c = λ wanted done listed tree. underway_begins wanted done c.arg
 
 pub loop-edge-preserved : goal.loop-edge-preserved
 loop-edge-preserved c = λ wanted done listed tree.
-    underway_more wanted done c.args.edges.now c.loop-edge.edge-index c.loop-edge.place c.in_ok-place.place _ c.loop-edge.self c.go.new.self listed c.loop-edge-test.true refl (c.loop-edge.invariant wanted done listed tree) c.in_ok-place.ensures
+    underway_more wanted done c.args.edges.now c.loop-edge.edge-index c.loop-edge.place c.in_ok-place.place _
+    c.loop-edge.self c.go.new.self listed c.loop-edge-test.true refl (c.loop-edge.invariant wanted done listed tree)
+    c.in_ok-place.ensures
 
 pub returns : goal.returns
 returns c = λ wanted done listed tree.
     subst (λ (es : List ℕ). IsGrown wanted (done ++ es ∷ []) c.loop-edge.self) (take_all c.loop-edge.edge-index c.args.edges.now c.loop-edge-test.false)
-    (underway_ends wanted done (take c.loop-edge.edge-index c.args.edges.now) c.loop-edge.place c.loop-edge.self (c.loop-edge.invariant wanted done listed tree))
+    (underway_ends wanted done (take c.loop-edge.edge-index c.args.edges.now) c.loop-edge.place c.loop-edge.self
+    (c.loop-edge.invariant wanted done listed tree))

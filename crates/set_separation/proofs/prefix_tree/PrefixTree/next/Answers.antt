@@ -8,4 +8,9 @@ pub overflow_add-result : goal.overflow_add-result
 overflow_add-result c = let within = c.in-Some.ensures.within in let few = c.len-few.ensures.small in let count = c.len-few.ensures.len in omega arith
 
 pub returns-in-Some : goal.returns-in-Some
-returns-in-Some c = (c.in-Some.index, subst (λ (steps : List Step). IsStep steps c.args.place c.args.edge c.in-Some.index) c.self.view_is (step_found c.self.inside.steps.keys c.args.place c.args.edge c.in-Some.index (sym c.in-Some.ensures.index)), refl)
+returns-in-Some c = (
+  c.in-Some.index,
+  subst (λ (steps : List Step). IsStep steps c.args.place c.args.edge c.in-Some.index) c.self.view_is
+      (step_found c.self.inside.steps.keys c.args.place c.args.edge c.in-Some.index (sym c.in-Some.ensures.index)),
+  refl,
+)

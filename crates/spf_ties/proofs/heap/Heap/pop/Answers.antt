@@ -19,7 +19,9 @@ returns-clause-entry c = elim c.match-pop.branch [
   | in-Some w ↦ rw w.result-is
       (subst (λ (old : List Entry). IsPermutation old (w.in-Some.field-0.0 ∷ map (λ r. r.0) (heap_items c.pop.new.self))) (ap (λ q. q.entries) c.self.view_is)
       (IsPermutation-map (λ r. r.0) (heap_items c.self.inside.entries) (w.in-Some.field-0 ∷ heap_items c.pop.new.self) w.in-Some.ensures.permutation))
-  | in-None w ↦ rw w.result-is (let none = none_held c.pop.new.self (let same = w.in-None.ensures.unchanged.1 in let empty = w.in-None.ensures.none in omega arith) in ap (map (λ r. r.0)) none)
+  | in-None w ↦ rw w.result-is (let none =
+      none_held c.pop.new.self (let same = w.in-None.ensures.unchanged.1 in let empty = w.in-None.ensures.none in
+      omega arith) in ap (map (λ r. r.0)) none)
 ]
 
 pub returns-clause-none : goal.returns-clause-none
@@ -27,5 +29,6 @@ returns-clause-none c = elim c.match-pop.branch [
   | in-Some w ↦ rw w.result-is
       (subst (λ (old : List Entry). All (λ other. w.in-Some.field-0.0.distance ≤ other.distance) old) (ap (λ q. q.entries) c.self.view_is)
       (nearest w.in-Some.field-0 (heap_items c.self.inside.entries) (w.in-Some.ensures.heap_order c.self.invariant).1))
-  | in-None w ↦ rw w.result-is (let none = none_held c.self.inside.entries w.in-None.ensures.none in sym (ap (λ q. q.entries) c.self.view_is) ∙ ap (map (λ r. r.0)) none)
+  | in-None w ↦ rw w.result-is (let none = none_held c.self.inside.entries w.in-None.ensures.none in
+      sym (ap (λ q. q.entries) c.self.view_is) ∙ ap (map (λ r. r.0)) none)
 ]

@@ -14,7 +14,10 @@ succeeded (Err e) P ok on = absurd (search rules)
 pub returns-clause-entries : goal.returns-clause-entries
 returns-clause-entries c =
     let free : length c.args.self.now.entries < c.args.self.now.places = c.requires in
-    let short : heap_len c.self.inside.entries < heap_capacity c.self.inside.entries = let held = length-map (heap_items c.self.inside.entries) (λ r. r.0) in let view = ap (λ q. length q.entries) c.self.view_is in let places = ap (λ q. q.places) c.self.view_is in let len = c.self.inside.entries.data.ok.0 in omega arith in
+    let short : heap_len c.self.inside.entries < heap_capacity c.self.inside.entries = let held =
+    length-map (heap_items c.self.inside.entries) (λ r. r.0) in let view =
+    ap (λ q. length q.entries) c.self.view_is in let places = ap (λ q. q.places) c.self.view_is in let len =
+    c.self.inside.entries.data.ok.0 in omega arith in
     let done = succeeded c.push.result _ (c.push.ensures.succeeds short) c.push.ensures.permutation in
     let moved = IsPermutation-map (λ r. r.0) _ _ done in
     subst (λ (old : List Entry). IsPermutation (c.args.entry ∷ old) (map (λ r. r.0) (heap_items c.push.new.self))) (ap (λ w. w.entries) c.self.view_is) moved

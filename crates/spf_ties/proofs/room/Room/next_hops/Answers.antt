@@ -1,5 +1,5 @@
 use Rattle.std.proofs.Common.{◌<◌, sym, subst, ℕ, List, All, length}
-use Rattle.area_graph.proofs.Numbers.{out_known}
+use Rattle.area_graph.proofs.ListedEdges.{out_known}
 use Rattle.spf_ties.proofs.room.Room.next_hops.Goals as goal
 
 pub invariant_of-result : goal.invariant_of-result

@@ -11,7 +11,8 @@ abbrev pub IsTold : {A : Type 0} → List A → List A → ℕ → (A → A → 
 IsTold whole now i R = (others : List _) → AllZip R (drop i now) others → AllZip R whole (take i now ++ others)
 
 -- one more is told
-pub told_more : {A : Type 0} (R : A → A → Type 0) (whole now : List A) (i : ℕ) (d e : A) → i < length now → R (get_or now i d) e → IsTold whole now i R → IsTold whole (set now i e) (i + 1) R
+pub told_more : {A : Type 0} (R : A → A → Type 0) (whole now : List A) (i : ℕ) (d e : A) → i < length now →
+    R (get_or now i d) e → IsTold whole now i R → IsTold whole (set now i e) (i + 1) R
 told_more R whole now i d e h r before others rest =
     let P : List _ → Type 0 = λ l. AllZip R whole l in
     let Q : List _ → Type 0 = λ l. AllZip R l (e ∷ others) in
@@ -21,7 +22,8 @@ told_more R whole now i d e h r before others rest =
     rw (add-one, take-suc-set now i e h, append_assoc) (before (e ∷ others) here)
 
 -- all are told
-pub told_all : {A : Type 0} (R : A → A → Type 0) (whole all now beyond : List A) (i n : ℕ) → whole ≡ all → length now ≤ i → n ≡ length now → IsTold whole now i R → AllZip R all (take n (now ++ beyond))
+pub told_all : {A : Type 0} (R : A → A → Type 0) (whole all now beyond : List A) (i n : ℕ) → whole ≡ all →
+    length now ≤ i → n ≡ length now → IsTold whole now i R → AllZip R all (take n (now ++ beyond))
 told_all R whole all now beyond i n same h long before =
     let P : List _ → Type 0 = λ l. AllZip R whole l in
     let Q : List _ → Type 0 = λ l. AllZip R l [] in
@@ -33,10 +35,14 @@ told_all R whole all now beyond i n same h long before =
 
 -- what is chosen of the advisors that are still there is chosen of the whole
 abbrev pub IsAsked : {A : Type 0} → List A → List A → ℕ → (A → ℕ) → (A → A → Type 0) → Type 0
-IsAsked whole now choices would Asked = (answer : ℕ) (left : List _) → IsChosen would Asked choices now answer left → IsChosen would Asked choices whole answer left
+IsAsked whole now choices would Asked = (answer : ℕ) (left : List _) → IsChosen would Asked choices now answer left →
+    IsChosen would Asked choices whole answer left
 
 -- the first one is out of range, and is removed
-pub chosen_later : {A : Type 0} (would : A → ℕ) (Asked : A → A → Type 0) (choices : ℕ) (now removed : List A) (b e : A) (picked : ℕ) → 0 < length now → b ≡ get_or now 0 b → picked ≡ would b → choices ≤ picked → removed ≡ remove (set now 0 e) 0 → (answer : ℕ) (left : List A) → IsChosen would Asked choices removed answer left → IsChosen would Asked choices now answer left
+pub chosen_later : {A : Type 0} (would : A → ℕ) (Asked : A → A → Type 0) (choices : ℕ) (now removed : List A) (b e : A)
+    (picked : ℕ) → 0 < length now → b ≡ get_or now 0 b → picked ≡ would b → choices ≤ picked →
+    removed ≡ remove (set now 0 e) 0 → (answer : ℕ) (left : List A) → IsChosen would Asked choices removed answer left →
+    IsChosen would Asked choices now answer left
 chosen_later would Asked choices [] removed b e picked h is said out gone answer left rest = absurd (omega arith)
 chosen_later would Asked choices (a ∷ others) removed b e picked h is said out gone answer left rest =
     let P : List _ → Type 0 = λ l. IsChosen would Asked choices l answer left in
@@ -44,7 +50,9 @@ chosen_later would Asked choices (a ∷ others) removed b e picked h is said out
     (λ within. absurd (omega arith), λ _. subst P gone rest)
 
 -- the first one answers
-pub chosen_here : {A : Type 0} (would : A → ℕ) (Asked : A → A → Type 0) (choices : ℕ) (now : List A) (b e : A) (picked : ℕ) → 0 < length now → b ≡ get_or now 0 b → picked ≡ would b → picked < choices → Asked b e → IsChosen would Asked choices now picked (set now 0 e)
+pub chosen_here : {A : Type 0} (would : A → ℕ) (Asked : A → A → Type 0) (choices : ℕ) (now : List A) (b e : A)
+    (picked : ℕ) → 0 < length now → b ≡ get_or now 0 b → picked ≡ would b → picked < choices → Asked b e →
+    IsChosen would Asked choices now picked (set now 0 e)
 chosen_here would Asked choices [] b e picked h is said within asked = absurd (omega arith)
 chosen_here would Asked choices (a ∷ others) b e picked h is said within asked =
     let T : _ → Type 0 = λ x. Asked x e in

@@ -23,7 +23,9 @@ use Rattle.form_search.specs.Turns.{IsNextEntry, IsNextRow, IsSplitAt}
 use Rattle.form_search.proofs.CostPoints.{candidate_cuts, candidate_splits, refutes_one}
 
 -- the Refute by one form
-pub next_refute : (forms : List Form) (row : ℕ) (place : Place) (form : Form) (costs : CostBox) (entry : Entry) → row < length forms → form_at forms row ≡ form → costs ≡ place.box → greatest form costs <ℤ pos 0 → entry ≡ Refute ((row, 1) ∷ []) → IsNextRow forms place entry
+pub next_refute : (forms : List Form) (row : ℕ) (place : Place) (form : Form) (costs : CostBox) (entry : Entry) →
+    row < length forms → form_at forms row ≡ form → costs ≡ place.box → greatest form costs <ℤ pos 0 →
+    entry ≡ Refute ((row, 1) ∷ []) → IsNextRow forms place entry
 next_refute forms row place form costs entry row_in same there negative is =
     let here : greatest (form_at forms row) place.box <ℤ pos 0 =
     subst (λ (b : CostBox). greatest (form_at forms row) b <ℤ pos 0) there (subst (λ (f : Form). greatest f costs <ℤ pos 0) (sym same) negative) in
@@ -37,7 +39,8 @@ next_refute forms row place form costs entry row_in same there negative is =
     small (suc k) d k_in = absurd (omega arith)
 
 -- an entry by one form may come next, whatever is accepted
-pub row_next : (accepted : Point → Type 0) (top : ℕ) (forms : List Form) (place : Place) (entry : Entry) → IsNextRow forms place entry → IsNextEntry accepted top forms place entry
+pub row_next : (accepted : Point → Type 0) (top : ℕ) (forms : List Form) (place : Place) (entry : Entry) →
+    IsNextRow forms place entry → IsNextEntry accepted top forms place entry
 row_next accepted top forms place (Tighten var side value row) next = record { sound = next.0; earnest = next.1; short = (tt, tt); closed = refl }
 row_next accepted top forms place (Split var value) next = absurd next
 row_next accepted top forms place (Halve var value wide) next = absurd next
@@ -51,7 +54,9 @@ all_take P (suc n) (f ∷ forms) all zero d k_in = all 0 f (omega arith)
 all_take P (suc n) (f ∷ forms) all (suc k) d k_in = all_take P n forms (λ i e i_in. all (suc i) e (omega (arith, i_in))) k d (omega arith)
 
 -- a step that is too wide with the forms that a tableau holds is too wide with all forms
-pub printed_held : (top n : ℕ) (box : CostBox) (forms : List Form) (table : HeldTableau) (wide : WideAt) → IsHeld top n forms table → table.tableau.costs ≡ box → IsPrintedWide table.tableau.top table.tableau.costs table.tableau.rows wide → IsPrintedWide top box forms wide
+pub printed_held : (top n : ℕ) (box : CostBox) (forms : List Form) (table : HeldTableau) (wide : WideAt) →
+    IsHeld top n forms table → table.tableau.costs ≡ box →
+    IsPrintedWide table.tableau.top table.tableau.costs table.tableau.rows wide → IsPrintedWide top box forms wide
 printed_held top n box forms table wide is_held costs printed = record {
   too_wide =
       subst (λ (fs : List Form). IsTooWide top box fs wide) (take-append-drop is_held.taken forms)
@@ -65,7 +70,9 @@ printed_held top n box forms table wide is_held costs printed = record {
 }
 
 -- the Split at a candidate of the least accepted point
-pub next_split : (accepted : Point → Type 0) (top n : ℕ) (forms : List Form) (place : Place) (point : Point) (candidate : Candidate) → IsBox n place.box → IsLeast accepted place.box point → IsFractional place.box point candidate → IsNextEntry accepted top forms place (Split candidate.var candidate.floor)
+pub next_split : (accepted : Point → Type 0) (top n : ℕ) (forms : List Form) (place : Place) (point : Point)
+    (candidate : Candidate) → IsBox n place.box → IsLeast accepted place.box point →
+    IsFractional place.box point candidate → IsNextEntry accepted top forms place (Split candidate.var candidate.floor)
 next_split accepted top n forms place point candidate kept least fractional = record {
   sound = candidate_cuts n place.box point candidate kept least.inside fractional;
   earnest = candidate_splits accepted place.box point candidate least fractional;
@@ -73,7 +80,9 @@ next_split accepted top n forms place point candidate kept least fractional = re
   closed = refl;
 }
 
-pub next_split_at : (accepted : Point → Type 0) (top n : ℕ) (forms : List Form) (place : Place) (point : Point) (entry : Entry) → IsBox n place.box → IsLeast accepted place.box point → IsSplitAt place.box point entry → IsNextEntry accepted top forms place entry
+pub next_split_at : (accepted : Point → Type 0) (top n : ℕ) (forms : List Form) (place : Place) (point : Point)
+    (entry : Entry) → IsBox n place.box → IsLeast accepted place.box point → IsSplitAt place.box point entry →
+    IsNextEntry accepted top forms place entry
 next_split_at accepted top n forms place point entry kept least split =
     subst (IsNextEntry accepted top forms place) (sym split.same) (next_split accepted top n forms place point split.candidate kept least split.fractional)
 
@@ -89,7 +98,8 @@ small_parts parts small k d k_in =
     omega arith
 
 -- the Refute by multipliers
-pub next_refuted : (accepted : Point → Type 0) (top : ℕ) (forms : List Form) (place : Place) (parts : List (ℕ × ℕ)) → RefutesBy place.box forms parts → IsNextEntry accepted top forms place (Refute parts)
+pub next_refuted : (accepted : Point → Type 0) (top : ℕ) (forms : List Form) (place : Place) (parts : List (ℕ × ℕ)) →
+    RefutesBy place.box forms parts → IsNextEntry accepted top forms place (Refute parts)
 next_refuted accepted top forms place parts by = record {
   sound = by.refutes;
   earnest = tt;
@@ -98,7 +108,9 @@ next_refuted accepted top forms place parts by = record {
 }
 
 -- the Halve at a step that is too wide
-pub next_halve : (accepted : Point → Type 0) (top : ℕ) (forms : List Form) (place : Place) (var value : ℕ) (wide : WideAt) → CutsAt place.box var value → IsPrintedWide top place.box forms wide → IsNextEntry accepted top forms place (Halve var value wide)
+pub next_halve : (accepted : Point → Type 0) (top : ℕ) (forms : List Form) (place : Place) (var value : ℕ)
+    (wide : WideAt) → CutsAt place.box var value → IsPrintedWide top place.box forms wide →
+    IsNextEntry accepted top forms place (Halve var value wide)
 next_halve accepted top forms place var value wide cuts printed = record {
   sound = cuts;
   earnest = printed.too_wide;

@@ -24,13 +24,15 @@ least_same accepted other box point same least = record {
   least = λ q q_in q_is before. least.least q q_in ((same q).1 q_is) before;
 }
 
-pub least_of_same : (accepted other : Point → Type 0) (box : CostBox) (point : Point) → SameFor accepted other → IsLeastOf accepted box point → IsLeastOf other box point
+pub least_of_same : (accepted other : Point → Type 0) (box : CostBox) (point : Point) → SameFor accepted other →
+    IsLeastOf accepted box point → IsLeastOf other box point
 least_of_same accepted other box point same least = record { least = least_same accepted other box point same least.least; small = least.small }
 
 swapped : (accepted other : Point → Type 0) → SameFor accepted other → SameFor other accepted
 swapped accepted other same = λ x. ((same x).1, (same x).0)
 
-earnest_same : (accepted other : Point → Type 0) (top : ℕ) (forms : List Form) (place : Place) (entry : Entry) → SameFor accepted other → EarnestAt accepted top forms place entry → EarnestAt other top forms place entry
+earnest_same : (accepted other : Point → Type 0) (top : ℕ) (forms : List Form) (place : Place) (entry : Entry) →
+    SameFor accepted other → EarnestAt accepted top forms place entry → EarnestAt other top forms place entry
 earnest_same accepted other top forms place (Tighten var side value row) same earnest = earnest
 earnest_same accepted other top forms place (Split var value) same earnest = record {
   point = earnest.point;
@@ -43,7 +45,8 @@ earnest_same accepted other top forms place (Refute parts) same earnest = earnes
 earnest_same accepted other top forms place Undone same earnest = earnest
 
 -- what comes next by a source that accepts the same points
-pub next_same : (accepted other : Point → Type 0) (top : ℕ) (old new : List Form) (place : Place) (next : Next) → SameFor accepted other → IsNext other top old new place next → IsNext accepted top old new place next
+pub next_same : (accepted other : Point → Type 0) (top : ℕ) (old new : List Form) (place : Place) (next : Next) →
+    SameFor accepted other → IsNext other top old new place next → IsNext accepted top old new place next
 next_same accepted other top old new place Forms same is = is
 next_same accepted other top old new place (Costs w) same is = (is.0, (same (at_costs w)).1 is.1)
 next_same accepted other top old new place (ByEntry entry) same is = record {
@@ -70,12 +73,15 @@ pub true_forms_in : (n : ℕ) (accepted : Point → Type 0) (forms : List Form) 
 true_forms_in n accepted forms all k d k_in = let form = all k d k_in in record { count = form.count; sizes = form.sizes }
 
 -- whole costs at the least accepted point
-pub whole_found : (accepted : Point → Type 0) (box : CostBox) (point : Point) (w : List ℕ) → ((v : List ℕ) (scale : ℕ) → 0 < scale → accepted (scaled v scale) → accepted (at_costs v)) → IsLeast accepted box point → scaled w point.scale ≡ point → IsInBox box w × accepted (at_costs w)
+pub whole_found : (accepted : Point → Type 0) (box : CostBox) (point : Point) (w : List ℕ) →
+    ((v : List ℕ) (scale : ℕ) → 0 < scale → accepted (scaled v scale) → accepted (at_costs v)) →
+    IsLeast accepted box point → scaled w point.scale ≡ point → IsInBox box w × accepted (at_costs w)
 whole_found accepted box point w free least same = (
   whole_inside box w point.scale (subst (λ (q : Point). IsPointOf box q) (sym same) least.inside),
   free w point.scale least.inside.scale (subst accepted (sym same) least.accepted),
 )
 
 -- values that are accepted as costs
-pub values_found : (accepted : Point → Type 0) (box : CostBox) (values w : List ℕ) → IsInBox box values → accepted (at_costs values) → w ≡ values → IsInBox box w × accepted (at_costs w)
+pub values_found : (accepted : Point → Type 0) (box : CostBox) (values w : List ℕ) → IsInBox box values →
+    accepted (at_costs values) → w ≡ values → IsInBox box w × accepted (at_costs w)
 values_found accepted box values w inside is same = subst (λ (v : List ℕ). IsInBox box v × accepted (at_costs v)) (sym same) (inside, is)

@@ -16,8 +16,10 @@ same_form f g = int_eq f.constant g.constant && pointwise int_eq f.coefficients 
 
 same_form_decides : (f g : Form) → Decides (same_form f g) (f ≡ g)
 same_form_decides f g =
-    Decides-like (same_form f g) (λ same i. record { constant = same.0 i; coefficients = same.1 i }) (λ same. (ap (λ (h : Form). h.constant) same, ap (λ (h : Form). h.coefficients) same))
-    (Decides-and (int_eq f.constant g.constant) (pointwise int_eq f.coefficients g.coefficients) (Decides-int_eq f.constant g.constant) (signed_items f.coefficients g.coefficients))
+    Decides-like (same_form f g) (λ same i. record { constant = same.0 i; coefficients = same.1 i })
+    (λ same. (ap (λ (h : Form). h.constant) same, ap (λ (h : Form). h.coefficients) same))
+    (Decides-and (int_eq f.constant g.constant) (pointwise int_eq f.coefficients g.coefficients)
+    (Decides-int_eq f.constant g.constant) (signed_items f.coefficients g.coefficients))
 
 -- whether the pool has the form
 abbrev pub has_form : List Form → Form → Bool
@@ -63,13 +65,17 @@ lacks pool form not = by (has_form pool form) (has_decides pool form).0
     by false has = refl
 
 -- with a candidate that the pool lacked fewer are missing
-pub missing_falls : (candidates old new : List Form) (form : Form) (more : List Form) → new ≡ old ++ more → Contains candidates form → Contains new form → (Contains old form → ⊥) → missing candidates new < missing candidates old
+pub missing_falls : (candidates old new : List Form) (form : Form) (more : List Form) → new ≡ old ++ more →
+    Contains candidates form → Contains new form → (Contains old form → ⊥) →
+    missing candidates new < missing candidates old
 missing_falls candidates old new form more same listed is_new not_old = at candidates listed.0 listed.1 listed.2
   where
     at : (cs : List Form) (k : ℕ) → k < length cs → slice_index_or cs k form ≡ form → missing cs new < missing cs old
     at [] k k_in is = absurd (omega arith)
     at (c ∷ cs) zero k_in is =
-        let here = subst (λ (f : Form). cond (has_form new f) 0 1 < cond (has_form old f) 0 1) (sym is) (one_falls (has_form old form) (has_form new form) (lacks old form not_old) ((has_decides new form).1 is_new)) in
+        let here = subst (λ (f : Form). cond (has_form new f) 0 1 < cond (has_form old f) 0 1) (sym is)
+        (one_falls (has_form old form) (has_form new form) (lacks old form not_old)
+        ((has_decides new form).1 is_new)) in
         let rest = missing_never_rises cs old new more same in
         omega arith
     at (c ∷ cs) (suc k) k_in is =

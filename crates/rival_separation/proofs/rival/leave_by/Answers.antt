@@ -1,0 +1,41 @@
+use Rattle.std.proofs.Common.{◌∷◌, [], ◌++◌, sym, subst}
+use Rattle.area_graph.specs.declared.Edge.{Edge}
+use Rattle.area_graph.specs.Area.{edge_at}
+use Rattle.path_rows.specs.Problems.{ends_of}
+use Rattle.spf_ties.specs.Distances.{Findings}
+use Rattle.rival_separation.specs.Rivals.{HasWay, IsFollowed, IsFound}
+use Rattle.rival_separation.proofs.RivalLemmas.{found_kept, way_short}
+use Rattle.rival_separation.proofs.rival.leave_by.Goals as goal
+
+pub add_to_path-requires : goal.add_to_path-requires
+add_to_path-requires c =
+    way_short c.args.graph.now c.args.point.now (ends_of c.args.request.now) c.requires.found.0 c.args.room.now
+    c.args.edge c.keeps_conditions.ensures.fits c.requires.found.1 c.requires.known c.requires.way
+
+pub follow-requires-clause-found : goal.follow-requires-clause-found
+follow-requires-clause-found c =
+    let g = c.args.graph.now in
+    let p = c.args.point.now in
+    let ends = ends_of c.args.request.now in
+    let room : Findings = c.args.room.now in
+    let limit = c.requires.found.0 in (
+      limit,
+      subst (λ (r : Findings). IsFound g p ends limit r) (sym c.add_to_path.ensures)
+          (found_kept g p ends limit room (room.path ++ c.args.edge ∷ []) c.requires.found.1),
+    )
+
+pub follow-requires-clause-way : goal.follow-requires-clause-way
+follow-requires-clause-way c =
+    let g = c.args.graph.now in
+    let p = c.args.point.now in
+    let ends = ends_of c.args.request.now in
+    subst (λ (edge : Edge). HasWay g p ends c.add_to_path.new.self edge.to) (sym c.edge_of.ensures)
+    (subst (λ (r : Findings). HasWay g p ends r (edge_at g c.args.edge).to) (sym c.add_to_path.ensures) c.requires.way)
+
+pub returns-clause-followed : goal.returns-clause-followed
+returns-clause-followed c =
+    let g = c.args.graph.now in
+    let p = c.args.point.now in
+    let ends = ends_of c.args.request.now in
+    subst (λ (r : Findings). IsFollowed g p ends r (edge_at g c.args.edge).to c.follow.new.room.path) c.add_to_path.ensures
+    (subst (λ (edge : Edge). IsFollowed g p ends c.add_to_path.new.self edge.to c.follow.new.room.path) c.edge_of.ensures c.follow.ensures.followed)
