@@ -7,18 +7,28 @@ use Rattle.input_files.specs.Stops.{StopsAs, IsReady}
 use Rattle.input_files.proofs.Stops.{gave_then, gave_made, gave_stop}
 
 -- what stops the file stops both, where the others were read
-pub second_stops : {A B C T : Type 0} (First Later Both : List Taken → Type 0) (m : Reading A) (n : Reading B) (k : A → B → C) (Fits : T → A → Type 0) (made : T) (stop : Stop) → ((xs ys : List Taken) → First xs → Later ys → Both (xs ++ ys)) →
-    Gave First (λ came. IsReady m came Fits made) → Gave Later (λ came. StopsAs n came stop) → Gave Both (λ came. StopsAs (m >>= λ x. n >>= λ y. Ready (k x y)) came stop)
+pub second_stops : {A B C T : Type 0} (First Later Both : List Taken → Type 0) (m : Reading A) (n : Reading B) (k : A →
+    B → C) (Fits : T → A → Type 0) (made : T) (stop : Stop) →
+    ((xs ys : List Taken) → First xs → Later ys → Both (xs ++ ys)) →
+    Gave First (λ came. IsReady m came Fits made) → Gave Later (λ came. StopsAs n came stop) →
+    Gave Both (λ came. StopsAs (m >>= λ x. n >>= λ y. Ready (k x y)) came stop)
 second_stops {A} {B} {C} {T} First Later Both m n k Fits made stop more a b =
-    gave_then First Later Both m (λ x. n >>= λ y. Ready (k x y)) Fits (λ (t : T) (z : C). Unit {0}) made (Err stop) more a (λ x fits. gave_stop Later n (λ y. Ready (k x y)) stop b)
+    gave_then First Later Both m (λ x. n >>= λ y. Ready (k x y)) Fits (λ (t : T) (z : C). Unit {0}) made
+    (Err stop) more a (λ x fits. gave_stop Later n (λ y. Ready (k x y)) stop b)
 
 -- both were read, and then memory was wanting
-pub both_came : {P Q : List Taken → Type 0} (First Later Both : List Taken → Type 0) → ((xs ys : List Taken) → First xs → Later ys → Both (xs ++ ys)) → Gave First P → Gave Later Q → Gave Both (λ came. Unit {0})
+pub both_came : {P Q : List Taken → Type 0} (First Later Both : List Taken → Type 0) →
+    ((xs ys : List Taken) → First xs → Later ys → Both (xs ++ ys)) → Gave First P → Gave Later Q →
+    Gave Both (λ came. Unit {0})
 both_came First Later Both more a b = record { came = a.came ++ b.came; given = more a.came b.came a.given b.given; so = tt }
 
 -- what was made of both is as both say
-pub pair_made : {A B C T U V : Type 0} (First Later Both : List Taken → Type 0) (m : Reading A) (n : Reading B) (k : A → B → C) (Fits : T → A → Type 0) (Suits : U → B → Type 0) (Meets : V → C → Type 0) (made : T) (other : U) (result : V) →
-    ((xs ys : List Taken) → First xs → Later ys → Both (xs ++ ys)) → Gave First (λ came. IsReady m came Fits made) → Gave Later (λ came. IsReady n came Suits other) → ((x : A) (y : B) → Fits made x → Suits other y → Meets result (k x y)) →
+pub pair_made : {A B C T U V : Type 0} (First Later Both : List Taken → Type 0) (m : Reading A) (n : Reading B) (k : A →
+    B → C) (Fits : T → A → Type 0) (Suits : U → B → Type 0) (Meets : V → C → Type 0) (made : T) (other : U)
+    (result : V) →
+    ((xs ys : List Taken) → First xs → Later ys → Both (xs ++ ys)) → Gave First (λ came. IsReady m came Fits made) →
+    Gave Later (λ came. IsReady n came Suits other) →
+    ((x : A) (y : B) → Fits made x → Suits other y → Meets result (k x y)) →
     Gave Both (λ came. IsReady (m >>= λ x. n >>= λ y. Ready (k x y)) came Meets result)
 pair_made First Later Both m n k Fits Suits Meets made other result more a b meets =
     gave_then First Later Both m (λ x. n >>= λ y. Ready (k x y)) Fits Meets made (Ok result) more a (λ x fits.

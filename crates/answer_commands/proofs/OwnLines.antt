@@ -1,5 +1,5 @@
 -- The last lines of a router's interfaces, found from behind.
-use Rattle.std.proofs.Common.{◌≡◌, ℕ, ◌-◌, ◌^◌, ◌<◌, ◌≤◌, refl, sym, ◌∙◌, ap, subst, List, [], ◌∷◌, ◌++◌, length, reverse, append_assoc, append-nil, Bool, true, false, cond, arith}
+use Rattle.std.proofs.Common.{◌≡◌, ℕ, ◌-◌, ◌^◌, ◌<◌, ◌≤◌, refl, sym, ◌∙◌, ap, subst, List, [], ◌∷◌, ◌++◌, length, reverse, append_assoc, Bool, true, false, cond, arith}
 use Rattle.std.specs.Prelude.{◌≢◌, ◌||◌, All, AllPairs}
 use Rattle.std.specs.List.{list_any}
 use Rattle.std.proofs.lemmas.Bool.{false≢true}
@@ -8,7 +8,7 @@ use Rattle.std.proofs.lemmas.List.Elements.{All-nil, All-cons, All-head, All-tai
 use Rattle.std.proofs.lemmas.List.Folds.{list_any-append}
 use Rattle.std.proofs.lemmas.List.Kept.{AllPairs-cons}
 use Rattle.cost_base.specs.Lists.{same_bytes}
-use Rattle.config_reader.proofs.Places.{same_bytes-refl, same_bytes-true}
+use Rattle.cost_base.proofs.ByteLemmas.{same_bytes-refl, same_bytes-true}
 use Rattle.path_rows.specs.declared.answer.CostLine.{CostLine}
 use Rattle.path_rows.specs.Text.{FitsCostLine}
 use Rattle.answer_commands.specs.Rewrites.{own_lines, is_named, last_lines, AddsLine}
@@ -21,20 +21,13 @@ pub record LastSoFar (router : List ℕ) (lines left last : List CostLine) (seen
   pub found : reverse last ≡ last_lines (own_lines router behind)
   pub named : (name : List ℕ) → list_any (same_bytes name) seen ≡ is_named name (own_lines router behind)
 
--- all are left
-pub last_begins : (router : List ℕ) (lines : List CostLine) → LastSoFar router lines lines [] []
-last_begins router lines = record { behind = []; parts = sym (append-nil lines); found = refl; named = λ name. refl }
-
--- none is left
-pub last_ends : (router : List ℕ) (lines left last : List CostLine) (seen : List (List ℕ)) → left ≡ [] → LastSoFar router lines left last seen → reverse last ≡ last_lines (own_lines router lines)
-last_ends router lines left last seen none s =
-    s.found ∙ ap (λ (ls : List CostLine). last_lines (own_lines router ls)) (sym (s.parts ∙ ap (λ (ls : List CostLine). ls ++ s.behind) none))
-
-one_behind : (lines left before behind : List CostLine) (line : CostLine) → left ≡ before ++ line ∷ [] → lines ≡ left ++ behind → lines ≡ before ++ line ∷ behind
+one_behind : (lines left before behind : List CostLine) (line : CostLine) → left ≡ before ++ line ∷ [] →
+    lines ≡ left ++ behind → lines ≡ before ++ line ∷ behind
 one_behind lines left before behind line e parts = parts ∙ ap (λ (ls : List CostLine). ls ++ behind) e ∙ append_assoc before (line ∷ []) behind
 
 -- the last line that is left is another router's
-pub line_passed : (router : List ℕ) (lines left before last : List CostLine) (seen : List (List ℕ)) (line : CostLine) → left ≡ before ++ line ∷ [] → same_bytes line.router router ≡ false →
+pub line_passed : (router : List ℕ) (lines left before last : List CostLine) (seen : List (List ℕ)) (line : CostLine) →
+    left ≡ before ++ line ∷ [] → same_bytes line.router router ≡ false →
     LastSoFar router lines left last seen → LastSoFar router lines before last seen
 line_passed router lines left before last seen line e other s =
     record {
@@ -64,12 +57,14 @@ or_swap false false = refl
 known : (b : Bool) (seen : List (List ℕ)) (interface name : List ℕ) → list_any (same_bytes interface) seen ≡ b →
     list_any (same_bytes name) (cond b seen (seen ++ interface ∷ [])) ≡ (same_bytes name interface || list_any (same_bytes name) seen)
 known true seen interface name is =
-    or_known (same_bytes name interface) (list_any (same_bytes name) seen) (λ same. ap (λ (n : List ℕ). list_any (same_bytes n) seen) (same_bytes-true name interface same) ∙ is)
+    or_known (same_bytes name interface) (list_any (same_bytes name) seen)
+    (λ same. ap (λ (n : List ℕ). list_any (same_bytes n) seen) (same_bytes-true name interface same) ∙ is)
 known false seen interface name is =
     list_any-append (same_bytes name) seen (interface ∷ []) ∙ or_swap (same_bytes name interface) (list_any (same_bytes name) seen)
 
 -- the last line that is left is the router's
-pub line_added : (router : List ℕ) (lines left before last more : List CostLine) (seen now : List (List ℕ)) (line : CostLine) → left ≡ before ++ line ∷ [] → same_bytes line.router router ≡ true →
+pub line_added : (router : List ℕ) (lines left before last more : List CostLine) (seen now : List (List ℕ))
+    (line : CostLine) → left ≡ before ++ line ∷ [] → same_bytes line.router router ≡ true →
     AddsLine last more seen now line → LastSoFar router lines left last seen → LastSoFar router lines before more now
 line_added router lines left before last more seen now line e own added s =
     record {
@@ -106,13 +101,15 @@ own_all P router lines h = last_all P (own_lines router lines) (All-filter (λ l
 -- each is the router's
 pub own_router : (router : List ℕ) (lines : List CostLine) → All (λ line. line.router ≡ router) (last_lines (own_lines router lines))
 own_router router lines =
-    last_all (λ line. line.router ≡ router) (own_lines router lines) (λ k d below. same_bytes-true _ router (filter_passes (λ line. same_bytes line.router router) lines k d below))
+    last_all (λ line. line.router ≡ router) (own_lines router lines)
+    (λ k d below. same_bytes-true _ router (filter_passes (λ line. same_bytes line.router router) lines k d below))
 
 not_named : (interface : List ℕ) (lines : List CostLine) → is_named interface lines ≡ false → All (λ line. interface ≢ line.interface) lines
 not_named interface [] none = All-nil (λ line. interface ≢ line.interface)
 not_named interface (line ∷ lines) none =
     All-cons (λ other. interface ≢ other.interface) line lines
-    (λ same. false≢true (sym none ∙ ap (λ (b : Bool). b || is_named interface lines) (subst (λ (n : List ℕ). same_bytes interface n ≡ true) same (same_bytes-refl interface))))
+    (λ same. false≢true (sym none ∙ ap (λ (b : Bool). b || is_named interface lines)
+    (subst (λ (n : List ℕ). same_bytes interface n ≡ true) same (same_bytes-refl interface))))
     (not_named interface lines (rest (same_bytes interface line.interface) (is_named interface lines) none))
   where
     rest : (p q : Bool) → (p || q) ≡ false → q ≡ false
@@ -124,7 +121,9 @@ last_apart : (lines : List CostLine) → AllPairs (λ a b. a.interface ≢ b.int
 last_apart [] = λ i j d before below. absurd (omega arith)
 last_apart (line ∷ lines) = by_named (is_named line.interface lines) refl (last_apart lines)
   where
-    by_named : (b : Bool) → is_named line.interface lines ≡ b → AllPairs (λ a c. a.interface ≢ c.interface) (last_lines lines) → AllPairs (λ a c. a.interface ≢ c.interface) (cond b (last_lines lines) (line ∷ last_lines lines))
+    by_named : (b : Bool) → is_named line.interface lines ≡ b →
+        AllPairs (λ a c. a.interface ≢ c.interface) (last_lines lines) →
+        AllPairs (λ a c. a.interface ≢ c.interface) (cond b (last_lines lines) (line ∷ last_lines lines))
     by_named true is rest = rest
     by_named false is rest =
         AllPairs-cons (λ a c. a.interface ≢ c.interface) line (last_lines lines)
@@ -146,7 +145,8 @@ own_fewer : (router : List ℕ) (lines : List CostLine) → length (own_lines ro
 own_fewer router [] = omega arith
 own_fewer router (line ∷ lines) = by_router (same_bytes line.router router) (own_fewer router lines)
   where
-    by_router : (b : Bool) → length (own_lines router lines) ≤ length lines → length (cond b (line ∷ own_lines router lines) (own_lines router lines)) ≤ length (line ∷ lines)
+    by_router : (b : Bool) → length (own_lines router lines) ≤ length lines →
+        length (cond b (line ∷ own_lines router lines) (own_lines router lines)) ≤ length (line ∷ lines)
     by_router true rest = omega (arith, rest)
     by_router false rest = omega (arith, rest)
 
@@ -158,10 +158,12 @@ last_few router lines = let a = last_fewer (own_lines router lines) in let b = o
 pub few_own : (router : List ℕ) (lines own : List CostLine) → own ≡ last_lines (own_lines router lines) → length lines < 2 ^ 32 - 1 → length own < 2 ^ 32 - 1
 few_own router lines own is few = let most = last_few router lines in rw is (omega (arith, most, few))
 
-pub routers_own : (router name : List ℕ) (lines own : List CostLine) → own ≡ last_lines (own_lines router lines) → router ≡ name → All (λ line. line.router ≡ name) own
+pub routers_own : (router name : List ℕ) (lines own : List CostLine) → own ≡ last_lines (own_lines router lines) →
+    router ≡ name → All (λ line. line.router ≡ name) own
 routers_own router name lines own is same = rw (is, ← same) (own_router router lines)
 
-pub costs_own : (router : List ℕ) (lines own : List CostLine) → own ≡ last_lines (own_lines router lines) → All FitsCostLine lines → All (λ line. 1 ≤ line.cost) own
+pub costs_own : (router : List ℕ) (lines own : List CostLine) → own ≡ last_lines (own_lines router lines) →
+    All FitsCostLine lines → All (λ line. 1 ≤ line.cost) own
 costs_own router lines own is fit = rw is (own_all (λ line. 1 ≤ line.cost) router lines (λ k d below. let some = (fit k d below).cost in omega (arith, some)))
 
 pub interfaces_own : (router : List ℕ) (lines own : List CostLine) → own ≡ last_lines (own_lines router lines) → AllPairs (λ a b. a.interface ≢ b.interface) own

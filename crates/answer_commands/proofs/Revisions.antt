@@ -13,15 +13,20 @@ use Rattle.answer_commands.specs.Checks.{IsTextOf}
 use Rattle.answer_commands.specs.Rewrites.{own_lines, last_lines, new_costs, IsRewritten}
 
 -- the lines that a configuration is rewritten with are the last ones of its router's interfaces
-own_of : (config : ConfigFile) (said : Router) (costs : Costs) (lines own : List CostLine) → said ≡ config_of config.name config.bytes → costs.lines ≡ lines → own ≡ last_lines (own_lines said.name lines) →
+own_of : (config : ConfigFile) (said : Router) (costs : Costs) (lines own : List CostLine) →
+    said ≡ config_of config.name config.bytes → costs.lines ≡ lines → own ≡ last_lines (own_lines said.name lines) →
     own ≡ last_lines (own_lines (config_of config.name config.bytes).name costs.lines)
 own_of config said costs lines own says are is =
-    is ∙ ap (λ (r : Router). last_lines (own_lines r.name lines)) says ∙ ap (λ (ls : List CostLine). last_lines (own_lines (config_of config.name config.bytes).name ls)) (sym are)
+    is ∙ ap (λ (r : Router). last_lines (own_lines r.name lines)) says
+    ∙ ap (λ (ls : List CostLine). last_lines (own_lines (config_of config.name config.bytes).name ls)) (sym are)
 
 -- what was rewritten with these lines is what a rewrite writes
-pub rewritten_by : (config : ConfigFile) (said : Router) (bytes : List ℕ) (answer : AnswerParts) (costs : Costs) (lines own : List CostLine) (name read out : List ℕ) →
-    said ≡ config_of config.name config.bytes → costs.lines ≡ lines → own ≡ last_lines (own_lines said.name lines) → name ≡ config.name → read ≡ config.bytes → IsTextOf bytes answer → answer.costs ≡ Some costs →
-    first_missing (costs_of own) read ≡ None → out ≡ rewritten (costs_of own) read → ReadsBack name (costs_of own) read out → IsRewritten (record { config = config; bytes = bytes }) out
+pub rewritten_by : (config : ConfigFile) (said : Router) (bytes : List ℕ) (answer : AnswerParts) (costs : Costs)
+    (lines own : List CostLine) (name read out : List ℕ) →
+    said ≡ config_of config.name config.bytes → costs.lines ≡ lines → own ≡ last_lines (own_lines said.name lines) →
+    name ≡ config.name → read ≡ config.bytes → IsTextOf bytes answer → answer.costs ≡ Some costs →
+    first_missing (costs_of own) read ≡ None → out ≡ rewritten (costs_of own) read →
+    ReadsBack name (costs_of own) read out → IsRewritten (record { config = config; bytes = bytes }) out
 rewritten_by config said bytes answer costs lines own name read out says are is named text text_of printed headed written back =
     let same = own_of config said costs lines own says are is in
     record {
@@ -29,8 +34,10 @@ rewritten_by config said bytes answer costs lines own name read out says are is 
       said = text_of;
       costs = costs;
       printed = printed;
-      headed = subst (λ (ls : List CostLine). first_missing (costs_of ls) config.bytes ≡ None) same (subst (λ (b : List ℕ). first_missing (costs_of own) b ≡ None) text headed);
-      written = subst (λ (ls : List CostLine). out ≡ rewritten (costs_of ls) config.bytes) same (subst (λ (b : List ℕ). out ≡ rewritten (costs_of own) b) text written);
+      headed = subst (λ (ls : List CostLine). first_missing (costs_of ls) config.bytes ≡ None) same
+          (subst (λ (b : List ℕ). first_missing (costs_of own) b ≡ None) text headed);
+      written = subst (λ (ls : List CostLine). out ≡ rewritten (costs_of ls) config.bytes) same
+          (subst (λ (b : List ℕ). out ≡ rewritten (costs_of own) b) text written);
       read_back =
           subst (λ (ls : List CostLine). ReadsBack config.name (costs_of ls) config.bytes out) same
           (subst (λ (b : List ℕ). ReadsBack config.name (costs_of own) b out) text (subst (λ (n : List ℕ). ReadsBack n (costs_of own) read out) named back));

@@ -6,6 +6,8 @@ use Rattle.config_reader.specs.Configs.{config_of}
 use Rattle.path_rows.specs.declared.answer.CostLine.{CostLine}
 use Rattle.path_rows.specs.declared.answer.Costs.{Costs}
 use Rattle.path_rows.specs.Answers.{AnswerParts}
+use Rattle.evidence_checker.specs.declared.fault.CheckFault.TheVariants.{NothingClaimed, WrongPlaces}
+use Rattle.evidence_checker.specs.Numbers.{number_of}
 use Rattle.config_writer.specs.Rewriting.{costs_of, rewritten, first_missing, ReadsBack}
 use Rattle.answer_commands.specs.declared.rejection.Rejection.{Rejection}
 use Rattle.answer_commands.specs.declared.rewrite.Revised.{Revised}
@@ -53,22 +55,22 @@ pub record IsRewritten (r : Revision) (text : List ℕ) : Type 0 where
   pub written : text ≡ rewritten (new_costs r.config costs.lines) r.config.bytes
   pub read_back : ReadsBack r.config.name (new_costs r.config costs.lines) r.config.bytes text
 
--- 49: the answer has no costs
+-- the answer has no costs: it claims nothing that a configuration could take
 pub record HasNoCosts (r : Revision) (rejection : Rejection) : Type 0 where
   pub answer : AnswerParts
   pub said : IsTextOf r.bytes answer
   pub none : answer.costs ≡ None
-  pub number : rejection.number ≡ 49
+  pub number : rejection.number ≡ number_of NothingClaimed
   pub place : rejection.place ≡ 0
 
--- 50: a cost line of the configuration's router names an interface that has no head in the configuration
+-- a cost line of the configuration's router names an interface that has no head in the configuration
 pub record NamesNoHead (r : Revision) (rejection : Rejection) : Type 0 where
   pub answer : AnswerParts
   pub said : IsTextOf r.bytes answer
   pub costs : Costs
   pub printed : answer.costs ≡ Some costs
   pub missing : first_missing (new_costs r.config costs.lines) r.config.bytes ≡ None → ⊥
-  pub number : rejection.number ≡ 50
+  pub number : rejection.number ≡ number_of WrongPlaces
   pub place : rejection.place ≡ 0
 
 -- the bytes are off the grammar of answers, or their answer gives the configuration no costs

@@ -15,6 +15,7 @@ use crate::own_lines::last_lines;
 use crate::rejection::{Rejection, rejection_of_text};
 use config_writer::{RewriteStop, rewrite};
 use cost_base::{OutOfMemory, Shelf};
+use evidence_checker::CheckFault;
 use evidence_reader::read_answer;
 use input_files::{ConfigText, Stop, read_answer_file, read_config_text};
 use path_rows::{Answer, CostLine};
@@ -29,11 +30,11 @@ pub enum Revised {
     Rejected(Rejection),
 }
 
-/// The number of an answer without costs.
-const NO_COSTS: u8 = 49;
+/// Why an answer without costs is rejected: it claims nothing that a configuration could take.
+const NO_COSTS: CheckFault = CheckFault::NothingClaimed;
 
-/// The number of an interface that has no head in the configuration.
-const NO_HEAD: u8 = 50;
+/// Why an answer is rejected of which an interface has no head in the configuration.
+const NO_HEAD: CheckFault = CheckFault::WrongPlaces;
 
 /// What a configuration that wasn't rewritten comes to.
 fn unwritten(stop: RewriteStop) -> Result<Revised, OutOfMemory>
@@ -42,7 +43,7 @@ fn unwritten(stop: RewriteStop) -> Result<Revised, OutOfMemory>
 {
     match stop {
         RewriteStop::NoInterface(_) => Ok(Revised::Rejected(Rejection {
-            number: NO_HEAD,
+            number: NO_HEAD.number(),
             place: 0,
         })),
         RewriteStop::OutOfMemory => Err(OutOfMemory),
@@ -57,8 +58,8 @@ fn revised_by_lines(
 ) -> Result<Revised, OutOfMemory>
     requires few { length lines.now < 2 ^ 32 - 1 }
     requires fit { All FitsCostLine lines.now }
-    ensures { (bytes : List ℕ) (answer : AnswerParts) (costs : Costs) → IsTextOf bytes answer → answer.costs ≡ Some costs → costs.lines ≡ lines.now →
-        IfOk result (IsRevised (record { config = config.now; bytes = bytes })) }
+    ensures { (bytes : List ℕ) (answer : AnswerParts) (costs : Costs) → IsTextOf bytes answer → answer.costs ≡ Some costs →
+        costs.lines ≡ lines.now → IfOk result (IsRevised (record { config = config.now; bytes = bytes })) }
 {
     let own = last_lines(alloc, &config.said().name, lines)?;
     match rewrite(alloc, config.name, &config.bytes, &own) {
@@ -79,7 +80,7 @@ fn revised_by_answer(
     match &answer.costs {
         Some(costs) => revised_by_lines(alloc, config, costs.lines.as_slice()),
         None => Ok(Revised::Rejected(Rejection {
-            number: NO_COSTS,
+            number: NO_COSTS.number(),
             place: 0,
         })),
     }

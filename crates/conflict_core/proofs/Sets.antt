@@ -34,8 +34,18 @@ pub rest_contained : (xs : List ℕ) (n : ℕ) → n < length xs → All (Contai
 rest_contained xs n within k d k_in =
     let long = length-remove xs n within in
     elim (cases_lt k n) [
-      | inl below ↦ (k, omega arith, sym (get_or-remove_below xs n (get_or (remove xs n) k d) k below within) ∙ get_or_default (remove xs n) k (get_or (remove xs n) k d) d k_in)
-      | inr above ↦ (k + 1, omega arith, sym (get_or-remove_above xs n (get_or (remove xs n) k d) k above within) ∙ get_or_default (remove xs n) k (get_or (remove xs n) k d) d k_in)
+      | inl below ↦ (
+        k,
+        omega arith,
+        sym (get_or-remove_below xs n (get_or (remove xs n) k d) k below within)
+            ∙ get_or_default (remove xs n) k (get_or (remove xs n) k d) d k_in,
+      )
+      | inr above ↦ (
+        k + 1,
+        omega arith,
+        sym (get_or-remove_above xs n (get_or (remove xs n) k d) k above within)
+            ∙ get_or_default (remove xs n) k (get_or (remove xs n) k d) d k_in,
+      )
     ]
 
 -- the later one is taken out first, or the earlier one
@@ -53,7 +63,8 @@ rest_set p members place within set =
     let contained = rest_contained members place within in
     record {
       rising = λ k k_in. pairs k (k + 1) 0 (omega arith) k_in;
-      known = λ k d k_in. let has = contained k d k_in in subst (λ (m : ℕ). m < length p.paths) has.2 (set.known has.0 (get_or (remove members place) k d) has.1);
+      known = λ k d k_in. let has = contained k d k_in in
+          subst (λ (m : ℕ). m < length p.paths) has.2 (set.known has.0 (get_or (remove members place) k d) has.1);
     }
 
 -- costs that are fit for some requests are fit for fewer
@@ -120,26 +131,34 @@ pub row_known : (p : DesignProblem) (members : List ℕ) (row : Row) → IsRow (
 row_known p members row is =
     elim (cases_lt row.request (length members)) [
       | inl below ↦ below
-      | inr past ↦ absurd (no_rival p.graph _ row.rival.edges (slice_get_past (map (request_at p.paths) members) row.request (omega (arith, length-map members (request_at p.paths)))) is)
+      | inr past ↦ absurd (no_rival p.graph _ row.rival.edges
+          (slice_get_past (map (request_at p.paths) members) row.request
+          (omega (arith, length-map members (request_at p.paths)))) is)
     ]
 
 -- it is the request of the member's number in the whole problem
-pub same_request : (p : DesignProblem) (members : List ℕ) (i : ℕ) → All (λ m. m < length p.paths) members → i < length members → slice_get (map (request_at p.paths) members) i ≡ slice_get p.paths (slice_index members i)
+pub same_request : (p : DesignProblem) (members : List ℕ) (i : ℕ) → All (λ m. m < length p.paths) members →
+    i < length members → slice_get (map (request_at p.paths) members) i ≡ slice_get p.paths (slice_index members i)
 same_request p members i known within =
     slice_get-get_or (map (request_at p.paths) members) i no_request (omega (arith, length-map members (request_at p.paths)))
     ∙ ap (λ (r : Request). Some r) (get_or-map (request_at p.paths) members i 0 no_request within)
     ∙ sym (slice_get-get_or p.paths (slice_index members i) no_request (known i 0 within))
 
-pub whole_is_row : (p : DesignProblem) (members : List ℕ) (row : Row) → All (λ m. m < length p.paths) members → IsRow (restricted p members) row → IsRow p (whole_row members row)
+pub whole_is_row : (p : DesignProblem) (members : List ℕ) (row : Row) → All (λ m. m < length p.paths) members →
+    IsRow (restricted p members) row → IsRow p (whole_row members row)
 whole_is_row p members row known is =
     subst (λ (r : Option Request). IsRivalOf p.graph r row.rival.edges) (same_request p members row.request known (row_known p members row is)) is
 
-pub whole_form : (p : DesignProblem) (members : List ℕ) (row : Row) → All (λ m. m < length p.paths) members → IsRow (restricted p members) row → form_of_row p (whole_row members row) ≡ form_of_row (restricted p members) row
+pub whole_form : (p : DesignProblem) (members : List ℕ) (row : Row) → All (λ m. m < length p.paths) members →
+    IsRow (restricted p members) row → form_of_row p (whole_row members row) ≡ form_of_row (restricted p members) row
 whole_form p members row known is =
-    ap (λ (r : Option Request). form_between p.graph (length p.low) (path_edges r) row.rival.edges) (sym (same_request p members row.request known (row_known p members row is)))
+    ap (λ (r : Option Request). form_between p.graph (length p.low) (path_edges r) row.rival.edges)
+    (sym (same_request p members row.request known (row_known p members row is)))
 
 -- the forms of all rows
-pub whole_forms : (p : DesignProblem) (members : List ℕ) (rows : List Row) → All (λ m. m < length p.paths) members → All (IsRow (restricted p members)) rows → map (form_of_row p) (map (whole_row members) rows) ≡ forms_of_rows (restricted p members) rows
+pub whole_forms : (p : DesignProblem) (members : List ℕ) (rows : List Row) → All (λ m. m < length p.paths) members →
+    All (IsRow (restricted p members)) rows →
+    map (form_of_row p) (map (whole_row members) rows) ≡ forms_of_rows (restricted p members) rows
 whole_forms p members [] known true_rows = refl
 whole_forms p members (row ∷ rows) known true_rows =
     cc (whole_form p members row known (true_rows 0 row (omega arith)), whole_forms p members rows known (λ k d k_in. true_rows (suc k) d (omega arith)))
@@ -168,15 +187,19 @@ numbers_more all more n x is so_far pushed =
     pushed ∙ ap (λ (xs : List ℕ). xs ++ x ∷ []) so_far ∙ ap (λ (k : ℕ). numbers_from 0 n ++ k ∷ []) e ∙ sym (numbers_from-push 0 n)
 
 -- the members without one
-pub others_are : (members others slice : List ℕ) (place count : ℕ) → slice ≡ members → place ≡ count → others ≡ remove slice place → others ≡ remove members count
+pub others_are : (members others slice : List ℕ) (place count : ℕ) → slice ≡ members → place ≡ count →
+    others ≡ remove slice place → others ≡ remove members count
 others_are members others slice place count same at is = is ∙ ap (λ (ms : List ℕ). remove ms place) same ∙ ap (λ (n : ℕ). remove members n) at
 
 -- the rows of a pool in the whole problem
-pub whole_are : (members slice : List ℕ) (pool taken rows : List Row) → slice ≡ members → taken ≡ pool → rows ≡ map (whole_row slice) taken → rows ≡ map (whole_row members) pool
-whole_are members slice pool taken rows same from is = is ∙ ap (λ (ms : List ℕ). map (whole_row ms) taken) same ∙ ap (λ (rs : List Row). map (whole_row members) rs) from
+pub whole_are : (members slice : List ℕ) (pool taken rows : List Row) → slice ≡ members → taken ≡ pool →
+    rows ≡ map (whole_row slice) taken → rows ≡ map (whole_row members) pool
+whole_are members slice pool taken rows same from is = is ∙ ap (λ (ms : List ℕ). map (whole_row ms) taken) same
+    ∙ ap (λ (rs : List Row). map (whole_row members) rs) from
 
 -- a cap that is the greatest upper bound of the restricted problem
-pub cap_above : (p q : DesignProblem) (members slice : List ℕ) (cap : ℕ) → IsProblem p → IsRequestSet p members → slice ≡ members → q ≡ restricted p slice → cap ≡ greatest_bound q → All (λ low. low ≤ cap) q.low
+pub cap_above : (p q : DesignProblem) (members slice : List ℕ) (cap : ℕ) → IsProblem p → IsRequestSet p members →
+    slice ≡ members → q ≡ restricted p slice → cap ≡ greatest_bound q → All (λ low. low ≤ cap) q.low
 cap_above p q members slice cap kept set same is cap_is =
     let q_is : q ≡ restricted p members = is ∙ ap (λ (ms : List ℕ). restricted p ms) same in
     let q_kept : IsProblem q = subst IsProblem (sym q_is) (restricted_kept p members kept set.rising set.known) in

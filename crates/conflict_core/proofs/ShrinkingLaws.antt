@@ -25,7 +25,9 @@ not_tried p top nodes s refuted none = record {
 }
 
 -- costs were found without the next member
-pub more_costs : (p : DesignProblem) (top nodes : ℕ) (old new : Shrunk) (w : List ℕ) → IsShrunk p top nodes old → length old.without.items < length old.conflict.members.items → IsFit (restricted p (remove old.conflict.members.items (length old.without.items))) w →
+pub more_costs : (p : DesignProblem) (top nodes : ℕ) (old new : Shrunk) (w : List ℕ) → IsShrunk p top nodes old →
+    length old.without.items < length old.conflict.members.items →
+    IsFit (restricted p (remove old.conflict.members.items (length old.without.items))) w →
     new.conflict ≡ old.conflict → new.without.items ≡ old.without.items ++ w ∷ [] →
     IsShrunk p top nodes new × (length new.conflict.members.items + length old.without.items < length old.conflict.members.items + length new.without.items)
 more_costs p top nodes old new w was left fit same pushed =
@@ -40,7 +42,8 @@ more_costs p top nodes old new w was left fit same pushed =
     elim (cases_lt k (length lists)) [
       | inl below ↦ subst (IsFit (restricted p (remove members k))) (sym (get_or_append_left lists (w ∷ []) [] k below)) (was.fits k below)
       | inr from ↦ (let is : k ≡ length lists = omega arith in
-          subst (λ (i : ℕ). IsFit (restricted p (remove members i)) (get_or (lists ++ w ∷ []) k [])) (sym is) (subst (IsFit (restricted p (remove members (length lists)))) (sym (at_last k is)) fit))
+          subst (λ (i : ℕ). IsFit (restricted p (remove members i)) (get_or (lists ++ w ∷ []) k [])) (sym is)
+          (subst (IsFit (restricted p (remove members (length lists)))) (sym (at_last k is)) fit))
     ] in (
       record {
         conflict = subst (IsRefutedSet p top nodes) (sym same) was.conflict;
@@ -53,7 +56,8 @@ more_costs p top nodes old new w was left fit same pushed =
     )
 
 -- the others are a conflict without it
-pub smaller : (p : DesignProblem) (top nodes : ℕ) (old new : Shrunk) → IsShrunk p top nodes old → length old.without.items < length old.conflict.members.items → IsRefutedSet p top nodes new.conflict →
+pub smaller : (p : DesignProblem) (top nodes : ℕ) (old new : Shrunk) → IsShrunk p top nodes old →
+    length old.without.items < length old.conflict.members.items → IsRefutedSet p top nodes new.conflict →
     new.conflict.members.items ≡ remove old.conflict.members.items (length old.without.items) → new.without.items ≡ old.without.items →
     IsShrunk p top nodes new × (length new.conflict.members.items + length old.without.items < length old.conflict.members.items + length new.without.items)
 smaller p top nodes old new was left refuted rest same =
@@ -69,8 +73,12 @@ smaller p top nodes old new was left refuted rest same =
             let next : suc (place - 1) ≡ place = omega arith in
             let within : suc (place - 1) < length members = omega arith in
             let fewer : length (remove members k) + 1 ≡ length members = length-remove members k (omega arith) in
-            let swapped : remove (remove members place) k ≡ remove (remove members k) (place - 1) = subst (λ (n : ℕ). remove (remove members n) k ≡ remove (remove members k) (place - 1)) next (taken_out members k (place - 1) (omega arith) within) in
-            let contained : All (Contains (remove members k)) (remove (remove members place) k) = subst (λ (ms : List ℕ). All (Contains (remove members k)) ms) (sym swapped) (rest_contained (remove members k) (place - 1) (omega arith)) in
+            let swapped : remove (remove members place) k ≡ remove (remove members k) (place - 1) =
+            subst (λ (n : ℕ). remove (remove members n) k ≡ remove (remove members k) (place - 1)) next
+            (taken_out members k (place - 1) (omega arith) within) in
+            let contained : All (Contains (remove members k)) (remove (remove members place) k) =
+            subst (λ (ms : List ℕ). All (Contains (remove members k)) ms) (sym swapped)
+            (rest_contained (remove members k) (place - 1) (omega arith)) in
             let fit = fit_fewer p (remove members k) (remove (remove members place) k) (get_or old.without.items k []) contained (was.fits k before) in
             subst (λ (ms : List ℕ). IsFit (restricted p (remove ms k)) (get_or new.without.items k [])) (sym rest)
             (subst (λ (ws : List (List ℕ)). IsFit (restricted p (remove (remove members place) k)) (get_or ws k [])) (sym same) fit);
@@ -79,7 +87,9 @@ smaller p top nodes old new was left refuted rest same =
     )
 
 -- a conflict without one of its members
-pub less_one : (p : DesignProblem) (top nodes : ℕ) (s : Shrunk) (members : List ℕ) (place : ℕ) → IsProblem p → IsShrunk p top nodes s → place < length s.conflict.members.items → members ≡ remove s.conflict.members.items place → IsConflictLessOne p members
+pub less_one : (p : DesignProblem) (top nodes : ℕ) (s : Shrunk) (members : List ℕ) (place : ℕ) → IsProblem p →
+    IsShrunk p top nodes s → place < length s.conflict.members.items → members ≡ remove s.conflict.members.items place →
+    IsConflictLessOne p members
 less_one p top nodes s members place kept was within same = record {
   larger = s.conflict.members.items;
   set = was.conflict.tree.set;
@@ -90,7 +100,9 @@ less_one p top nodes s members place kept was within same = record {
 }
 
 -- a least conflict: for each member there are costs
-pub core_found : (p : DesignProblem) (top nodes : ℕ) (s : Shrunk) (told : Told) → IsProblem p → IsShrunk p top nodes s → length s.conflict.members.items ≤ length s.without.items → IsTold p top nodes s.conflict told → IsCore p top nodes told.members told.rows told.tree s.without.items
+pub core_found : (p : DesignProblem) (top nodes : ℕ) (s : Shrunk) (told : Told) → IsProblem p → IsShrunk p top nodes s →
+    length s.conflict.members.items ≤ length s.without.items → IsTold p top nodes s.conflict told →
+    IsCore p top nodes told.members told.rows told.tree s.without.items
 core_found p top nodes s told kept was ended is =
     let members = s.conflict.members.items in
     let counted : length s.without.items ≡ length members = omega (arith, was.few) in
@@ -108,7 +120,9 @@ core_found p top nodes s told kept was ended is =
     })
 
 -- the budget was used up
-pub unknown_found : (p : DesignProblem) (top nodes : ℕ) (t : SetTree) (told : Told) → IsSpentSet p top nodes t → (t.members.items ≡ all_requests p) ⊎ IsConflictLessOne p t.members.items → IsTold p top nodes t told → IsUnknown p top nodes told.members told.rows told.tree
+pub unknown_found : (p : DesignProblem) (top nodes : ℕ) (t : SetTree) (told : Told) → IsSpentSet p top nodes t →
+    (t.members.items ≡ all_requests p) ⊎ IsConflictLessOne p t.members.items → IsTold p top nodes t told →
+    IsUnknown p top nodes told.members told.rows told.tree
 unknown_found p top nodes t told spent tried is =
     subst (λ (ms : List ℕ). IsUnknown p top nodes ms told.rows told.tree) (sym is.members)
     (record {

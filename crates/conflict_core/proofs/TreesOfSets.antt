@@ -1,5 +1,5 @@
 -- What is told of a set's tree, with the whole problem's rows.
-use Rattle.std.proofs.Common.{◌≡◌, ℕ, ◌+◌, ◌<◌, ◌≤◌, refl, sym, ◌∙◌, ap, subst, List, map, length, get_or, arith}
+use Rattle.std.proofs.Common.{◌≡◌, ℕ, refl, sym, ◌∙◌, ap, subst, List, map, length, get_or}
 use Rattle.std.specs.Prelude.{All, Contains, slice_index}
 use Rattle.std.proofs.lemmas.List.{get_or_default}
 use Rattle.std.proofs.lemmas.List.Elements.{All-map}
@@ -8,9 +8,10 @@ use Rattle.path_rows.specs.declared.form.Row.{Row}
 use Rattle.path_rows.specs.declared.tree.Entry.{Entry}
 use Rattle.path_rows.specs.declared.tree.Entry.TheVariants.{Undone}
 use Rattle.path_rows.specs.Problems.{DesignProblem, restricted}
-use Rattle.path_rows.specs.Rows.{IsRow, LeadsEach, form_of_row, forms_of_rows}
+use Rattle.path_rows.specs.Rows.{IsRow, LeadsEach, form_of_row}
 use Rattle.path_rows.specs.Trees.{entry_count}
 use Rattle.path_rows.specs.Earnest.{IsFormOfRow}
+use Rattle.path_rows.specs.Answers.{whole_box}
 use Rattle.form_search.specs.Finds.{IsSearchTree}
 use Rattle.printed_rows.specs.NamedRows.{NamesBelow, is_named}
 use Rattle.printed_rows.specs.NewNumbers.{IsPrinted, new_number}
@@ -18,31 +19,31 @@ use Rattle.printed_rows.proofs.RenumberedTrees.{count_kept, undone_kept}
 use Rattle.printed_rows.proofs.TreeCopies.{IsCopy, all_printed, copy_closed, copy_names, copy_printed, copy_short, printed_copy, search_names}
 use Rattle.conflict_core.specs.declared.deciding.SetTree.{SetTree}
 use Rattle.conflict_core.specs.declared.telling.Told.{Told}
-use Rattle.conflict_core.specs.Conflicts.{IsTreeOfSet, whole_box}
+use Rattle.conflict_core.specs.Conflicts.{IsTreeOfSet}
 use Rattle.conflict_core.specs.Deciding.{IsSetTree, IsTold, whole_row}
 use Rattle.conflict_core.proofs.Sets.{row_known, whole_form, whole_forms, whole_is_row}
 
 -- the tree over the forms of the whole problem's rows
-pub search_tree : (p : DesignProblem) (top nodes : ℕ) (t : SetTree) → IsSetTree p top nodes t → IsSearchTree (LeadsEach (restricted p t.members.items)) top (map (form_of_row p) (map (whole_row t.members.items) t.pool.rows)) (whole_box p) t.tree
+pub search_tree : (p : DesignProblem) (top nodes : ℕ) (t : SetTree) → IsSetTree p top nodes t →
+    IsSearchTree (LeadsEach (restricted p t.members.items)) top
+    (map (form_of_row p) (map (whole_row t.members.items) t.pool.rows)) (whole_box p) t.tree
 search_tree p top nodes t is =
     let q : DesignProblem = restricted p t.members.items in
-    subst (λ (forms : List Form). IsSearchTree (LeadsEach q) top forms (whole_box p) t.tree) (sym (whole_forms p t.members.items t.pool.rows is.set.known is.is_pool.rows)) is.tree
+    subst (λ (forms : List Form). IsSearchTree (LeadsEach q) top forms (whole_box p) t.tree)
+    (sym (whole_forms p t.members.items t.pool.rows is.set.known is.is_pool.rows)) is.tree
 
 -- it names none but these rows
-pub tree_names : (p : DesignProblem) (top nodes : ℕ) (t : SetTree) (rows : List Row) → IsSetTree p top nodes t → rows ≡ map (whole_row t.members.items) t.pool.rows → All (NamesBelow (length rows)) t.tree
+pub tree_names : (p : DesignProblem) (top nodes : ℕ) (t : SetTree) (rows : List Row) → IsSetTree p top nodes t →
+    rows ≡ map (whole_row t.members.items) t.pool.rows → All (NamesBelow (length rows)) t.tree
 tree_names p top nodes t rows is same =
     subst (λ (rs : List Row). All (NamesBelow (length rs)) t.tree) (sym same)
-    (search_names (LeadsEach (restricted p t.members.items)) top (form_of_row p) (map (whole_row t.members.items) t.pool.rows) (whole_box p) t.tree (search_tree p top nodes t is))
-
--- the requests of the pool's rows are members
-pub requests_known : (p : DesignProblem) (top nodes : ℕ) (t : SetTree) (rows : List Row) (members : List ℕ) → IsSetTree p top nodes t → rows ≡ t.pool.rows → members ≡ t.members.items → All (λ row. row.request < length members) rows
-requests_known p top nodes t rows members is same_rows same_members =
-    subst (λ (ms : List ℕ). All (λ (row : Row). row.request < length ms) rows) (sym same_members)
-    (subst (λ (rs : List Row). All (λ (row : Row). row.request < length t.members.items) rs) (sym same_rows)
-    (λ k d k_in. row_known p t.members.items (get_or t.pool.rows k d) (is.is_pool.rows k d k_in)))
+    (search_names (LeadsEach (restricted p t.members.items)) top (form_of_row p)
+    (map (whole_row t.members.items) t.pool.rows) (whole_box p) t.tree (search_tree p top nodes t is))
 
 -- what is told: the printed rows, and the printed tree
-tree_of_set : (p : DesignProblem) (top nodes : ℕ) (t : SetTree) (rows : List Row) (tree : List Entry) → IsSetTree p top nodes t → IsPrinted (map (whole_row t.members.items) t.pool.rows) t.tree rows tree → IsTreeOfSet p top nodes t.members.items rows tree
+tree_of_set : (p : DesignProblem) (top nodes : ℕ) (t : SetTree) (rows : List Row) (tree : List Entry) →
+    IsSetTree p top nodes t → IsPrinted (map (whole_row t.members.items) t.pool.rows) t.tree rows tree →
+    IsTreeOfSet p top nodes t.members.items rows tree
 tree_of_set p top nodes t rows tree is sheet =
     let members = t.members.items in
     let q : DesignProblem = restricted p members in
@@ -55,8 +56,14 @@ tree_of_set p top nodes t rows tree is sheet =
     let search = search_tree p top nodes t is in
     let true_forms : All HasTrueForm whole =
     All-map HasTrueForm (whole_row members) pool
-    (λ k d k_in. record { row = get_or pool k d; is_row = is.is_pool.rows k d k_in; same = sym (whole_form p members (get_or pool k d) is.set.known (is.is_pool.rows k d k_in)) }) in
-    let true_rows : All (IsRow p) whole = All-map (IsRow p) (whole_row members) pool (λ k d k_in. whole_is_row p members (get_or pool k d) is.set.known (is.is_pool.rows k d k_in)) in
+    (λ k d k_in. record {
+      row = get_or pool k d;
+      is_row = is.is_pool.rows k d k_in;
+      same = sym (whole_form p members (get_or pool k d) is.set.known (is.is_pool.rows k d k_in));
+    }) in
+    let true_rows : All (IsRow p) whole =
+    All-map (IsRow p) (whole_row members) pool
+    (λ k d k_in. whole_is_row p members (get_or pool k d) is.set.known (is.is_pool.rows k d k_in)) in
     let of_members : All IsMember whole =
     All-map IsMember (whole_row members) pool
     (λ k d k_in.
@@ -73,7 +80,9 @@ tree_of_set p top nodes t rows tree is sheet =
       short = copy_short (length p.low) named whole rows t.tree tree copy search.short;
     }
 
-pub told_of_set : (p : DesignProblem) (top nodes : ℕ) (t : SetTree) (old : List Row) (told : Told) → IsSetTree p top nodes t → old ≡ map (whole_row t.members.items) t.pool.rows → IsPrinted old t.tree told.rows told.tree → told.members ≡ t.members.items → IsTold p top nodes t told
+pub told_of_set : (p : DesignProblem) (top nodes : ℕ) (t : SetTree) (old : List Row) (told : Told) →
+    IsSetTree p top nodes t → old ≡ map (whole_row t.members.items) t.pool.rows →
+    IsPrinted old t.tree told.rows told.tree → told.members ≡ t.members.items → IsTold p top nodes t told
 told_of_set p top nodes t old told is same printed same_members =
     let whole = map (whole_row t.members.items) t.pool.rows in
     let named = is_named t.tree in
@@ -81,7 +90,8 @@ told_of_set p top nodes t old told is same printed same_members =
     let copy : IsCopy named whole told.rows t.tree told.tree = printed_copy whole told.rows t.tree told.tree sheet (tree_names p top nodes t whole is refl) in
     record {
       members = same_members;
-      of_set = subst (λ (ms : List ℕ). IsTreeOfSet p top nodes ms told.rows told.tree) (sym same_members) (tree_of_set p top nodes t told.rows told.tree is sheet);
+      of_set = subst (λ (ms : List ℕ). IsTreeOfSet p top nodes ms told.rows told.tree) (sym same_members)
+          (tree_of_set p top nodes t told.rows told.tree is sheet);
       closed = λ closed. copy_closed named whole told.rows t.tree told.tree copy closed;
       undone = λ undone. subst (λ (es : List Entry). Contains es Undone) (sym copy.copied) (undone_kept (new_number named) t.tree undone);
       counted = ap entry_count copy.copied ∙ count_kept (new_number named) t.tree;

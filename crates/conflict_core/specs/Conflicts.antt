@@ -3,16 +3,14 @@ use Rattle.std.specs.Prelude.{◌≡◌, ◌⊎◌, ℕ, ◌^◌, ◌<◌, List,
 use Rattle.std.specs.List.{remove}
 use Rattle.std.specs.List.Sorted.{IsStrictlyIncreasing}
 use Rattle.cost_base.specs.Lists.{numbers_from}
-use Rattle.path_rows.specs.declared.form.CostBox.{CostBox}
 use Rattle.path_rows.specs.declared.form.Row.{Row}
 use Rattle.path_rows.specs.declared.tree.Entry.{Entry}
 use Rattle.path_rows.specs.declared.tree.Entry.TheVariants.{Undone}
 use Rattle.path_rows.specs.Problems.{DesignProblem, restricted}
-use Rattle.path_rows.specs.Boxes.{capped}
-use Rattle.path_rows.specs.Rows.{IsFit, IsRow, LeadsEach, box_of, forms_of_rows}
+use Rattle.path_rows.specs.Rows.{IsFit, IsRow, LeadsEach, forms_of_rows}
 use Rattle.path_rows.specs.Trees.{IsClosed, entry_count}
 use Rattle.path_rows.specs.Earnest.{IsFormOfRow}
-use Rattle.path_rows.specs.Answers.{greatest_bound}
+use Rattle.path_rows.specs.Answers.{whole_box}
 use Rattle.path_rows.specs.ProblemLaws.{HasNoFit}
 use Rattle.form_search.specs.Finds.{IsShort}
 use Rattle.printed_rows.specs.NamedRows.{NamesBelow}
@@ -38,10 +36,6 @@ pub record IsLeastConflict (p : DesignProblem) (members : List ℕ) : Type 0 whe
   pub set : IsRequestSet p members
   pub conflict : IsConflict p members
   pub least : (k : ℕ) → k < length members → (w : List ℕ) × IsFit (restricted p (remove members k)) w
-
--- the box at the greatest upper bound
-abbrev pub whole_box : DesignProblem → CostBox
-whole_box p = capped (box_of p) (greatest_bound p)
 
 -- the rows are those of a pool that its tree names, in their order, and the tree names them by their new numbers
 pub record IsSheet (rows : List Row) (tree : List Entry) : Type 0 where

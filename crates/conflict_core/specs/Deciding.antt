@@ -1,4 +1,4 @@
--- What is decided of one set of requests, and of one after the other.
+-- What is decided of one set of requests, and of one after the other. No public clause cites it.
 use Rattle.std.specs.Prelude.{◌≡◌, ℕ, ◌+◌, ◌<◌, ◌≤◌, List, [], map, length, slice_index, slice_index_or, All, Contains}
 use Rattle.std.specs.List.{remove}
 use Rattle.path_rows.specs.declared.form.Row.{Row}

@@ -4,10 +4,9 @@ ghost use Rattle.form_search.specs.Advised.{AreCalled};
 ghost use Rattle.conflict_core.specs.Conflicts.{IsRequestSet};
 ghost use Rattle.conflict_core.specs.Deciding.{IsSetDecided};
 
-use crate::problem_law::keeps_problem;
 use advisor_box::Advisor;
 use cost_base::OutOfMemory;
-use cost_branching::{Found, Pool, decide};
+use cost_branching::{Found, Pool, decide, keeps_conditions};
 use path_rows::{CostList, Problem, Tree};
 use printed_rows::greatest_of;
 use std::alloc::Global;
@@ -45,7 +44,7 @@ pub(crate) fn decide_set(
     ensures decided { IfOk result (IsSetDecided problem.now limits.now.top limits.now.nodes members.items) }
     ensures advisors { AreCalled ⟦<dyn Advisor as Advisor>⟧ (λ b. b.vtable) (λ b. state b) advisors.old.items advisors.new.items }
 {
-    keeps_problem(problem);
+    keeps_conditions(problem);
     let part = problem.only(alloc, members.as_slice())?;
     let ceiling = greatest_of(part.high.as_slice());
     let mut pool = Pool::new(alloc);

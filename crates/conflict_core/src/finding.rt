@@ -7,11 +7,11 @@ ghost use Rattle.conflict_core.specs.Deciding.{IsRefutedSet, IsShrunk, IsSpentSe
 use crate::conflict::Conflict;
 use crate::deciding::{Decided, SetTree, decide_set};
 use crate::members::all_requests;
-use crate::problem_law::keeps_problem;
 use crate::shrinking::{Shrunk, Tried, leave_out};
 use crate::telling::{Told, tell};
 use advisor_box::Advisor;
 use cost_base::{Listed, OutOfMemory};
+use cost_branching::keeps_conditions;
 use path_rows::Problem;
 use std::alloc::Global;
 use wide_fraction::Limits;
@@ -40,7 +40,7 @@ fn core(alloc: Global, problem: &Problem, shrunk: Shrunk) -> Result<Conflict, Ou
     requires ended { length shrunk.conflict.members.items ≤ length shrunk.without.items }
     ensures { (top nodes : ℕ) → IsShrunk problem.now top nodes shrunk → IfOk result (IsConflictFound problem.now top nodes) }
 {
-    keeps_problem(problem);
+    keeps_conditions(problem);
     let Shrunk { conflict, without } = shrunk;
     let Told {
         members,
@@ -99,7 +99,7 @@ pub fn find_conflict(
     ensures found { IfOk result (IsConflictFound problem.now limits.now.top limits.now.nodes) }
     ensures advisors { AreCalled ⟦<dyn Advisor as Advisor>⟧ (λ b. b.vtable) (λ b. state b) advisors.old.items advisors.new.items }
 {
-    keeps_problem(problem);
+    keeps_conditions(problem);
     let all = all_requests(alloc, problem)?;
     match decide_set(alloc, problem, all, limits, advisors)? {
         Decided::Costs(costs) => Ok(Conflict::Fits { costs }),

@@ -10,7 +10,6 @@ mod deciding;
 mod finding;
 pub mod laws;
 mod members;
-mod problem_law;
 mod shrinking;
 mod telling;
 

@@ -6,9 +6,9 @@ ghost use Rattle.conflict_core.specs.Deciding.{IsShrunk, IsTurned};
 
 use crate::deciding::{Decided, SetTree, decide_set};
 use crate::members::without_one;
-use crate::problem_law::keeps_problem;
 use advisor_box::Advisor;
 use cost_base::OutOfMemory;
+use cost_branching::keeps_conditions;
 use path_rows::{CostList, Problem};
 use std::alloc::Global;
 use wide_fraction::Limits;
@@ -80,7 +80,7 @@ pub(crate) fn leave_out(
     ensures turned { IfOk result (IsTurned problem.now limits.now.top limits.now.nodes shrunk) }
     ensures advisors { AreCalled ⟦<dyn Advisor as Advisor>⟧ (λ b. b.vtable) (λ b. state b) advisors.old.items advisors.new.items }
 {
-    keeps_problem(problem);
+    keeps_conditions(problem);
     let others = without_next(alloc, &shrunk)?;
     match decide_set(alloc, problem, others, limits, advisors)? {
         Decided::Costs(costs) => Ok(Tried::On(shrunk.with_costs(costs)?)),

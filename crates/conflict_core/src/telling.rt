@@ -3,8 +3,8 @@ ghost use Rattle.std.specs.Prelude.{◌≡◌, ℕ, ◌<◌, length, map, slice_
 ghost use Rattle.conflict_core.specs.Deciding.{IsSetTree, IsTold, whole_row};
 
 use crate::deciding::SetTree;
-use crate::problem_law::keeps_problem;
 use cost_base::{Listed, OutOfMemory};
+use cost_branching::keeps_conditions;
 use path_rows::{Problem, Row, Tree};
 use printed_rows::{PrintedTree, printed};
 use std::alloc::Global;
@@ -45,7 +45,7 @@ pub(crate) fn tell(alloc: Global, problem: &Problem, set: SetTree) -> Result<Tol
     requires { (top : ℕ) × (nodes : ℕ) × IsSetTree problem.now top nodes set }
     ensures { (top nodes : ℕ) → IsSetTree problem.now top nodes set → IfOk result (IsTold problem.now top nodes set) }
 {
-    keeps_problem(problem);
+    keeps_conditions(problem);
     let SetTree {
         members,
         pool,

@@ -96,7 +96,8 @@ cost_with w g (e ∷ es) =
     left ∙ cc (here, rest) ∙ sym right
 
 -- a path is only cheapest in the graph at costs exactly where it is under the costs
-pub only_cheapest_with : (w : List ℕ) (g : Area) (ends : Ends) (es : List ℕ) → IsOnlyCheapest (graph_with w g) (at_costs []) ends es ↔ IsOnlyCheapest g (at_costs w) ends es
+pub only_cheapest_with : (w : List ℕ) (g : Area) (ends : Ends) (es : List ℕ) →
+    IsOnlyCheapest (graph_with w g) (at_costs []) ends es ↔ IsOnlyCheapest g (at_costs w) ends es
 only_cheapest_with w g ends es = (
   λ only. record {
     path = (path_with w g ends es).1 only.path;

@@ -69,7 +69,9 @@ never_undecided limits p bytes never shown = by_tree shown.answer.unfinished sho
     by_tree : (t : Option CapTree) → UnfinishedAt p limits.top limits.nodes shown.answer.rows shown.cap t → ⊥
     by_tree None h = h
     by_tree (Some t) h =
-        never t.cap shown.answer.rows t.tree (subst (λ (cap : ℕ). All (λ low. low ≤ cap) p.low) (sym h.0) shown.undecided.no_higher) shown.undecided.rows h.1.printed.earnest h.1.undone h.1.spent
+        never t.cap shown.answer.rows t.tree
+        (subst (λ (cap : ℕ). All (λ low. low ≤ cap) p.low) (sym h.0) shown.undecided.no_higher) shown.undecided.rows
+        h.1.printed.earnest h.1.undone h.1.spent
 
 pub designed : WellFormedInputIsDesigned
 designed limits names came d end bytes ends never h =
@@ -114,7 +116,8 @@ written config answer came r a costs end bytes ends value spelled printed headed
     only_done _ MayRewrite came r end bytes own_rewrite (λ h. h) (λ h. h) (λ h. fit h.0 h.1) ends h
   where
     fit : (rejection : Rejection) → IsUnfit r rejection → ⊥
-    fit rejection (inl off) = texts_read a off.fault rejection.place value (subst (λ (bs : List ℕ). IsRefused AtHead 0 bs off.fault rejection.place) spelled off.refused)
+    fit rejection (inl off) = texts_read a off.fault rejection.place value
+        (subst (λ (bs : List ℕ). IsRefused AtHead 0 bs off.fault rejection.place) spelled off.refused)
     fit rejection (inr (inl without)) = none_some costs (sym without.none ∙ same_costs r.bytes a without.answer value spelled without.said ∙ printed)
     fit rejection (inr (inr missing)) =
         missing.missing
@@ -144,12 +147,16 @@ same_file : {A : Type 0} (e f : End A) (x y : List ℕ) → e ≡ Failed x → f
 same_file e f x y first second same = sym (ap (λ t. failed_as [] t) first) ∙ ap (λ t. failed_as [] t) same ∙ ap (λ t. failed_as [] t) second
 
 -- what came of a file, and the failed file among it and the others
-failed_here : {A : Type 0} (taken_name name : List ℕ) (next : List ℕ → Reading A) (more : List Taken) (file : List ℕ) (came : Result (List ℕ) ShelfStop) → taken_name ≡ name →
-    OnCame came (λ bytes. EndsAs (next bytes) more (Failed file)) ((more ≡ []) × (failed A file ≡ Faulty (too_long name))) ((more ≡ []) × (failed A file ≡ Failed name)) →
+failed_here : {A : Type 0} (taken_name name : List ℕ) (next : List ℕ → Reading A) (more : List Taken) (file : List ℕ)
+    (came : Result (List ℕ) ShelfStop) → taken_name ≡ name →
+    OnCame came (λ bytes. EndsAs (next bytes) more (Failed file))
+    ((more ≡ []) × (failed A file ≡ Faulty (too_long name))) ((more ≡ []) × (failed A file ≡ Failed name)) →
     ((bytes : List ℕ) → EndsAs (next bytes) more (Failed file) → 0 < times (failures more) file) → 0 < times (failure taken_name came ++ failures more) file
 failed_here taken_name name next more file (Ok bytes) is then rest = rest bytes then
 failed_here {A = A} taken_name name next more file (Err stop.TooLong) is then rest = absurd (faulty_failed {A = A} (too_long name) file (sym then.1))
-failed_here {A = A} taken_name name next more file (Err stop.Failed) is then rest = one_failed taken_name file (failures more) (is ∙ sym (same_file (failed A file) (failed A name) file name refl refl then.1))
+failed_here {A = A} taken_name name next more file (Err stop.Failed) is then rest =
+    one_failed taken_name file (failures more)
+    (is ∙ sym (same_file (failed A file) (failed A name) file name refl refl then.1))
 failed_here taken_name name next more file (Err stop.OutOfMemory) is then rest = absurd then
 
 -- the file that failed is among those that failed
@@ -163,7 +170,8 @@ failed_among (Take name most next) (taken ∷ more) file is =
     failed_here taken.name name next more file taken.came is.0 is.2 (λ bytes ends. failed_among (next bytes) more file ends)
 
 -- no command whose reading fails writes where no count rose
-none_failed : {A : Type 0} (reading : Reading A) (came : List Taken) (bytes : List ℕ) → CountsFailures (λ name. 0) (λ name. 0) came → OnFailure reading came bytes → ⊥
+none_failed : {A : Type 0} (reading : Reading A) (came : List Taken) (bytes : List ℕ) →
+    CountsFailures (λ name. 0) (λ name. 0) came → OnFailure reading came bytes → ⊥
 none_failed reading came bytes counted failed =
     let rose : 0 < 0 = counted.failed failed.file (failed_among reading came failed.file failed.ends) in
     omega arith
@@ -173,7 +181,8 @@ try_failed blocks start (Says d) bytes h = h
 try_failed blocks start (Faulty fault) bytes h = h
 try_failed blocks start (Failed file) bytes h = h
 
-no_read_fault : (job : Option JobRead) (came : List Taken) (bytes : List ℕ) → CountsFailures (λ name. 0) (λ name. 0) came → MayWrite job came status.ReadFault bytes → ⊥
+no_read_fault : (job : Option JobRead) (came : List Taken) (bytes : List ℕ) →
+    CountsFailures (λ name. 0) (λ name. 0) came → MayWrite job came status.ReadFault bytes → ⊥
 no_read_fault None came bytes counted h = h
 no_read_fault (Some (read.Design request limits configs)) came bytes counted h = none_failed _ came bytes counted h
 no_read_fault (Some (read.Check request answer configs)) came bytes counted h = none_failed _ came bytes counted h
@@ -187,14 +196,16 @@ no_read_fault (Some (read.Lsas request configs)) came bytes counted h = none_fai
 no_read_fault (Some (read.Route lsas from to)) came bytes counted h = none_failed _ came bytes counted h
 
 -- over counts that stay 0 no run ends with a fault of a shelf
-pub sure_shelf : (words : List (List ℕ)) (gave : List Taken → Type 0) (held : List ℕ → Option (List ℕ)) (handed : List ℕ → Type 0) (got_before got_now : Option (List ℕ)) (count_before count_now : ℕ) (end : Status) →
+pub sure_shelf : (words : List (List ℕ)) (gave : List Taken → Type 0) (held : List ℕ → Option (List ℕ))
+    (handed : List ℕ → Type 0) (got_before got_now : Option (List ℕ)) (count_before count_now : ℕ) (end : Status) →
     RunMeets words gave held (λ name. 0) (λ name. 0) handed got_before got_now count_before count_now end → end ≡ status.ReadFault → ⊥
 sure_shelf words gave held handed got_before got_now count_before count_now end meets is =
     let whole = subst (λ (s : Status). Writes (MayWrite (job_of words) meets.came) handed got_before got_now count_before count_now s) is meets.written in
     no_read_fault (job_of words) meets.came whole.bytes meets.counted whole.allowed
 
 -- nor with one of a sink
-pub sure_sink : (words : List (List ℕ)) (gave : List Taken → Type 0) (held : List ℕ → Option (List ℕ)) (before now : List ℕ → ℕ) (handed : List ℕ → Type 0) (got_before got_now : Option (List ℕ)) (end : Status) →
+pub sure_sink : (words : List (List ℕ)) (gave : List Taken → Type 0) (held : List ℕ → Option (List ℕ))
+    (before now : List ℕ → ℕ) (handed : List ℕ → Type 0) (got_before got_now : Option (List ℕ)) (end : Status) →
     RunMeets words gave held before now handed got_before got_now 0 0 end → end ≡ status.WriteFault → ⊥
 sure_sink words gave held before now handed got_before got_now end meets is =
     let part = subst (λ (s : Status). Writes (MayWrite (job_of words) meets.came) handed got_before got_now 0 0 s) is meets.written in

@@ -26,8 +26,11 @@ use Rattle.designer_command.proofs.DesignedLaws.{answer_may}
 use Rattle.designer_command.proofs.Runs.{may_report}
 
 -- the report of an answer to the problem that was read
-pub design_found : (Given : List Taken → Type 0) (limits : Bounds) (names : InputFiles) (p : DesignProblem) (a : AnswerParts) (report : Report) → Gave Given (λ came. IsReady (outcome AsRequested names) came IsProblemOf p) →
-    IsAnswerTo limits p a → Reports (status_of a.verdict) (text a) report → Gave Given (λ came. IsReady (outcome AsRequested names) came (λ (made : Report) d. MayDesign limits d made.status (bytes_in made.text)) report)
+pub design_found : (Given : List Taken → Type 0) (limits : Bounds) (names : InputFiles) (p : DesignProblem)
+    (a : AnswerParts) (report : Report) → Gave Given (λ came. IsReady (outcome AsRequested names) came IsProblemOf p) →
+    IsAnswerTo limits p a → Reports (status_of a.verdict) (text a) report →
+    Gave Given (λ came. IsReady (outcome AsRequested names) came
+    (λ (made : Report) d. MayDesign limits d made.status (bytes_in made.text)) report)
 design_found Given limits names p a report read to r =
     let d : Input = read.so.said in
     let to_d : IsAnswerTo limits d.problem a = subst (λ (q : DesignProblem). IsAnswerTo limits q a) (sym read.so.fits.0) to in
@@ -37,13 +40,19 @@ design_found Given limits names p a report read to r =
       so = record {
         said = d;
         ends = read.so.ends;
-        fits = may_report (MayDesign limits d) (status_of a.verdict) (text a) report r (answer_may limits d a (ready_is names d read.came read.so.ends) read.so.fits.1 to_d);
+        fits = may_report (MayDesign limits d) (status_of a.verdict) (text a) report r
+            (answer_may limits d a (ready_is names d read.came read.so.ends) read.so.fits.1 to_d);
       };
     }
 
 -- the report of an audit of the problem that was read
-pub audit_found : (Given : List Taken → Type 0) (view : View) (names : InputFiles) (p : DesignProblem) (found read : List AuditedPath) (bytes : List ℕ) (report : Report) → Gave Given (λ came. IsReady (outcome view names) came IsProblemOf p) →
-    AllZip (IsAudited p.graph) p.paths found → read ≡ found → bytes ≡ audit_lines 0 read → Reports status.Done bytes report → Gave Given (λ came. IsReady (outcome view names) came (λ (made : Report) d. MayAudit d made.status (bytes_in made.text)) report)
+pub audit_found : (Given : List Taken → Type 0) (view : View) (names : InputFiles) (p : DesignProblem)
+    (found read : List AuditedPath) (bytes : List ℕ) (report : Report) →
+    Gave Given (λ came. IsReady (outcome view names) came IsProblemOf p) →
+    AllZip (IsAudited p.graph) p.paths found → read ≡ found → bytes ≡ audit_lines 0 read →
+    Reports status.Done bytes report →
+    Gave Given (λ came. IsReady (outcome view names) came
+    (λ (made : Report) d. MayAudit d made.status (bytes_in made.text)) report)
 audit_found Given view names p found read bytes report a audited same spelled r =
     let problem = a.so.fits.0 in
     record {

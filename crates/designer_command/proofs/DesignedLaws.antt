@@ -37,7 +37,8 @@ abbrev LinesOf : List ℕ → List VarName → List CostLine → Type 0
 LinesOf w names lines = AllZip (λ name line. (line.router ≡ name.router) × (line.interface ≡ name.interface) × (line.cost ≡ slice_index w name.var)) names lines
 
 -- costs that lines give are costs of interfaces
-lines_printable : (w : List ℕ) (names : List VarName) (lines : List CostLine) → LinesOf w names lines → All FitsCostLine lines → All (λ line. IsCost line.cost) lines → ArePrintable names w
+lines_printable : (w : List ℕ) (names : List VarName) (lines : List CostLine) → LinesOf w names lines →
+    All FitsCostLine lines → All (λ line. IsCost line.cost) lines → ArePrintable names w
 lines_printable w [] [] zip fit small = All-nil (λ (name : VarName). (1 ≤ slice_index w name.var) × (slice_index w name.var ≤ 65535))
 lines_printable w [] (line ∷ lines) zip fit small = absurd zip
 lines_printable w (name ∷ names) [] zip fit small = absurd zip
@@ -50,16 +51,20 @@ lines_printable w (name ∷ names) (line ∷ lines) zip fit small =
     (lines_printable w names lines zip.1 (All-tail FitsCostLine line lines fit) (All-tail (λ (l : CostLine). IsCost l.cost) line lines small))
 
 -- so are the printed costs of an answer
-answer_printable : (p : DesignProblem) (a : AnswerParts) (costs : Costs) (w : List ℕ) → IsAnswerValue a → a.costs ≡ Some costs → Names p costs.lines w → ArePrintable p.vars w
+answer_printable : (p : DesignProblem) (a : AnswerParts) (costs : Costs) (w : List ℕ) → IsAnswerValue a →
+    a.costs ≡ Some costs → Names p costs.lines w → ArePrintable p.vars w
 answer_printable p a costs w value some names =
     let fit : All FitsCostLine costs.lines = subst (λ o. FitsCosts o) some value.fits.costs in
     let small : BoundsCosts (Some costs) = subst (λ o. BoundsCosts o) some value.bounds.costs in
     lines_printable w p.vars costs.lines names fit small.1
 
 -- the text of a valid optimal answer
-pub designed_is : (limits : Bounds) (d : Input) (a : AnswerParts) (k : ℕ) → IsReadyInput d → IsDatabase d.database → IsAnswerTo limits d.problem a → a.verdict ≡ Optimal k → IsValid d.problem a → GivesBest d.problem k a.costs → IsDesigned limits d (text a)
+pub designed_is : (limits : Bounds) (d : Input) (a : AnswerParts) (k : ℕ) → IsReadyInput d → IsDatabase d.database →
+    IsAnswerTo limits d.problem a → a.verdict ≡ Optimal k → IsValid d.problem a → GivesBest d.problem k a.costs →
+    IsDesigned limits d (text a)
 designed_is limits d a k ready base to is valid gives =
-    let back = graph_back_is d a gives.costs gives.values ready base gives.is_printed gives.names (answer_printable d.problem a gives.costs gives.values to.value gives.is_printed gives.names) in
+    let back = graph_back_is d a gives.costs gives.values ready base gives.is_printed gives.names
+    (answer_printable d.problem a gives.costs gives.values to.value gives.is_printed gives.names) in
     record {
       answer = a;
       spelled = refl;
@@ -78,12 +83,16 @@ designed_is limits d a k ready base to is valid gives =
     }
 
 -- its costs are those of the answer
-pub designed_costs : (limits : Bounds) (d : Input) (a : AnswerParts) (k : ℕ) (ready : IsReadyInput d) (base : IsDatabase d.database) (to : IsAnswerTo limits d.problem a) (is : a.verdict ≡ Optimal k) (valid : IsValid d.problem a) (gives : GivesBest d.problem k a.costs) → (designed_is limits d a k ready base to is valid gives).costs ≡ gives.values
+pub designed_costs : (limits : Bounds) (d : Input) (a : AnswerParts) (k : ℕ) (ready : IsReadyInput d)
+    (base : IsDatabase d.database) (to : IsAnswerTo limits d.problem a) (is : a.verdict ≡ Optimal k)
+    (valid : IsValid d.problem a) (gives : GivesBest d.problem k a.costs) →
+    (designed_is limits d a k ready base to is valid gives).costs ≡ gives.values
 unfolding designed_is
 designed_costs limits d a k ready base to is valid gives = refl
 
 -- the text of a valid impossible answer
-pub impossible_is : (limits : Bounds) (p : DesignProblem) (a : AnswerParts) → IsAnswerTo limits p a → a.verdict ≡ Impossible → IsValid p a → IsShownImpossible limits p (text a)
+pub impossible_is : (limits : Bounds) (p : DesignProblem) (a : AnswerParts) → IsAnswerTo limits p a →
+    a.verdict ≡ Impossible → IsValid p a → IsShownImpossible limits p (text a)
 impossible_is limits p a to is valid = record {
   answer = a;
   spelled = refl;
@@ -95,7 +104,8 @@ impossible_is limits p a to is valid = record {
 }
 
 -- the text of an undecided answer
-pub undecided_is : (limits : Bounds) (p : DesignProblem) (a : AnswerParts) (cap : ℕ) → IsAnswerTo limits p a → a.verdict ≡ Budget cap → IsShownUndecided limits p (text a)
+pub undecided_is : (limits : Bounds) (p : DesignProblem) (a : AnswerParts) (cap : ℕ) → IsAnswerTo limits p a →
+    a.verdict ≡ Budget cap → IsShownUndecided limits p (text a)
 undecided_is limits p a cap to is = record {
   answer = a;
   spelled = refl;
@@ -107,13 +117,15 @@ undecided_is limits p a cap to is = record {
 }
 
 -- what a verdict claims, of an answer
-pub gives_best : (limits : Bounds) (p : DesignProblem) (a : AnswerParts) (k : ℕ) → IsAnswerTo limits p a → a.verdict ≡ Optimal k → IsValid p a × GivesBest p k a.costs
+pub gives_best : (limits : Bounds) (p : DesignProblem) (a : AnswerParts) (k : ℕ) → IsAnswerTo limits p a →
+    a.verdict ≡ Optimal k → IsValid p a × GivesBest p k a.costs
 gives_best limits p a k to is =
     let valid : IsValid p a = subst (λ (v : Verdict). VerdictHolds p limits.top limits.nodes a v) is to.answered.holds in
     (valid, subst (λ (v : Verdict). IsTrueVerdict p v a.costs) is (valid_holds p a to.kept valid))
 
 -- an answer's text may be written with the status of its verdict
-pub answer_may : (limits : Bounds) (d : Input) (a : AnswerParts) → IsReadyInput d → IsDatabase d.database → IsAnswerTo limits d.problem a → MayDesign limits d (status_of a.verdict) (text a)
+pub answer_may : (limits : Bounds) (d : Input) (a : AnswerParts) → IsReadyInput d → IsDatabase d.database →
+    IsAnswerTo limits d.problem a → MayDesign limits d (status_of a.verdict) (text a)
 answer_may limits d a ready base to = by_verdict a.verdict refl
   where
     by_verdict : (v : Verdict) → a.verdict ≡ v → MayDesign limits d (status_of v) (text a)

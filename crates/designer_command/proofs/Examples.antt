@@ -62,7 +62,10 @@ input = record {
   files = record { name = codes "A.conf"; bytes = config (codes "10.0.0.1/30") } ∷ record { name = codes "B.conf"; bytes = config (codes "10.0.0.2/30") } ∷ [];
   database = database;
   problem = record {
-    graph = record { vertices = RouterVertex 0 ∷ RouterVertex 1 ∷ []; edges = record { from = 0; to = 1; price = Var 0 } ∷ record { from = 1; to = 0; price = Var 1 } ∷ [] };
+    graph = record {
+      vertices = RouterVertex 0 ∷ RouterVertex 1 ∷ [];
+      edges = record { from = 0; to = 1; price = Var 0 } ∷ record { from = 1; to = 0; price = Var 1 } ∷ [];
+    };
     vars = record { router = codes "A"; interface = codes "eth0"; var = 0 } ∷ record { router = codes "B"; interface = codes "eth0"; var = 1 } ∷ [];
     low = 1 ∷ 1 ∷ [];
     high = 65535 ∷ 65535 ∷ [];
@@ -76,21 +79,28 @@ pair_ready = (refl, refl, (refl, refl, (refl, refl, refl)))
 
 abbrev printed : List ℕ
 printed =
-    codes "ospfcost answer 1\nverdict optimal 1\ncosts 1\nrouter A\ninterface eth0\n ip ospf cost 1\nexit\nrouter B\ninterface eth0\n ip ospf cost 1\nexit\nfloor 0\nrows 0\nproof none\nopen none\nwide none\nend\n"
+    codes
+    "ospfcost answer 1\nverdict optimal 1\ncosts 1\nrouter A\ninterface eth0\n ip ospf cost 1\nexit\nrouter B\ninterface eth0\n ip ospf cost 1\nexit\nfloor 0\nrows 0\nproof none\nopen none\nwide none\nend\n"
 
 pair_section : section (codes "B") (lines printed) ≡ codes "interface eth0" ∷ codes " ip ospf cost 1" ∷ codes "exit" ∷ []
 pair_section = refl
 
 -- read back, both interfaces have cost 1
 pair_back : graph_back input printed
-    ≡ record { vertices = RouterVertex 0 ∷ RouterVertex 1 ∷ []; edges = record { from = 0; to = 1; price = Fixed 1 } ∷ record { from = 1; to = 0; price = Fixed 1 } ∷ [] }
+    ≡ record {
+      vertices = RouterVertex 0 ∷ RouterVertex 1 ∷ [];
+      edges = record { from = 0; to = 1; price = Fixed 1 } ∷ record { from = 1; to = 0; price = Fixed 1 } ∷ [];
+    }
 pair_back = refl
 
 -- a lower bound of 0 is refused at its line, and no configuration is asked for
-pair_bad_bounds : EndsAs (outcome AsRequested files) (record { name = codes "request.txt"; most = 4194304; came = Ok (request (codes "0 5")) } ∷ []) (Faulty (record { number = 25; file = codes "request.txt"; line = 3 }))
+pair_bad_bounds : EndsAs (outcome AsRequested files)
+    (record { name = codes "request.txt"; most = 4194304; came = Ok (request (codes "0 5")) } ∷ [])
+    (Faulty (record { number = 25; file = codes "request.txt"; line = 3 }))
 pair_bad_bounds = (refl, refl, refl)
 
 -- a configuration that fails ends the reading, and the next isn't asked for
 pair_failed : EndsAs (outcome AsRequested files)
-    (record { name = codes "request.txt"; most = 4194304; came = Ok (request (codes "1 65535")) } ∷ record { name = codes "A.conf"; most = 4194304; came = Err NotRead } ∷ []) (Failed (codes "A.conf"))
+    (record { name = codes "request.txt"; most = 4194304; came = Ok (request (codes "1 65535")) }
+    ∷ record { name = codes "A.conf"; most = 4194304; came = Err NotRead } ∷ []) (Failed (codes "A.conf"))
 pair_failed = (refl, refl, (refl, refl, (refl, refl)))

@@ -38,7 +38,8 @@ use Rattle.designer_command.proofs.OwnStatuses.{only_done, own_conflict, own_lsa
 
 -- No tree over a box at the greatest of some costs that aren't below the lower bounds has an Undone and just as many entries
 -- as a large budget.
-never_spent : (limits : Bounds) (p : DesignProblem) (w : List ℕ) (forms : List Form) (tree : List Entry) → IsProblem p → IsLarge limits p → length p.low ≡ length w → ((k : ℕ) → k < length p.low → slice_index p.low k ≤ slice_index w k) →
+never_spent : (limits : Bounds) (p : DesignProblem) (w : List ℕ) (forms : List Form) (tree : List Entry) → IsProblem p →
+    IsLarge limits p → length p.low ≡ length w → ((k : ℕ) → k < length p.low → slice_index p.low k ≤ slice_index w k) →
     IsSoundTree forms (capped (box_of p) (greatest_cost w)) tree → Contains tree Undone → entry_count tree ≡ limits.nodes → ⊥
 never_spent limits p w forms tree kept large counted above sound undone spent =
     let no_higher : All (λ low. low ≤ greatest_cost w) p.low =
@@ -47,13 +48,17 @@ never_spent limits p w forms tree kept large counted above sound undone spent =
     let same = get_or_default p.low k 0 d within in
     omega (arith, most, same, above k within)
     in
-    let few = (few_entries (length p.low) forms (capped (box_of p) (greatest_cost w)) tree (capped_box p (greatest_cost w) kept no_higher) sound).unfinished undone in
+    let few = (few_entries (length p.low) forms (capped (box_of p) (greatest_cost w)) tree
+    (capped_box p (greatest_cost w) kept no_higher) sound).unfinished undone in
     omega (arith, few, large, spent, capped-le p (greatest_cost w))
 
 -- nor over the box at the greatest upper bound
-never_whole : (limits : Bounds) (p : DesignProblem) (forms : List Form) (tree : List Entry) → IsProblem p → IsLarge limits p → IsSoundTree forms (capped (box_of p) (greatest_bound p)) tree → Contains tree Undone → entry_count tree ≡ limits.nodes → ⊥
+never_whole : (limits : Bounds) (p : DesignProblem) (forms : List Form) (tree : List Entry) → IsProblem p →
+    IsLarge limits p → IsSoundTree forms (capped (box_of p) (greatest_bound p)) tree → Contains tree Undone →
+    entry_count tree ≡ limits.nodes → ⊥
 never_whole limits p forms tree kept large sound undone spent =
-    never_spent limits p p.high forms tree kept large (omega (arith, kept.low_count)) (λ k within. (kept.ordered k (omega (arith, kept.low_count, within))).1) sound undone spent
+    never_spent limits p p.high forms tree kept large (omega (arith, kept.low_count))
+    (λ k within. (kept.ordered k (omega (arith, kept.low_count, within))).1) sound undone spent
 
 -- `conflict`
 
@@ -70,7 +75,8 @@ unknown_conflict limits p bytes kept large shown = by_found shown.conflict shown
 
 pub conflicts_found : ConflictsAreFound
 conflicts_found limits names came d end bytes ends h =
-    said_end _ (MayConflict limits) came d end bytes (λ s. ((s ≡ status.Done) ⊎ (s ≡ status.Undecided)) × (IsProblem d.problem → IsLarge limits d.problem → s ≡ status.Done)) (own_conflict limits)
+    said_end _ (MayConflict limits) came d end bytes (λ s. ((s ≡ status.Done) ⊎ (s ≡ status.Undecided))
+    × (IsProblem d.problem → IsLarge limits d.problem → s ≡ status.Done)) (own_conflict limits)
     (record {
       done = λ h. (inl refl, λ kept large. refl);
       impossible = λ h. absurd h;
@@ -88,7 +94,8 @@ unknown_total : (limits : Bounds) (d : Input) (bytes : List ℕ) → IsProblem d
 unknown_total limits d bytes kept large shown =
     let w = shown.designed.costs in
     let within = shown.designed.within in
-    never_spent limits d.problem w _ shown.tree kept large (omega (arith, within.low_count)) (λ k inside. within.above k (omega (arith, within.low_count, inside)))
+    never_spent limits d.problem w _ shown.tree kept large (omega (arith, within.low_count))
+    (λ k inside. within.above k (omega (arith, within.low_count, inside)))
     shown.spent.printed.earnest.sound shown.spent.undone shown.spent.spent
 
 pub totals_found : TotalsAreFound
@@ -97,7 +104,16 @@ totals_found limits names came d end bytes ends h =
     (record {
       done = λ h. (inl refl, λ kept large. best_settles d.problem h.designed.costs h.designed.best);
       impossible = λ h. (inr (inl refl), λ kept large. none_settles d.problem h.none);
-      undecided = λ h. (inr (inr refl), λ kept large. absurd (elim h [ inl shown ↦ never_undecided limits d.problem bytes (large_suffice limits d.problem kept large) shown | inr shown ↦ unknown_total limits d bytes kept large shown ]));
+      undecided = λ h. (
+        inr (inr refl),
+        λ kept large.
+            absurd (elim h [
+              | inl shown ↦ never_undecided limits d.problem bytes
+                  (large_suffice limits d.problem kept large) shown
+              | inr shown ↦ unknown_total limits d bytes kept
+                  large shown
+            ]),
+      );
       rejected = λ h. absurd h;
     }) ends h
 
@@ -121,30 +137,45 @@ done_impossible is = cc
 fit_settles : (limits : Bounds) (sharing : Sharing) (bytes : List ℕ) → ShowsSpread limits sharing status.Done bytes → IsSpreadSettled sharing status.Done
 fit_settles limits sharing bytes shown = by_found shown.spread shown.found shown.status
   where
-    by_found : (spread : Spread) → IsSpreadFound sharing.problem shown.sets limits.top limits.nodes spread → spreads.status_of spread ≡ status.Done → IsSpreadSettled sharing status.Done
+    by_found : (spread : Spread) → IsSpreadFound sharing.problem shown.sets limits.top limits.nodes spread →
+        spreads.status_of spread ≡ status.Done → IsSpreadSettled sharing status.Done
     by_found (Fit w) found is = record { sets = shown.sets; said = shown.said; either = inl refl; fit = λ v fits. refl; unfit = λ none. absurd (none w found) }
     by_found (NoSpread rows tree) found is = absurd (impossible_done is)
     by_found (NoSpreadKnown rows tree) found is = absurd (undecided_done is)
 
-none_fit_settles : (limits : Bounds) (sharing : Sharing) (bytes : List ℕ) → ShowsSpread limits sharing status.Impossible bytes → IsSpreadSettled sharing status.Impossible
+none_fit_settles : (limits : Bounds) (sharing : Sharing) (bytes : List ℕ) →
+    ShowsSpread limits sharing status.Impossible bytes → IsSpreadSettled sharing status.Impossible
 none_fit_settles limits sharing bytes shown = by_found shown.spread shown.found shown.status
   where
-    by_found : (spread : Spread) → IsSpreadFound sharing.problem shown.sets limits.top limits.nodes spread → spreads.status_of spread ≡ status.Impossible → IsSpreadSettled sharing status.Impossible
+    by_found : (spread : Spread) → IsSpreadFound sharing.problem shown.sets limits.top limits.nodes spread →
+        spreads.status_of spread ≡ status.Impossible → IsSpreadSettled sharing status.Impossible
     by_found (Fit w) found is = absurd (done_impossible is)
-    by_found (NoSpread rows tree) found is = record { sets = shown.sets; said = shown.said; either = inr refl; fit = λ v fits. absurd (found.2 v fits); unfit = λ none. refl }
+    by_found (NoSpread rows tree) found is =
+        record {
+          sets = shown.sets;
+          said = shown.said;
+          either = inr refl;
+          fit = λ v fits. absurd (found.2 v fits);
+          unfit = λ none. refl;
+        }
     by_found (NoSpreadKnown rows tree) found is = absurd (undecided_impossible is)
 
-unknown_spread : (limits : Bounds) (sharing : Sharing) (bytes : List ℕ) → IsProblem sharing.problem → IsLarge limits sharing.problem → ShowsSpread limits sharing status.Undecided bytes → ⊥
+unknown_spread : (limits : Bounds) (sharing : Sharing) (bytes : List ℕ) → IsProblem sharing.problem →
+    IsLarge limits sharing.problem → ShowsSpread limits sharing status.Undecided bytes → ⊥
 unknown_spread limits sharing bytes kept large shown = by_found shown.spread shown.found shown.status
   where
     by_found : (spread : Spread) → IsSpreadFound sharing.problem shown.sets limits.top limits.nodes spread → spreads.status_of spread ≡ status.Undecided → ⊥
     by_found (Fit w) found is = done_undecided is
     by_found (NoSpread rows tree) found is = impossible_undecided is
-    by_found (NoSpreadKnown rows tree) found is = never_whole limits sharing.problem _ tree kept large found.spent.printed.earnest.sound found.spent.undone found.spent.spent
+    by_found (NoSpreadKnown rows tree) found is =
+        never_whole limits sharing.problem _ tree kept large found.spent.printed.earnest.sound found.spent.undone
+        found.spent.spent
 
 pub spreads_found : SpreadsAreFound
 spreads_found limits names file came sharing end bytes ends h =
-    said_end _ (MaySpread limits) came sharing end bytes (λ s. IsFound s × (IsProblem sharing.problem → IsLarge limits sharing.problem → IsSpreadSettled sharing s)) (own_spread limits)
+    said_end _ (MaySpread limits) came sharing end bytes
+    (λ s. IsFound s × (IsProblem sharing.problem → IsLarge limits sharing.problem → IsSpreadSettled sharing s))
+    (own_spread limits)
     (record {
       done = λ h. (inl refl, λ kept large. fit_settles limits sharing bytes h);
       impossible = λ h. (inr (inl refl), λ kept large. none_fit_settles limits sharing bytes h);

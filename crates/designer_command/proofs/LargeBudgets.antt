@@ -23,7 +23,8 @@ points_of-le (l ∷ ls) [] (k ∷ ks) same below = absurd (omega arith)
 points_of-le (l ∷ ls) (h ∷ hs) [] same below = absurd (omega arith)
 points_of-le (l ∷ ls) (h ∷ hs) (k ∷ ks) same below =
     let here : h ≤ k = below 0 (omega arith) in
-    product_le (h + 1 - l) (k + 1 - l) (points_of ls hs) (points_of ls ks) (omega arith) (points_of-le ls hs ks (omega arith) (λ i within. below (suc i) (omega arith)))
+    product_le (h + 1 - l) (k + 1 - l) (points_of ls hs) (points_of ls ks) (omega arith)
+    (points_of-le ls hs ks (omega arith) (λ i within. below (suc i) (omega arith)))
 
 -- a cap cuts none of the ends where it is their greatest
 pub capped-le : (p : DesignProblem) (cap : ℕ) → points (capped (box_of p) cap) ≤ points (capped (box_of p) (greatest_bound p))
@@ -39,5 +40,6 @@ capped-le p cap =
 
 pub large_suffice : LargeBudgetsSuffice
 large_suffice limits p kept enough cap rows tree no_higher true_rows earnest undone spent =
-    let few = (few_entries (length p.low) (forms_of_rows p rows) (capped (box_of p) cap) tree (capped_box p cap kept no_higher) earnest.sound).unfinished undone in
+    let few = (few_entries (length p.low) (forms_of_rows p rows) (capped (box_of p) cap) tree
+    (capped_box p cap kept no_higher) earnest.sound).unfinished undone in
     omega (arith, few, enough, spent, capped-le p cap)

@@ -13,7 +13,6 @@ pub mod OnlyCheapest
 mod Examples
 pub mod MadeNames
 pub mod Trials
-pub mod TotalTexts
 pub mod TotalRuns
 pub mod LargeBudgets
 pub mod CompletenessLaws

@@ -15,7 +15,8 @@ use Rattle.path_requests.specs.declared.ranges.Range.{Range}
 use Rattle.path_requests.specs.declared.ranges.Range.TheVariants.{Within, AsItIs}
 use Rattle.request_reader.specs.Asked.{Asked}
 use Rattle.path_requests.specs.Meaning.{range_of, is_free, variable_of, names_from}
-use Rattle.wanted_paths.proofs.RouteLaws.{same_bytes-true, same_bytes-same, router_number_is}
+use Rattle.cost_base.proofs.ByteLemmas.{same_bytes-true, same_bytes-same}
+use Rattle.wanted_paths.proofs.RouteLaws.{router_number_is}
 use Rattle.designer_command.proofs.PresentCosts.{line_at}
 use Rattle.designer_command.proofs.PrintedSections.{NoneOf, AfterRun, OneRun}
 
@@ -27,7 +28,9 @@ name_of a d l link = record { router = slice_index_or d.routers link.router []; 
 abbrev if_free : Range → VarName → List VarName → List VarName
 if_free range name rest = (if is_free range then name ∷ [] else []) ++ rest
 
-none_step : (router : List ℕ) (w : List ℕ) (range : Range) (name : VarName) (rest : List VarName) → same_bytes router name.router ≡ false → NoneOf router (map (line_at w) rest) → NoneOf router (map (line_at w) (if_free range name rest))
+none_step : (router : List ℕ) (w : List ℕ) (range : Range) (name : VarName) (rest : List VarName) →
+    same_bytes router name.router ≡ false → NoneOf router (map (line_at w) rest) →
+    NoneOf router (map (line_at w) (if_free range name rest))
 none_step router w (Within lo hi) name rest other more = (other, more)
 none_step router w AsItIs name rest other more = more
 
@@ -37,21 +40,34 @@ none_after router (line ∷ lines) none = inr (none.0, none.1)
 
 after_one : (router : List ℕ) (lines : List CostLine) → AfterRun router lines → OneRun router lines
 after_one router [] run = tt
-after_one router (line ∷ lines) run = elim run [ inl same ↦ inl (same.0, same.1) | inr other ↦ inr (other.0, after_one router lines (none_after router lines other.1)) ]
+after_one router (line ∷ lines) run =
+    elim run [
+      | inl same ↦ inl (same.0, same.1)
+      | inr other ↦ inr
+          (other.0, after_one router lines (none_after router lines other.1))
+    ]
 
-after_same : (router : List ℕ) (w : List ℕ) (range : Range) (name : VarName) (rest : List VarName) → same_bytes router name.router ≡ true → AfterRun router (map (line_at w) rest) → AfterRun router (map (line_at w) (if_free range name rest))
+after_same : (router : List ℕ) (w : List ℕ) (range : Range) (name : VarName) (rest : List VarName) →
+    same_bytes router name.router ≡ true → AfterRun router (map (line_at w) rest) →
+    AfterRun router (map (line_at w) (if_free range name rest))
 after_same router w (Within lo hi) name rest same more = inl (same, more)
 after_same router w AsItIs name rest same more = more
 
-after_other : (router : List ℕ) (w : List ℕ) (range : Range) (name : VarName) (rest : List VarName) → same_bytes router name.router ≡ false → NoneOf router (map (line_at w) rest) → AfterRun router (map (line_at w) (if_free range name rest))
+after_other : (router : List ℕ) (w : List ℕ) (range : Range) (name : VarName) (rest : List VarName) →
+    same_bytes router name.router ≡ false → NoneOf router (map (line_at w) rest) →
+    AfterRun router (map (line_at w) (if_free range name rest))
 after_other router w (Within lo hi) name rest other more = inr (other, more)
 after_other router w AsItIs name rest other more = none_after router (map (line_at w) rest) more
 
-one_same : (router : List ℕ) (w : List ℕ) (range : Range) (name : VarName) (rest : List VarName) → same_bytes router name.router ≡ true → AfterRun router (map (line_at w) rest) → OneRun router (map (line_at w) (if_free range name rest))
+one_same : (router : List ℕ) (w : List ℕ) (range : Range) (name : VarName) (rest : List VarName) →
+    same_bytes router name.router ≡ true → AfterRun router (map (line_at w) rest) →
+    OneRun router (map (line_at w) (if_free range name rest))
 one_same router w (Within lo hi) name rest same more = inl (same, more)
 one_same router w AsItIs name rest same more = after_one router (map (line_at w) rest) more
 
-one_other : (router : List ℕ) (w : List ℕ) (range : Range) (name : VarName) (rest : List VarName) → same_bytes router name.router ≡ false → OneRun router (map (line_at w) rest) → OneRun router (map (line_at w) (if_free range name rest))
+one_other : (router : List ℕ) (w : List ℕ) (range : Range) (name : VarName) (rest : List VarName) →
+    same_bytes router name.router ≡ false → OneRun router (map (line_at w) rest) →
+    OneRun router (map (line_at w) (if_free range name rest))
 one_other router w (Within lo hi) name rest other more = inr (other, more)
 one_other router w AsItIs name rest other more = more
 
@@ -59,12 +75,16 @@ one_other router w AsItIs name rest other more = more
 same_router : (d : Database) (n m : ℕ) → n ≡ m → same_bytes (slice_index_or d.routers n []) (slice_index_or d.routers m []) ≡ true
 same_router d n m same = same_bytes-same (slice_index_or d.routers n []) (slice_index_or d.routers m []) (ap (λ k. slice_index_or d.routers k []) same)
 
-pub number_of : (d : Database) (n m : ℕ) → AllPairs (λ a b. a ≢ b) d.routers → n < length d.routers → m < length d.routers → same_bytes (slice_index_or d.routers n []) (slice_index_or d.routers m []) ≡ true → n ≡ m
+pub number_of : (d : Database) (n m : ℕ) → AllPairs (λ a b. a ≢ b) d.routers → n < length d.routers →
+    m < length d.routers → same_bytes (slice_index_or d.routers n []) (slice_index_or d.routers m []) ≡ true → n ≡ m
 number_of d n m different n_in m_in same =
     sym (router_number_is d n (slice_index_or d.routers n []) different n_in refl)
-    ∙ router_number_is d m (slice_index_or d.routers n []) different m_in (sym (same_bytes-true (slice_index_or d.routers n []) (slice_index_or d.routers m []) same))
+    ∙ router_number_is d m (slice_index_or d.routers n []) different m_in
+    (sym (same_bytes-true (slice_index_or d.routers n []) (slice_index_or d.routers m []) same))
 
-other_router : (d : Database) (n m : ℕ) → AllPairs (λ a b. a ≢ b) d.routers → n < length d.routers → m < length d.routers → (n ≡ m → ⊥) → same_bytes (slice_index_or d.routers n []) (slice_index_or d.routers m []) ≡ false
+other_router : (d : Database) (n m : ℕ) → AllPairs (λ a b. a ≢ b) d.routers → n < length d.routers →
+    m < length d.routers → (n ≡ m → ⊥) →
+    same_bytes (slice_index_or d.routers n []) (slice_index_or d.routers m []) ≡ false
 other_router d n m different n_in m_in apart =
     false_from_ne_true (same_bytes (slice_index_or d.routers n []) (slice_index_or d.routers m [])) (λ same. apart (number_of d n m different n_in m_in same))
 
@@ -78,18 +98,25 @@ pairs_tail link links sorted = λ i j e before within. sorted (suc i) (suc j) e 
 abbrev InRouters : Database → List Linked → Type 0
 InRouters d links = All (λ link. link.router < length d.routers) links
 
-none_behind : (a : Asked) (d : Database) (w : List ℕ) (n l : ℕ) (links : List Linked) → AllPairs (λ a b. a ≢ b) d.routers → n < length d.routers → InRouters d links → All (λ link. n < link.router) links → NoneOf (slice_index_or d.routers n []) (map (line_at w) (names_from a d l links))
+none_behind : (a : Asked) (d : Database) (w : List ℕ) (n l : ℕ) (links : List Linked) →
+    AllPairs (λ a b. a ≢ b) d.routers → n < length d.routers → InRouters d links → All (λ link. n < link.router) links →
+    NoneOf (slice_index_or d.routers n []) (map (line_at w) (names_from a d l links))
 none_behind a d w n l [] different n_in within above = tt
 none_behind a d w n l (link ∷ links) different n_in within above =
     let here : n < link.router = All-head (λ (i : Linked). n < i.router) link links above in
     none_step (slice_index_or d.routers n []) w (range_of a d link) (name_of a d l link) (names_from a d (l + 1) links)
     (other_router d n link.router different n_in (All-head (λ (i : Linked). i.router < length d.routers) link links within) (λ same. absurd (omega arith)))
-    (none_behind a d w n (l + 1) links different n_in (All-tail (λ (i : Linked). i.router < length d.routers) link links within) (All-tail (λ (i : Linked). n < i.router) link links above))
+    (none_behind a d w n (l + 1) links different n_in
+    (All-tail (λ (i : Linked). i.router < length d.routers) link links within)
+    (All-tail (λ (i : Linked). n < i.router) link links above))
 
 higher : (n m : ℕ) (links : List Linked) → n < m → All (λ link. m ≤ link.router) links → All (λ link. n < link.router) links
 higher n m links less above = λ k e within. let h = above k e within in omega arith
 
-run_from : (a : Asked) (d : Database) (w : List ℕ) (n l : ℕ) (links : List Linked) → AllPairs (λ a b. a ≢ b) d.routers → n < length d.routers → InRouters d links → AllPairs (λ a b. a.router ≤ b.router) links → All (λ link. n ≤ link.router) links → AfterRun (slice_index_or d.routers n []) (map (line_at w) (names_from a d l links))
+run_from : (a : Asked) (d : Database) (w : List ℕ) (n l : ℕ) (links : List Linked) → AllPairs (λ a b. a ≢ b) d.routers →
+    n < length d.routers → InRouters d links → AllPairs (λ a b. a.router ≤ b.router) links →
+    All (λ link. n ≤ link.router) links →
+    AfterRun (slice_index_or d.routers n []) (map (line_at w) (names_from a d l links))
 run_from a d w n l [] different n_in within sorted above = tt
 run_from a d w n l (link ∷ links) different n_in within sorted above =
     let here : n ≤ link.router = All-head (λ (i : Linked). n ≤ i.router) link links above in
@@ -97,7 +124,8 @@ run_from a d w n l (link ∷ links) different n_in within sorted above =
     let behind = All-tail (λ (i : Linked). i.router < length d.routers) link links within in
     elim (cases_order n link.router) [
       | inl same ↦
-          after_same (slice_index_or d.routers n []) w (range_of a d link) (name_of a d l link) (names_from a d (l + 1) links) (same_router d n link.router same)
+          after_same (slice_index_or d.routers n []) w (range_of a d link) (name_of a d l link)
+          (names_from a d (l + 1) links) (same_router d n link.router same)
           (run_from a d w n (l + 1) links different n_in behind (pairs_tail link links sorted) (All-tail (λ (i : Linked). n ≤ i.router) link links above))
       | inr apart ↦ elim apart [
         | inl less ↦
@@ -109,7 +137,10 @@ run_from a d w n l (link ∷ links) different n_in within sorted above =
     ]
 
 -- the lines of a router are one run
-pub one_run : (a : Asked) (d : Database) (w : List ℕ) (n l : ℕ) (links : List Linked) → AllPairs (λ a b. a ≢ b) d.routers → n < length d.routers → InRouters d links → AllPairs (λ a b. a.router ≤ b.router) links → OneRun (slice_index_or d.routers n []) (map (line_at w) (names_from a d l links))
+pub one_run : (a : Asked) (d : Database) (w : List ℕ) (n l : ℕ) (links : List Linked) →
+    AllPairs (λ a b. a ≢ b) d.routers → n < length d.routers → InRouters d links →
+    AllPairs (λ a b. a.router ≤ b.router) links →
+    OneRun (slice_index_or d.routers n []) (map (line_at w) (names_from a d l links))
 one_run a d w n l [] different n_in within sorted = tt
 one_run a d w n l (link ∷ links) different n_in within sorted =
     let inside : link.router < length d.routers = All-head (λ (i : Linked). i.router < length d.routers) link links within in
@@ -117,7 +148,8 @@ one_run a d w n l (link ∷ links) different n_in within sorted =
     elim (cases_order n link.router) [
       | inl same ↦
           one_same (slice_index_or d.routers n []) w (range_of a d link) (name_of a d l link) (names_from a d (l + 1) links) (same_router d n link.router same)
-          (run_from a d w n (l + 1) links different n_in behind (pairs_tail link links sorted) (subst (λ (m : ℕ). All (λ b. m ≤ b.router) links) (sym same) (pairs_head link links sorted)))
+          (run_from a d w n (l + 1) links different n_in behind (pairs_tail link links sorted)
+          (subst (λ (m : ℕ). All (λ b. m ≤ b.router) links) (sym same) (pairs_head link links sorted)))
       | inr apart ↦ elim apart [
         | inl less ↦
             one_other (slice_index_or d.routers n []) w (range_of a d link) (name_of a d l link) (names_from a d (l + 1) links)
@@ -147,7 +179,8 @@ name_step : (P : VarName → Type 0) (range : Range) (name : VarName) (rest : Li
 name_step P (Within lo hi) name rest here more = All-cons P name rest here more
 name_step P AsItIs name rest here more = more
 
-pub names_known : (a : Asked) (d : Database) (routers : List Router) (l : ℕ) (links : List Linked) → IsDatabase d → All (IsLink d) links → All (IsLinkOf routers) links → All (IsNameOf d.routers routers) (names_from a d l links)
+pub names_known : (a : Asked) (d : Database) (routers : List Router) (l : ℕ) (links : List Linked) → IsDatabase d →
+    All (IsLink d) links → All (IsLinkOf routers) links → All (IsNameOf d.routers routers) (names_from a d l links)
 names_known a d routers l [] base each owned = All-nil (IsNameOf d.routers routers)
 names_known a d routers l (link ∷ links) base each owned =
     let is = All-head (IsLink d) link links each in

@@ -50,7 +50,9 @@ pub names_utf8 : (blocks : ℕ) → All IsUtf8 (file_names blocks)
 names_utf8 blocks = All-cons IsUtf8 (file_name (joint 0)) (over_blocks block_files blocks) (numbered_name 106 0 (omega arith)) (over_names blocks)
 
 -- one more file of the names and the texts that are left
-pub files_turn : (names texts : List (List ℕ)) (files more all : List (List ℕ × List ℕ)) (i : ℕ) (d e name text : List ℕ) (file : List ℕ × List ℕ) → i < length names → i < length texts → more ≡ files ++ file ∷ [] → file ≡ (name, text) → name ≡ get_or names i d → text ≡ get_or texts i e →
+pub files_turn : (names texts : List (List ℕ)) (files more all : List (List ℕ × List ℕ)) (i : ℕ)
+    (d e name text : List ℕ) (file : List ℕ × List ℕ) → i < length names → i < length texts →
+    more ≡ files ++ file ∷ [] → file ≡ (name, text) → name ≡ get_or names i d → text ≡ get_or texts i e →
     files ++ zip (drop i names) (drop i texts) ≡ all → more ++ zip (drop (i + 1) names) (drop (i + 1) texts) ≡ all
 files_turn names texts files more all i d e name text file in_names in_texts pushed is name_is text_is so_far =
     let next : i + 1 ≡ suc i = omega arith in
@@ -65,7 +67,8 @@ files_turn names texts files more all i d e name text file in_names in_texts pus
     ∙ ap (λ (fs : List (List ℕ × List ℕ)). files ++ fs) (sym one)
     ∙ so_far
 
-over_length : {X Y : Type 0} (f : ℕ → List X) (g : ℕ → List Y) (n : ℕ) → ((i : ℕ) → length (f i) ≡ length (g i)) → length (over_blocks f n) ≡ length (over_blocks g n)
+over_length : {X Y : Type 0} (f : ℕ → List X) (g : ℕ → List Y) (n : ℕ) → ((i : ℕ) → length (f i) ≡ length (g i)) →
+    length (over_blocks f n) ≡ length (over_blocks g n)
 over_length f g zero same = refl
 over_length f g (suc n) same = omega (arith, length-append (over_blocks f n) (f n), length-append (over_blocks g n) (g n), over_length f g n same, same n)
 

@@ -35,10 +35,22 @@ pub own_rewrite : SaysItsOwn MayRewrite
 own_rewrite = record { refused = λ x bytes h. h; failed = λ x bytes h. h; unwritten = λ x bytes h. h; wanting = λ x bytes h. h; worded = λ x bytes h. h }
 
 pub own_try : (blocks start : ℕ) → SaysItsOwn (MayTry blocks start)
-own_try blocks start = record { refused = λ x bytes h. h; failed = λ x bytes h. h; unwritten = λ x bytes h. h; wanting = λ x bytes h. h; worded = λ x bytes h. h }
+own_try blocks start = record {
+  refused = λ x bytes h. h;
+  failed = λ x bytes h. h;
+  unwritten = λ x bytes h. h;
+  wanting = λ x bytes h. h;
+  worded = λ x bytes h. h;
+}
 
 pub own_conflict : (limits : Bounds) → SaysItsOwn (MayConflict limits)
-own_conflict limits = record { refused = λ x bytes h. h; failed = λ x bytes h. h; unwritten = λ x bytes h. h; wanting = λ x bytes h. h; worded = λ x bytes h. h }
+own_conflict limits = record {
+  refused = λ x bytes h. h;
+  failed = λ x bytes h. h;
+  unwritten = λ x bytes h. h;
+  wanting = λ x bytes h. h;
+  worded = λ x bytes h. h;
+}
 
 pub own_spread : (limits : Bounds) → SaysItsOwn (MaySpread limits)
 own_spread limits = record { refused = λ x bytes h. h; failed = λ x bytes h. h; unwritten = λ x bytes h. h; wanting = λ x bytes h. h; worded = λ x bytes h. h }
@@ -60,7 +72,8 @@ pub record Fits {A : Type 0} (may : A → Status → List ℕ → Type 0) (x : A
   pub rejected : may x status.EvidenceRefused bytes → Wanted status.EvidenceRefused
 
 -- so it holds of the status that the command has
-pub own_end : {A : Type 0} (may : A → Status → List ℕ → Type 0) (x : A) (end : Status) (bytes : List ℕ) (Wanted : Status → Type 0) → SaysItsOwn may → Fits may x bytes Wanted → may x end bytes → Wanted end
+pub own_end : {A : Type 0} (may : A → Status → List ℕ → Type 0) (x : A) (end : Status) (bytes : List ℕ)
+    (Wanted : Status → Type 0) → SaysItsOwn may → Fits may x bytes Wanted → may x end bytes → Wanted end
 own_end may x status.Done bytes Wanted own fits h = fits.done h
 own_end may x status.Impossible bytes Wanted own fits h = fits.impossible h
 own_end may x status.Undecided bytes Wanted own fits h = fits.undecided h
@@ -72,11 +85,16 @@ own_end may x status.WordsRefused bytes Wanted own fits h = absurd (own.worded x
 own_end may x status.EvidenceRefused bytes Wanted own fits h = fits.rejected h
 
 -- files that say this say nothing else
-of_said : {A : Type 0} (reading : Reading A) (may : A → Status → List ℕ → Type 0) (came : List Taken) (x : A) (s : Status) (bytes : List ℕ) → EndsAs reading came (Says x) → OnSaid reading came may s bytes → may x s bytes
-of_said {A} reading may came x s bytes ends h = subst (λ (y : A). may y s bytes) (one_said h.said x (one_end reading came (Says h.said) (Says x) h.ends ends)) h.allowed
+of_said : {A : Type 0} (reading : Reading A) (may : A → Status → List ℕ → Type 0) (came : List Taken) (x : A)
+    (s : Status) (bytes : List ℕ) → EndsAs reading came (Says x) → OnSaid reading came may s bytes → may x s bytes
+of_said {A} reading may came x s bytes ends h =
+    subst (λ (y : A). may y s bytes)
+    (one_said h.said x (one_end reading came (Says h.said) (Says x) h.ends ends)) h.allowed
 
 -- where the files say this, a command writes its own text with a status that it may have
-says_so : {A : Type 0} (reading : Reading A) (may : A → Status → List ℕ → Type 0) (came : List Taken) (x : A) (end : Status) (bytes : List ℕ) → EndsAs reading came (Says x) → MayAfter reading may came end bytes → may x end bytes
+says_so : {A : Type 0} (reading : Reading A) (may : A → Status → List ℕ → Type 0) (came : List Taken) (x : A)
+    (end : Status) (bytes : List ℕ) → EndsAs reading came (Says x) → MayAfter reading may came end bytes →
+    may x end bytes
 says_so reading may came x status.Done bytes ends h = of_said reading may came x status.Done bytes ends h
 says_so reading may came x status.Impossible bytes ends h = of_said reading may came x status.Impossible bytes ends h
 says_so reading may came x status.Undecided bytes ends h = of_said reading may came x status.Undecided bytes ends h
@@ -88,13 +106,17 @@ says_so reading may came x status.WordsRefused bytes ends h = of_said reading ma
 says_so reading may came x status.EvidenceRefused bytes ends h = of_said reading may came x status.EvidenceRefused bytes ends h
 
 -- where the files say this, what is wanted holds of the status that the command ends with
-pub said_end : {A : Type 0} (reading : Reading A) (may : A → Status → List ℕ → Type 0) (came : List Taken) (x : A) (end : Status) (bytes : List ℕ) (Wanted : Status → Type 0) → SaysItsOwn may → Fits may x bytes Wanted →
+pub said_end : {A : Type 0} (reading : Reading A) (may : A → Status → List ℕ → Type 0) (came : List Taken) (x : A)
+    (end : Status) (bytes : List ℕ) (Wanted : Status → Type 0) → SaysItsOwn may → Fits may x bytes Wanted →
     EndsAs reading came (Says x) → MayAfter reading may came end bytes → Wanted end
 said_end reading may came x end bytes Wanted own fits ends h = own_end may x end bytes Wanted own fits (says_so reading may came x end bytes ends h)
 
 -- where it may neither find its problem impossible nor leave it undecided nor reject what it is given, it ends with Done
-pub only_done : {A : Type 0} (reading : Reading A) (may : A → Status → List ℕ → Type 0) (came : List Taken) (x : A) (end : Status) (bytes : List ℕ) → SaysItsOwn may →
-    (may x status.Impossible bytes → ⊥) → (may x status.Undecided bytes → ⊥) → (may x status.EvidenceRefused bytes → ⊥) → EndsAs reading came (Says x) → MayAfter reading may came end bytes → end ≡ status.Done
+pub only_done : {A : Type 0} (reading : Reading A) (may : A → Status → List ℕ → Type 0) (came : List Taken) (x : A)
+    (end : Status) (bytes : List ℕ) → SaysItsOwn may →
+    (may x status.Impossible bytes → ⊥) → (may x status.Undecided bytes → ⊥) →
+    (may x status.EvidenceRefused bytes → ⊥) → EndsAs reading came (Says x) → MayAfter reading may came end bytes →
+    end ≡ status.Done
 only_done reading may came x end bytes own possible decided accepted ends h =
     said_end reading may came x end bytes (λ s. s ≡ status.Done) own
     (record { done = λ h. refl; impossible = λ h. absurd (possible h); undecided = λ h. absurd (decided h); rejected = λ h. absurd (accepted h) }) ends h

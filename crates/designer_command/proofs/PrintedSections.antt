@@ -7,6 +7,7 @@ use Rattle.std.proofs.lemmas.Bool.{and_from, and_parts, and_right, cases_Bool, f
 use Rattle.cost_base.specs.Decimal.{decimal}
 use Rattle.cost_base.specs.Lists.{same_bytes}
 use Rattle.cost_base.specs.Words.{IsOneWord}
+use Rattle.cost_base.proofs.ByteLemmas.{same_bytes-true}
 use Rattle.text_lines.specs.Lines.{lines, words}
 use Rattle.path_rows.specs.declared.form.Row.{Row}
 use Rattle.path_rows.specs.declared.tree.Entry.{Entry}
@@ -20,8 +21,7 @@ use Rattle.path_rows.specs.Answers.{AnswerParts}
 use Rattle.path_rows.specs.Text.{spaced, verdict_words, router_lines, cost_lines, costs_lines, row_line, entry_line, tree_lines, text}
 use Rattle.config_reader.specs.Statements.{begin_with}
 use Rattle.config_reader.specs.Sections.{section_lines}
-use Rattle.config_reader.proofs.Places.{same_bytes-true}
-use Rattle.config_reader.proofs.PrintedLines.{words-word}
+use Rattle.text_lines.proofs.WordLaws.{words-one}
 use Rattle.designer_command.specs.ReadBack.{opens_section, until_end, section}
 use Rattle.designer_command.proofs.PrintedText.{NamesWords, head_part, floor_part, end_part, last_part, parts_are, lines_text}
 
@@ -59,9 +59,11 @@ starts_other line = not (begin_with (codes "router" ∷ []) (words line))
 other_opens : (router line : List ℕ) → starts_other line ≡ true → opens_section router line ≡ false
 other_opens router line other = by_words (words line) other
   where
-    by_words : (ws : List (List ℕ)) → not (begin_with (codes "router" ∷ []) ws) ≡ true → (length ws == 2 && begin_with (codes "router" ∷ router ∷ []) ws) ≡ false
+    by_words : (ws : List (List ℕ)) → not (begin_with (codes "router" ∷ []) ws) ≡ true →
+        (length ws == 2 && begin_with (codes "router" ∷ router ∷ []) ws) ≡ false
     by_words [] other = refl
-    by_words (w ∷ ws) other = and_right (length (w ∷ ws) == 2) (begin_with (codes "router" ∷ router ∷ []) (w ∷ ws)) (by_test (same_bytes (codes "router") w) other)
+    by_words (w ∷ ws) other = and_right (length (w ∷ ws) == 2) (begin_with (codes "router" ∷ router ∷ []) (w ∷ ws))
+        (by_test (same_bytes (codes "router") w) other)
       where
         by_test : (b : Bool) → not (b && true) ≡ true → (b && begin_with (router ∷ []) ws) ≡ false
         by_test true other = absurd (false≢true other)
@@ -114,7 +116,7 @@ abbrev router_line : List ℕ → List ℕ
 router_line name = spaced (codes "router" ∷ name ∷ [])
 
 router_words : (name : List ℕ) → IsOneWord name → words (router_line name) ≡ codes "router" ∷ name ∷ []
-router_words name one = ap (λ (ws : List (List ℕ)). codes "router" ∷ ws) (words-word name one)
+router_words name one = ap (λ (ws : List (List ℕ)). codes "router" ∷ ws) (words-one name one)
 
 router_opens : (router name : List ℕ) → IsOneWord name → opens_section router (router_line name) ≡ same_bytes router name
 router_opens router name one =
@@ -132,22 +134,22 @@ three line more =
     ∷ codes "exit"
     ∷ more
 
-three_until : (line : CostLine) (more : List (List ℕ)) → until_end (three line more) ≡ three line (until_end more)
-three_until line more = refl
-
 three_section : (router : List ℕ) (line : CostLine) (more : List (List ℕ)) → section router (three line more) ≡ section router more
 three_section router line more =
-    others_section router (spaced (codes "interface" ∷ line.interface ∷ []) ∷ spaced (codes " ip" ∷ codes "ospf" ∷ codes "cost" ∷ decimal line.cost ∷ []) ∷ codes "exit" ∷ []) more refl
+    others_section router (spaced (codes "interface" ∷ line.interface ∷ [])
+    ∷ spaced (codes " ip" ∷ codes "ospf" ∷ codes "cost" ∷ decimal line.cost ∷ []) ∷ codes "exit" ∷ []) more refl
 
 -- in a router's section: its lines, up to the next router's
-in_section : (router : List ℕ) (ls : List CostLine) (tail : List (List ℕ)) → All NamesWords ls → AfterRun router ls → until_end tail ≡ [] → until_end (cost_lines (Some router) ls ++ tail) ≡ section_lines (pairs_of router ls)
+in_section : (router : List ℕ) (ls : List CostLine) (tail : List (List ℕ)) → All NamesWords ls → AfterRun router ls →
+    until_end tail ≡ [] → until_end (cost_lines (Some router) ls ++ tail) ≡ section_lines (pairs_of router ls)
 in_section router [] tail words run last = last
 in_section router (line ∷ ls) tail words run last =
     elim run [
       | inl same ↦
           let is : router ≡ line.router = same_bytes-true router line.router same.0 in
           rw same.0
-          (ap (three line) (ap (λ (name : List ℕ). until_end (cost_lines (Some name) ls ++ tail)) (sym is) ∙ in_section router ls tail (All-tail NamesWords line ls words) same.1 last))
+          (ap (three line) (ap (λ (name : List ℕ). until_end (cost_lines (Some name) ls ++ tail)) (sym is)
+          ∙ in_section router ls tail (All-tail NamesWords line ls words) same.1 last))
       | inr other ↦
           rw (other.0, none_pairs router ls other.1) refl
     ]
@@ -158,14 +160,18 @@ IsBefore router None = Unit {0}
 IsBefore router (Some before) = same_bytes router before ≡ false
 
 -- behind a router's own line
-at_line : (router : List ℕ) (line : CostLine) (more : List (List ℕ)) → IsOneWord line.router → same_bytes router line.router ≡ true → section router (router_line line.router ∷ more) ≡ until_end more
+at_line : (router : List ℕ) (line : CostLine) (more : List (List ℕ)) → IsOneWord line.router →
+    same_bytes router line.router ≡ true → section router (router_line line.router ∷ more) ≡ until_end more
 at_line router line more one same = rw (router_opens router line.router one ∙ same) refl
 
-past_line : (router : List ℕ) (line : CostLine) (more : List (List ℕ)) → IsOneWord line.router → same_bytes router line.router ≡ false → section router (router_line line.router ∷ more) ≡ section router more
+past_line : (router : List ℕ) (line : CostLine) (more : List (List ℕ)) → IsOneWord line.router →
+    same_bytes router line.router ≡ false → section router (router_line line.router ∷ more) ≡ section router more
 past_line router line more one other = rw (router_opens router line.router one ∙ other) refl
 
 -- skipping the line of another router, with or without its `router` line
-skip_router : (router : List ℕ) (before : Option (List ℕ)) (line : CostLine) (more : List (List ℕ)) → IsOneWord line.router → same_bytes router line.router ≡ false → section router (router_lines before line.router ++ more) ≡ section router more
+skip_router : (router : List ℕ) (before : Option (List ℕ)) (line : CostLine) (more : List (List ℕ)) →
+    IsOneWord line.router → same_bytes router line.router ≡ false →
+    section router (router_lines before line.router ++ more) ≡ section router more
 skip_router router None line more one other = past_line router line more one other
 skip_router router (Some before) line more one other = by_test (same_bytes before line.router)
   where
@@ -174,7 +180,9 @@ skip_router router (Some before) line more one other = by_test (same_bytes befor
     by_test false = past_line router line more one other
 
 -- the `router` line of the router that is looked for is printed
-meet_router : (router : List ℕ) (before : Option (List ℕ)) (line : CostLine) (more : List (List ℕ)) → IsOneWord line.router → IsBefore router before → same_bytes router line.router ≡ true → section router (router_lines before line.router ++ more) ≡ until_end more
+meet_router : (router : List ℕ) (before : Option (List ℕ)) (line : CostLine) (more : List (List ℕ)) →
+    IsOneWord line.router → IsBefore router before → same_bytes router line.router ≡ true →
+    section router (router_lines before line.router ++ more) ≡ until_end more
 meet_router router None line more one apart same = at_line router line more one same
 meet_router router (Some before) line more one apart same =
     elim (cases_Bool (same_bytes before line.router)) [
@@ -183,17 +191,21 @@ meet_router router (Some before) line more one apart same =
       | inr differs ↦ rw differs (at_line router line more one same)
     ]
 
-find_section : (router : List ℕ) (before : Option (List ℕ)) (ls : List CostLine) (tail : List (List ℕ)) → All NamesWords ls → OneRun router ls → IsBefore router before → until_end tail ≡ [] → section router tail ≡ [] → section router (cost_lines before ls ++ tail) ≡ section_lines (pairs_of router ls)
+find_section : (router : List ℕ) (before : Option (List ℕ)) (ls : List CostLine) (tail : List (List ℕ)) →
+    All NamesWords ls → OneRun router ls → IsBefore router before → until_end tail ≡ [] → section router tail ≡ [] →
+    section router (cost_lines before ls ++ tail) ≡ section_lines (pairs_of router ls)
 find_section router before [] tail words run apart last none = none
 find_section router before (line ∷ ls) tail words run apart last none =
     let one : IsOneWord line.router = (All-head NamesWords line ls words).router in
     let rest : List (List ℕ) = three line (cost_lines (Some line.router) ls) in
-    let grouped : section router (cost_lines before (line ∷ ls) ++ tail) ≡ section router (router_lines before line.router ++ three line (cost_lines (Some line.router) ls ++ tail))
+    let grouped : section router (cost_lines before (line ∷ ls) ++ tail)
+    ≡ section router (router_lines before line.router ++ three line (cost_lines (Some line.router) ls ++ tail))
     = ap (section router) (append_assoc (router_lines before line.router) rest tail) in
     elim run [
       | inl same ↦
           let is : router ≡ line.router = same_bytes-true router line.router same.0 in
-          let inside = ap (λ (name : List ℕ). until_end (cost_lines (Some name) ls ++ tail)) (sym is) ∙ in_section router ls tail (All-tail NamesWords line ls words) same.1 last in
+          let inside = ap (λ (name : List ℕ). until_end (cost_lines (Some name) ls ++ tail)) (sym is)
+          ∙ in_section router ls tail (All-tail NamesWords line ls words) same.1 last in
           grouped
           ∙ meet_router router before line (three line (cost_lines (Some line.router) ls ++ tail)) one apart same.0
           ∙ ap (three line) inside
@@ -215,7 +227,9 @@ head_section router a more = others_section router (head_part a) more (by_verdic
     by_verdict (Budget cap) = refl
 
 -- The section of a router in the printed answer: the interfaces and costs of its lines, where these stand together.
-pub section_printed : (router : List ℕ) (a : AnswerParts) (costs : Costs) → a.costs ≡ Some costs → All NamesWords costs.lines → OneRun router costs.lines → section router (lines (text a)) ≡ section_lines (pairs_of router costs.lines)
+pub section_printed : (router : List ℕ) (a : AnswerParts) (costs : Costs) → a.costs ≡ Some costs →
+    All NamesWords costs.lines → OneRun router costs.lines →
+    section router (lines (text a)) ≡ section_lines (pairs_of router costs.lines)
 section_printed router a costs some words run =
     ap (section router) (lines_text a costs some words ∙ parts_are a)
     ∙ head_section router a (costs_lines a.costs ++ last_part a)

@@ -28,7 +28,8 @@ use Rattle.path_rows.specs.declared.answer.Floor.TheVariants.{Absent, Empty, Var
 use Rattle.path_rows.specs.declared.answer.CapTree.{CapTree}
 use Rattle.path_rows.specs.Answers.{AnswerParts}
 use Rattle.path_rows.specs.Text.{spaced, verdict_words, router_lines, cost_lines, costs_lines, floor_word, row_line, side_word, step_word, integer, ratio_word, member_words, members_words, part_words, entry_line, tree_lines, answer_lines, text}
-use Rattle.config_reader.proofs.PrintedLines.{lacks_end, word_lacks_end, decimal-word, all_lack_end, lines-with_ends}
+use Rattle.config_reader.proofs.PrintedLines.{lacks_end, word_lacks_end, all_lack_end, lines-with_ends}
+use Rattle.text_lines.proofs.WordLaws.{decimal-word}
 
 lacks-append : (xs ys : List ℕ) → lacks_end xs ≡ true → lacks_end ys ≡ true → lacks_end (xs ++ ys) ≡ true
 lacks-append [] ys here more = more
@@ -98,12 +99,15 @@ members_lack (m ∷ ms) = all_append (member_words m) (members_words ms) (member
 parts_lack : (parts : List (ℕ × ℕ)) → all_lack_end (part_words parts) ≡ true
 parts_lack [] = refl
 parts_lack (part ∷ parts) =
-    all_cons (decimal part.0) (decimal part.1 ∷ part_words parts) (decimal_lacks part.0) (all_cons (decimal part.1) (part_words parts) (decimal_lacks part.1) (parts_lack parts))
+    all_cons (decimal part.0) (decimal part.1 ∷ part_words parts) (decimal_lacks part.0)
+    (all_cons (decimal part.1) (part_words parts) (decimal_lacks part.1) (parts_lack parts))
 
 entry_lacks : (e : Entry) → lacks_end (entry_line e) ≡ true
 entry_lacks (Tighten v side bound row) =
     spaced_lacks (codes "tighten" ∷ decimal v ∷ side_word side ∷ decimal bound ∷ decimal row ∷ [])
-    (all_cons (decimal v) (side_word side ∷ decimal bound ∷ decimal row ∷ []) (decimal_lacks v) (all_cons (side_word side) (decimal bound ∷ decimal row ∷ []) (side_lacks side) (decimals_lack (bound ∷ row ∷ []))))
+    (all_cons (decimal v) (side_word side ∷ decimal bound ∷ decimal row ∷ []) (decimal_lacks v)
+    (all_cons (side_word side) (decimal bound ∷ decimal row ∷ []) (side_lacks side)
+    (decimals_lack (bound ∷ row ∷ []))))
 entry_lacks (Split v bound) = spaced_lacks (codes "split" ∷ decimal v ∷ decimal bound ∷ []) (decimals_lack (v ∷ bound ∷ []))
 entry_lacks (Halve v bound wide) =
     spaced_lacks (codes "halve" ∷ decimal v ∷ decimal bound ∷ step_word wide.step ∷ ratio_word wide.left ∷ ratio_word wide.right ∷ members_words wide.basis)
@@ -122,13 +126,18 @@ entries_lack (e ∷ es) = all_cons (entry_line e) (map entry_line es) (entry_lac
 rows_lack : (rows : List Row) → all_lack_end (map row_line rows) ≡ true
 rows_lack [] = refl
 rows_lack (row ∷ rows) =
-    all_cons (row_line row) (map row_line rows) (spaced_lacks (codes "row" ∷ decimal row.request ∷ map decimal row.rival.edges) (decimals_lack (row.request ∷ row.rival.edges))) (rows_lack rows)
+    all_cons (row_line row) (map row_line rows)
+    (spaced_lacks (codes "row" ∷ decimal row.request ∷ map decimal row.rival.edges)
+    (decimals_lack (row.request ∷ row.rival.edges))) (rows_lack rows)
 
 tree_lacks : (word : List ℕ) (tree : Option CapTree) → lacks_end word ≡ true → all_lack_end (tree_lines word tree) ≡ true
-tree_lacks word None lacks = all_cons (spaced (word ∷ codes "none" ∷ [])) [] (spaced_lacks (word ∷ codes "none" ∷ []) (all_cons word (codes "none" ∷ []) lacks refl)) refl
+tree_lacks word None lacks = all_cons (spaced (word ∷ codes "none" ∷ [])) []
+    (spaced_lacks (word ∷ codes "none" ∷ []) (all_cons word (codes "none" ∷ []) lacks refl)) refl
 tree_lacks word (Some t) lacks =
     all_cons (spaced (word ∷ decimal t.cap ∷ decimal (length t.tree) ∷ [])) (map entry_line t.tree)
-    (spaced_lacks (word ∷ decimal t.cap ∷ decimal (length t.tree) ∷ []) (all_cons word (decimal t.cap ∷ decimal (length t.tree) ∷ []) lacks (decimals_lack (t.cap ∷ length t.tree ∷ []))))
+    (spaced_lacks (word ∷ decimal t.cap ∷ decimal (length t.tree) ∷ [])
+    (all_cons word (decimal t.cap ∷ decimal (length t.tree) ∷ []) lacks
+    (decimals_lack (t.cap ∷ length t.tree ∷ []))))
     (entries_lack t.tree)
 
 -- the names of a line of costs are one word each
@@ -152,10 +161,14 @@ costs_lack before [] words = refl
 costs_lack before (line ∷ ls) words =
     let first = All-head NamesWords line ls words in
     all_append (router_lines before line.router)
-    (spaced (codes "interface" ∷ line.interface ∷ []) ∷ spaced (codes " ip" ∷ codes "ospf" ∷ codes "cost" ∷ decimal line.cost ∷ []) ∷ codes "exit" ∷ cost_lines (Some line.router) ls) (router_lack before line.router first.router)
+    (spaced (codes "interface" ∷ line.interface ∷ [])
+    ∷ spaced (codes " ip" ∷ codes "ospf" ∷ codes "cost" ∷ decimal line.cost ∷ []) ∷ codes "exit"
+    ∷ cost_lines (Some line.router) ls) (router_lack before line.router first.router)
     (all_cons (spaced (codes "interface" ∷ line.interface ∷ []))
-    (spaced (codes " ip" ∷ codes "ospf" ∷ codes "cost" ∷ decimal line.cost ∷ []) ∷ codes "exit" ∷ cost_lines (Some line.router) ls) (one_lacks line.interface first.interface)
-    (all_cons (spaced (codes " ip" ∷ codes "ospf" ∷ codes "cost" ∷ decimal line.cost ∷ [])) (codes "exit" ∷ cost_lines (Some line.router) ls) (decimal_lacks line.cost)
+    (spaced (codes " ip" ∷ codes "ospf" ∷ codes "cost" ∷ decimal line.cost ∷ []) ∷ codes "exit"
+    ∷ cost_lines (Some line.router) ls) (one_lacks line.interface first.interface)
+    (all_cons (spaced (codes " ip" ∷ codes "ospf" ∷ codes "cost" ∷ decimal line.cost ∷ []))
+    (codes "exit" ∷ cost_lines (Some line.router) ls) (decimal_lacks line.cost)
     (costs_lack (Some line.router) ls (All-tail NamesWords line ls words))))
 
 -- The parts of an answer's lines: those before the costs, and those after them.
@@ -176,19 +189,23 @@ regrouped : (p c f t u e : List (List ℕ)) → p ++ c ++ f ++ t ++ u ++ e ≡ p
 regrouped p c f t u e = simp append_assoc
 
 pub parts_are : (a : AnswerParts) → answer_lines a ≡ head_part a ++ (costs_lines a.costs ++ last_part a)
-parts_are a = regrouped (head_part a) (costs_lines a.costs) (floor_part a) (tree_lines (codes "proof") a.proof) (tree_lines (codes "open") a.unfinished) end_part
+parts_are a = regrouped (head_part a) (costs_lines a.costs) (floor_part a) (tree_lines (codes "proof") a.proof)
+    (tree_lines (codes "open") a.unfinished) end_part
 
 last_lacks : (a : AnswerParts) → all_lack_end (last_part a) ≡ true
 last_lacks a =
     all_append (floor_part a) (tree_lines (codes "proof") a.proof ++ (tree_lines (codes "open") a.unfinished ++ end_part))
     (all_cons (spaced (codes "floor" ∷ floor_word a.floor ∷ [])) (spaced (codes "rows" ∷ decimal (length a.rows) ∷ []) ∷ map row_line a.rows)
     (spaced_lacks (codes "floor" ∷ floor_word a.floor ∷ []) (all_cons (floor_word a.floor) [] (floor_lacks a.floor) refl))
-    (all_cons (spaced (codes "rows" ∷ decimal (length a.rows) ∷ [])) (map row_line a.rows) (spaced_lacks (codes "rows" ∷ decimal (length a.rows) ∷ []) (decimals_lack (length a.rows ∷ []))) (rows_lack a.rows)))
+    (all_cons (spaced (codes "rows" ∷ decimal (length a.rows) ∷ [])) (map row_line a.rows)
+    (spaced_lacks (codes "rows" ∷ decimal (length a.rows) ∷ []) (decimals_lack (length a.rows ∷ [])))
+    (rows_lack a.rows)))
     (all_append (tree_lines (codes "proof") a.proof) (tree_lines (codes "open") a.unfinished ++ end_part) (tree_lacks (codes "proof") a.proof refl)
     (all_append (tree_lines (codes "open") a.unfinished) end_part (tree_lacks (codes "open") a.unfinished refl) refl))
 
 head_lacks : (a : AnswerParts) → all_lack_end (head_part a) ≡ true
-head_lacks a = all_cons (spaced (codes "verdict" ∷ verdict_words a.verdict)) [] (spaced_lacks (codes "verdict" ∷ verdict_words a.verdict) (verdict_lacks a.verdict)) refl
+head_lacks a = all_cons (spaced (codes "verdict" ∷ verdict_words a.verdict)) []
+    (spaced_lacks (codes "verdict" ∷ verdict_words a.verdict) (verdict_lacks a.verdict)) refl
 
 -- the lines of an answer with costs, whose names are one word each, hold no LF
 pub answer_lacks : (a : AnswerParts) (costs : Costs) → a.costs ≡ Some costs → All NamesWords costs.lines → all_lack_end (answer_lines a) ≡ true
@@ -197,7 +214,9 @@ answer_lacks a costs some words =
     ∙ all_append (head_part a) (costs_lines a.costs ++ last_part a) (head_lacks a)
     (all_append (costs_lines a.costs) (last_part a)
     (ap (λ (o : Option Costs). all_lack_end (costs_lines o)) some
-    ∙ all_cons (spaced (codes "costs" ∷ decimal costs.greatest ∷ [])) (cost_lines None costs.lines) (spaced_lacks (codes "costs" ∷ decimal costs.greatest ∷ []) (decimals_lack (costs.greatest ∷ []))) (costs_lack None costs.lines words))
+    ∙ all_cons (spaced (codes "costs" ∷ decimal costs.greatest ∷ [])) (cost_lines None costs.lines)
+    (spaced_lacks (codes "costs" ∷ decimal costs.greatest ∷ []) (decimals_lack (costs.greatest ∷ [])))
+    (costs_lack None costs.lines words))
     (last_lacks a))
 
 -- so the lines of its text are its lines

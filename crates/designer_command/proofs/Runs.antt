@@ -21,7 +21,8 @@ use Rattle.designer_command.specs.Trials.{MayTryEnd, case_end}
 use Rattle.designer_command.specs.Runs.{OnSaid, MayAfter, MayWrite, ReportsJob, WritesNothing, WritesWhole, Writes}
 use Rattle.designer_command.proofs.OwnStatuses.{SaysItsOwn}
 
-said_after : {A : Type 0} (reading : Reading A) (may : A → Status → List ℕ → Type 0) (came : List Taken) (s : Status) (bytes : List ℕ) → SaysItsOwn may → OnSaid reading came may s bytes → MayAfter reading may came s bytes
+said_after : {A : Type 0} (reading : Reading A) (may : A → Status → List ℕ → Type 0) (came : List Taken) (s : Status)
+    (bytes : List ℕ) → SaysItsOwn may → OnSaid reading came may s bytes → MayAfter reading may came s bytes
 said_after reading may came status.Done bytes own h = h
 said_after reading may came status.Impossible bytes own h = h
 said_after reading may came status.Undecided bytes own h = h
@@ -32,25 +33,32 @@ said_after reading may came status.OutOfMemory bytes own h = absurd (own.wanting
 said_after reading may came status.WordsRefused bytes own h = h
 said_after reading may came status.EvidenceRefused bytes own h = h
 
-stop_after : {A : Type 0} (reading : Reading A) (may : A → Status → List ℕ → Type 0) (came : List Taken) (stop : Stop) (made : Result Report OutOfMemory) → StopsAs reading came stop → ReportsStop stop made →
+stop_after : {A : Type 0} (reading : Reading A) (may : A → Status → List ℕ → Type 0) (came : List Taken) (stop : Stop)
+    (made : Result Report OutOfMemory) → StopsAs reading came stop → ReportsStop stop made →
     IfOk made (λ report. MayAfter reading may came report.status (bytes_in report.text))
 stop_after reading may came stop (Err e) h r = tt
 stop_after reading may came (stops.Refused number file line) (Ok report) h r =
-    subst (λ (s : Status). MayAfter reading may came s (bytes_in report.text)) (sym r.status) (record { fault = refusal_in number file line; ends = h; written = r.text })
+    subst (λ (s : Status). MayAfter reading may came s (bytes_in report.text)) (sym r.status)
+    (record { fault = refusal_in number file line; ends = h; written = r.text })
 stop_after reading may came (stops.ReadFault file) (Ok report) h r =
     subst (λ (s : Status). MayAfter reading may came s (bytes_in report.text)) (sym r.status) (record { file = file.now; ends = h; written = r.text })
 stop_after reading may came stops.OutOfMemory (Ok report) h r = absurd r
 
-report_after : {A : Type 0} (reading : Reading A) (may : A → Status → List ℕ → Type 0) (came : List Taken) (made : Result Report Stop) (result : Result Report OutOfMemory) → SaysItsOwn may →
-    IsReadAs reading came (λ report x. may x report.status (bytes_in report.text)) made → ReportsAny made result → IfOk result (λ report. MayAfter reading may came report.status (bytes_in report.text))
+report_after : {A : Type 0} (reading : Reading A) (may : A → Status → List ℕ → Type 0) (came : List Taken)
+    (made : Result Report Stop) (result : Result Report OutOfMemory) → SaysItsOwn may →
+    IsReadAs reading came (λ report x. may x report.status (bytes_in report.text)) made → ReportsAny made result →
+    IfOk result (λ report. MayAfter reading may came report.status (bytes_in report.text))
 report_after reading may came (Ok report) result own h same =
     subst (λ (r : Result Report OutOfMemory). IfOk r (λ made. MayAfter reading may came made.status (bytes_in made.text))) (sym same)
     (said_after reading may came report.status (bytes_in report.text) own (record { said = h.said; ends = h.ends; allowed = h.fits }))
 report_after reading may came (Err stop) result own h r = stop_after reading may came stop result h r
 
 -- what a command reports is what it may write
-pub reported : {A : Type 0} (Given : List Taken → Type 0) (reading : Reading A) (may : A → Status → List ℕ → Type 0) (made : Result Report Stop) (result : Result Report OutOfMemory) → SaysItsOwn may →
-    Gave Given (λ came. IsReadAs reading came (λ report x. may x report.status (bytes_in report.text)) made) → ReportsAny made result → Gave Given (λ came. IfOk result (λ report. MayAfter reading may came report.status (bytes_in report.text)))
+pub reported : {A : Type 0} (Given : List Taken → Type 0) (reading : Reading A) (may : A → Status → List ℕ → Type 0)
+    (made : Result Report Stop) (result : Result Report OutOfMemory) → SaysItsOwn may →
+    Gave Given (λ came. IsReadAs reading came (λ report x. may x report.status (bytes_in report.text)) made) →
+    ReportsAny made result → Gave Given
+    (λ came. IfOk result (λ report. MayAfter reading may came report.status (bytes_in report.text)))
 reported Given reading may made result own a r = record { came = a.came; given = a.given; so = report_after reading may a.came made result own a.so r }
 
 -- statuses with which no whole text is written
@@ -74,7 +82,10 @@ writes_none (Some (read.Design request limits configs)) came = (λ bytes h. h, �
 writes_none (Some (read.Check request answer configs)) came = (λ bytes h. h, λ bytes h. h)
 writes_none (Some (read.Audit request configs)) came = (λ bytes h. h, λ bytes h. h)
 writes_none (Some (read.Rewrite answer config)) came = (λ bytes h. h, λ bytes h. h)
-writes_none (Some (read.Trial blocks start)) came = (λ bytes h. try_unwritten blocks start (case_end (made_case blocks start)) bytes h.1, λ bytes h. try_wanting blocks start (case_end (made_case blocks start)) bytes h.1)
+writes_none (Some (read.Trial blocks start)) came = (
+  λ bytes h. try_unwritten blocks start (case_end (made_case blocks start)) bytes h.1,
+  λ bytes h. try_wanting blocks start (case_end (made_case blocks start)) bytes h.1,
+)
 writes_none (Some (read.Conflict request limits configs)) came = (λ bytes h. h, λ bytes h. h)
 writes_none (Some (read.Spread request sets limits configs)) came = (λ bytes h. h, λ bytes h. h)
 writes_none (Some (read.Total request limits configs)) came = (λ bytes h. h, λ bytes h. h)
@@ -82,7 +93,8 @@ writes_none (Some (read.Lsas request configs)) came = (λ bytes h. h, λ bytes h
 writes_none (Some (read.Route lsas from to)) came = (λ bytes h. h, λ bytes h. h)
 
 -- a text that may be written, written whole
-whole_meets : (may : Status → List ℕ → Type 0) (handed : List ℕ → Type 0) (got_before got_now : Option (List ℕ)) (count_before count_now : ℕ) (aim : Status) → WritesNone may →
+whole_meets : (may : Status → List ℕ → Type 0) (handed : List ℕ → Type 0) (got_before got_now : Option (List ℕ))
+    (count_before count_now : ℕ) (aim : Status) → WritesNone may →
     WritesWhole may handed got_before got_now aim → Writes may handed got_before got_now count_before count_now aim
 whole_meets may handed got_before got_now count_before count_now status.Done none h = h
 whole_meets may handed got_before got_now count_before count_now status.Impossible none h = h
@@ -95,33 +107,45 @@ whole_meets may handed got_before got_now count_before count_now status.WordsRef
 whole_meets may handed got_before got_now count_before count_now status.EvidenceRefused none h = h
 
 -- what was put of a report that may be written ends a run
-pub written_meets : (may : Status → List ℕ → Type 0) (handed : List ℕ → Type 0) (got_before got_now : Option (List ℕ)) (count_before count_now : ℕ) (aim : Status) (bytes : List ℕ) (end : Status) → WritesNone may →
-    ((some : List ℕ) → handed some → GotWhole got_before got_now some) → may aim bytes → IsWritten aim bytes handed count_before count_now end → Writes may handed got_before got_now count_before count_now end
+pub written_meets : (may : Status → List ℕ → Type 0) (handed : List ℕ → Type 0) (got_before got_now : Option (List ℕ))
+    (count_before count_now : ℕ) (aim : Status) (bytes : List ℕ) (end : Status) → WritesNone may →
+    ((some : List ℕ) → handed some → GotWhole got_before got_now some) → may aim bytes →
+    IsWritten aim bytes handed count_before count_now end →
+    Writes may handed got_before got_now count_before count_now end
 written_meets may handed got_before got_now count_before count_now aim bytes end none got allowed (inl h) =
     subst (λ (s : Status). Writes may handed got_before got_now count_before count_now s) (sym h.0)
-    (whole_meets may handed got_before got_now count_before count_now aim none (record { bytes = bytes; allowed = allowed; written = h.1; whole = got bytes h.1 }))
+    (whole_meets may handed got_before got_now count_before count_now aim none
+    (record { bytes = bytes; allowed = allowed; written = h.1; whole = got bytes h.1 }))
 written_meets may handed got_before got_now count_before count_now aim bytes end none got allowed (inr h) =
     subst (λ (s : Status). Writes may handed got_before got_now count_before count_now s) (sym h.0)
     (record { status = aim; bytes = bytes; allowed = allowed; length = h.1.0; written = h.1.1; part = got (take h.1.0 bytes) h.1.1; cause = h.2 })
 
 -- a report of this status and text may be written where they may
-pub may_report : (may : Status → List ℕ → Type 0) (aim : Status) (bytes : List ℕ) (report : Report) → Reports aim bytes report → may aim bytes → may report.status (bytes_in report.text)
+pub may_report : (may : Status → List ℕ → Type 0) (aim : Status) (bytes : List ℕ) (report : Report) →
+    Reports aim bytes report → may aim bytes → may report.status (bytes_in report.text)
 may_report may aim bytes report r h = subst (λ (b : List ℕ). may report.status b) (sym r.text) (subst (λ (s : Status). may s bytes) (sym r.status) h)
 
 -- a report that memory sufficed for, or not, ends a run
-pub made_meets : (Same : Type 0) (may : Status → List ℕ → Type 0) (handed : List ℕ → Type 0) (got_before got_now : Option (List ℕ)) (count_before count_now : ℕ) (made : Result Report OutOfMemory) (end : Status) → WritesNone may →
-    ((some : List ℕ) → handed some → GotWhole got_before got_now some) → (Same → WritesNothing handed got_before got_now) → IfOk made (λ report. may report.status (bytes_in report.text)) →
-    MatchResult made (λ report. IsWritten report.status (bytes_in report.text) handed count_before count_now end) (λ e. (end ≡ status.OutOfMemory) × Same) → Writes may handed got_before got_now count_before count_now end
+pub made_meets : (Same : Type 0) (may : Status → List ℕ → Type 0) (handed : List ℕ → Type 0)
+    (got_before got_now : Option (List ℕ)) (count_before count_now : ℕ) (made : Result Report OutOfMemory)
+    (end : Status) → WritesNone may →
+    ((some : List ℕ) → handed some → GotWhole got_before got_now some) →
+    (Same → WritesNothing handed got_before got_now) →
+    IfOk made (λ report. may report.status (bytes_in report.text)) →
+    MatchResult made (λ report. IsWritten report.status (bytes_in report.text) handed count_before count_now end)
+    (λ e. (end ≡ status.OutOfMemory) × Same) → Writes may handed got_before got_now count_before count_now end
 made_meets Same may handed got_before got_now count_before count_now (Ok report) end none got same allowed h =
     written_meets may handed got_before got_now count_before count_now report.status (bytes_in report.text) end none got allowed h
 made_meets Same may handed got_before got_now count_before count_now (Err e) end none got same allowed h =
     subst (λ (s : Status). Writes may handed got_before got_now count_before count_now s) (sym h.0) (same h.1)
 
 -- a job with these words reports what a command with them does
-pub job_reported : (Given : List Taken → Type 0) (job : Job) (said : JobRead) (result : Result Report OutOfMemory) → seen job ≡ said → ReportsJob Given said result → ReportsJob Given (seen job) result
+pub job_reported : (Given : List Taken → Type 0) (job : Job) (said : JobRead) (result : Result Report OutOfMemory) →
+    seen job ≡ said → ReportsJob Given said result → ReportsJob Given (seen job) result
 job_reported Given job said result is made = subst (λ (j : JobRead). ReportsJob Given j result) (sym is) made
 
 -- a trial asks for no file
 pub trial_reported : (Given : List Taken → Type 0) (blocks start : ℕ) (result : Result Report OutOfMemory) → Given [] →
-    IfOk result (λ report. MayWrite (Some (read.Trial blocks start)) [] report.status (bytes_in report.text)) → ReportsJob Given (read.Trial blocks start) result
+    IfOk result (λ report. MayWrite (Some (read.Trial blocks start)) [] report.status (bytes_in report.text)) →
+    ReportsJob Given (read.Trial blocks start) result
 trial_reported Given blocks start result none tried = record { came = []; given = none; so = tried }

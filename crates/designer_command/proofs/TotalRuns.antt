@@ -43,7 +43,8 @@ cap_in Impossible = 0
 cap_in (Budget cap) = cap
 
 -- the answer with other costs is an answer to the problem
-recosted_to : (limits : Bounds) (p : DesignProblem) (a b : AnswerParts) (w : List ℕ) → IsAnswerTo limits p a → IsRecosted p a b w → IsAnswerValue b → IsAnswerTo limits p b
+recosted_to : (limits : Bounds) (p : DesignProblem) (a b : AnswerParts) (w : List ℕ) → IsAnswerTo limits p a →
+    IsRecosted p a b w → IsAnswerValue b → IsAnswerTo limits p b
 recosted_to limits p a b w to other value = record {
   kept = to.kept;
   answered = record {
@@ -60,9 +61,19 @@ record IsDesignedWith (limits : Bounds) (d : Input) (bytes : List ℕ) (w : List
   designed : IsDesigned limits d bytes
   costs_are : designed.costs ≡ w
 
-recosted_designed : (limits : Bounds) (d : Input) (a b : AnswerParts) (w : List ℕ) → IsReadyInput d → IsDatabase d.database → IsAnswerTo limits d.problem a → IsRecosted d.problem a b w → IsAnswerValue b → IsDesignedWith limits d (text b) w
+recosted_designed : (limits : Bounds) (d : Input) (a b : AnswerParts) (w : List ℕ) → IsReadyInput d →
+    IsDatabase d.database → IsAnswerTo limits d.problem a → IsRecosted d.problem a b w → IsAnswerValue b →
+    IsDesignedWith limits d (text b) w
 recosted_designed limits d a b w ready base to other value =
-    let gives : GivesBest d.problem (greatest_cost w) b.costs = record { costs = other.costs; is_printed = other.printed; values = w; names = other.names; best = other.best; greatest = refl } in
+    let gives : GivesBest d.problem (greatest_cost w) b.costs =
+    record {
+      costs = other.costs;
+      is_printed = other.printed;
+      values = w;
+      names = other.names;
+      best = other.best;
+      greatest = refl;
+    } in
     let to_b = recosted_to limits d.problem a b w to other value in
     record {
       designed = designed_is limits d b (greatest_cost w) ready base to_b other.tells other.valid gives;
@@ -73,7 +84,9 @@ recosted_designed limits d a b w ready base to other value =
 same_cap : (p : DesignProblem) (a b : AnswerParts) (w : List ℕ) (k : ℕ) → a.verdict ≡ Optimal k → IsRecosted p a b w → greatest_cost w ≡ k
 same_cap p a b w k is other = ap cap_in (sym other.tells ∙ other.verdict ∙ is)
 
-shows_total : (limits : Bounds) (p : DesignProblem) (w : List ℕ) (k : ℕ) (proof : TotalProof) → greatest_cost w ≡ k → ShowsLeast p limits.top limits.nodes (greatest_cost w) (total w) proof → IsFloorTotal p w (shown_lines k proof) ⊎ IsProvedTotal limits p w (shown_lines k proof)
+shows_total : (limits : Bounds) (p : DesignProblem) (w : List ℕ) (k : ℕ) (proof : TotalProof) → greatest_cost w ≡ k →
+    ShowsLeast p limits.top limits.nodes (greatest_cost w) (total w) proof → IsFloorTotal p w (shown_lines k proof)
+    ⊎ IsProvedTotal limits p w (shown_lines k proof)
 shows_total limits p w k Floor same shows = inl (record { floor = shows; spelled = refl })
 shows_total limits p w k (Tree rows tree) same shows =
     inr (record {
@@ -88,7 +101,10 @@ shows_total limits p w k (Tree rows tree) same shows =
     })
 
 -- what was found from a valid optimal answer
-found_may : (limits : Bounds) (d : Input) (a : AnswerParts) (k : ℕ) (found : Total) (report : Report) → IsReadyInput d → IsDatabase d.database → IsAnswerTo limits d.problem a → a.verdict ≡ Optimal k → IsAnswered d.problem limits.top limits.nodes a found → ReportsFoundAs k found report → MayTotal limits d report.status (bytes_in report.text)
+found_may : (limits : Bounds) (d : Input) (a : AnswerParts) (k : ℕ) (found : Total) (report : Report) → IsReadyInput d →
+    IsDatabase d.database → IsAnswerTo limits d.problem a → a.verdict ≡ Optimal k →
+    IsAnswered d.problem limits.top limits.nodes a found → ReportsFoundAs k found report →
+    MayTotal limits d report.status (bytes_in report.text)
 found_may limits d a k (Least answer sum proof) report ready base to is answered reports =
     let w = answered.0 in
     let other = answered.1 in
@@ -100,7 +116,8 @@ found_may limits d a k (Least answer sum proof) report ready base to is answered
       designed = here.designed;
       least = subst (HasLeastTotal d.problem) there answered.3;
       shown = shown;
-      shows = subst (λ (v : List ℕ). IsFloorTotal d.problem v shown ⊎ IsProvedTotal limits d.problem v shown) there (shows_total limits d.problem w k proof (same_cap d.problem a answer w k is other) answered.4);
+      shows = subst (λ (v : List ℕ). IsFloorTotal d.problem v shown ⊎ IsProvedTotal limits d.problem v shown) there
+          (shows_total limits d.problem w k proof (same_cap d.problem a answer w k is other) answered.4);
       spelled = ap (λ (n : ℕ). total_text (text answer) n shown) answered.2 ∙ ap (λ (v : List ℕ). total_text (text answer) (total v) shown) there;
     } in
     may_report (MayTotal limits d) status.Done (found_text k (Least answer sum proof)) report reports.reports totalled
@@ -120,13 +137,17 @@ found_may limits d a k (Unknown answer sum bound rows tree) report ready base to
       are_rows = answered.5;
       tree = tree;
       spent = subst (λ (v : List ℕ). IsSpentOverTotal d.problem limits.top limits.nodes (greatest_cost v) bound rows.items tree) there answered.6;
-      spelled = ap (λ (n : ℕ). total_text (text answer) n (bound_lines bound rows.items (at_cap k tree))) answered.2 ∙ ap (λ (cap : ℕ). total_text (text answer) (total w) (bound_lines bound rows.items (at_cap cap tree))) (sym same)
+      spelled = ap (λ (n : ℕ). total_text (text answer) n (bound_lines bound rows.items (at_cap k tree))) answered.2
+          ∙ ap (λ (cap : ℕ). total_text (text answer) (total w)
+          (bound_lines bound rows.items (at_cap cap tree))) (sym same)
           ∙ ap (λ (v : List ℕ). total_text (text answer) (total v) (bound_lines bound rows.items (at_cap (greatest_cost v) tree))) there;
     } in
     may_report (MayTotal limits d) status.Undecided (found_text k (Unknown answer sum bound rows tree)) report reports.reports (inr undecided)
 
 -- what is reported of an answer may be written
-total_may : (limits : Bounds) (d : Input) (a : AnswerParts) (report : Report) → IsReadyInput d → IsDatabase d.database → IsAnswerTo limits d.problem a → ReportsTotal limits d.problem a a.verdict report → MayTotal limits d report.status (bytes_in report.text)
+total_may : (limits : Bounds) (d : Input) (a : AnswerParts) (report : Report) → IsReadyInput d → IsDatabase d.database →
+    IsAnswerTo limits d.problem a → ReportsTotal limits d.problem a a.verdict report →
+    MayTotal limits d report.status (bytes_in report.text)
 total_may limits d a report ready base to reports = by_verdict a.verdict refl reports
   where
     by_verdict : (v : Verdict) → a.verdict ≡ v → ReportsTotal limits d.problem a v report → MayTotal limits d report.status (bytes_in report.text)
@@ -137,8 +158,11 @@ total_may limits d a report ready base to reports = by_verdict a.verdict refl re
     by_verdict (Budget cap) is r = may_report (MayTotal limits d) status.Undecided (text a) report r (inl (undecided_is limits d.problem a cap to is))
 
 -- the report of an answer to the problem that was read
-pub total_found : (Given : List Taken → Type 0) (limits : Bounds) (names : InputFiles) (p : DesignProblem) (a : AnswerParts) (report : Report) → Gave Given (λ came. IsReady (outcome AsRequested names) came IsProblemOf p) →
-    IsAnswerTo limits p a → ReportsTotal limits p a a.verdict report → Gave Given (λ came. IsReady (outcome AsRequested names) came (λ (made : Report) d. MayTotal limits d made.status (bytes_in made.text)) report)
+pub total_found : (Given : List Taken → Type 0) (limits : Bounds) (names : InputFiles) (p : DesignProblem)
+    (a : AnswerParts) (report : Report) → Gave Given (λ came. IsReady (outcome AsRequested names) came IsProblemOf p) →
+    IsAnswerTo limits p a → ReportsTotal limits p a a.verdict report →
+    Gave Given (λ came. IsReady (outcome AsRequested names) came
+    (λ (made : Report) d. MayTotal limits d made.status (bytes_in made.text)) report)
 total_found Given limits names p a report read to reports =
     let d : Input = read.so.said in
     let here = sym read.so.fits.0 in

@@ -16,7 +16,7 @@ use Rattle.path_rows.specs.Boxes.{capped, points}
 use Rattle.path_rows.specs.Rows.{IsFit, IsRow, box_of}
 use Rattle.path_rows.specs.Trees.{entry_count}
 use Rattle.path_rows.specs.Earnest.{IsEarnestFor}
-use Rattle.path_rows.specs.Answers.{AnswerParts, IsValid, greatest_bound}
+use Rattle.path_rows.specs.Answers.{AnswerParts, IsValid, whole_box}
 use Rattle.path_rows.specs.ProblemLaws.{HasNoFit}
 use Rattle.path_rows.specs.Text.{text}
 use Rattle.answer_laws.specs.Laws.{IsAnswerValue}
@@ -66,7 +66,7 @@ MadeCasesAreDesigned =
 -- A budget of twice as many entries as the box at the greatest upper bound has points, less one, can't be used up.
 abbrev pub LargeBudgetsSuffice : Type 0
 LargeBudgetsSuffice =
-    (limits : Bounds) (p : DesignProblem) → IsProblem p → 2 * points (capped (box_of p) (greatest_bound p)) ≤ limits.nodes + 1 → CannotSpend limits p
+    (limits : Bounds) (p : DesignProblem) → IsProblem p → 2 * points (whole_box p) ≤ limits.nodes + 1 → CannotSpend limits p
 
 -- Where the files of a check say a problem and the text of a valid answer, nothing may be written but that it is accepted.
 abbrev pub ValidAnswersAreAccepted : Type 0
@@ -81,7 +81,8 @@ abbrev pub DesignsAreAccepted : Type 0
 DesignsAreAccepted =
     (limits : Bounds) (d : Input) (aim : Status) (printed : List ℕ) → (aim ≡ status.Done) ⊎ (aim ≡ status.Impossible) → MayDesign limits d aim printed →
     (names : InputFiles) (answer : List ℕ) (came : List Taken) (end : Status) (bytes : List ℕ) →
-    EndsAs (claim_read names answer) came (Says (record { problem = d.problem; bytes = printed })) → MayAfter (claim_read names answer) MayCheck came end bytes → end ≡ status.Done
+    EndsAs (claim_read names answer) came (Says (record { problem = d.problem; bytes = printed })) →
+    MayAfter (claim_read names answer) MayCheck came end bytes → end ≡ status.Done
 
 -- Where the files of an audit say a problem, nothing may be written but its lines.
 abbrev pub WellFormedInputIsAudited : Type 0
@@ -100,7 +101,7 @@ HeadedCostsAreWritten =
 
 -- a budget of twice as many entries as the box at the greatest upper bound has points, less one
 abbrev pub IsLarge : Bounds → DesignProblem → Type 0
-IsLarge limits p = 2 * points (capped (box_of p) (greatest_bound p)) ≤ limits.nodes + 1
+IsLarge limits p = 2 * points (whole_box p) ≤ limits.nodes + 1
 
 -- Where its files say a problem, `conflict` may write nothing but what it found: that is settled where the budget is large.
 abbrev pub ConflictsAreFound : Type 0
@@ -123,7 +124,8 @@ abbrev pub SpreadsAreFound : Type 0
 SpreadsAreFound =
     (limits : Bounds) (names : InputFiles) (file : List ℕ) (came : List Taken) (sharing : Sharing) (end : Status) (bytes : List ℕ) →
     EndsAs (spread_read names file) came (Says sharing) → MayAfter (spread_read names file) (MaySpread limits) came end bytes →
-    ((end ≡ status.Done) ⊎ (end ≡ status.Impossible) ⊎ (end ≡ status.Undecided)) × (IsProblem sharing.problem → IsLarge limits sharing.problem → IsSpreadSettled sharing end)
+    ((end ≡ status.Done) ⊎ (end ≡ status.Impossible) ⊎ (end ≡ status.Undecided))
+    × (IsProblem sharing.problem → IsLarge limits sharing.problem → IsSpreadSettled sharing end)
 
 -- So with `total`: Done where there are fit costs, and Impossible where there are none.
 abbrev pub TotalsAreFound : Type 0

@@ -3,11 +3,10 @@ use Rattle.std.specs.Prelude.{ℕ, List, [], ◌∷◌, ◌++◌, ◌==◌, ◌&
 use Rattle.area_graph.specs.declared.Price.{Price}
 use Rattle.area_graph.specs.declared.Price.TheVariants.{Fixed, Var, Zero}
 use Rattle.area_graph.specs.Area.{Area}
-use Rattle.text_lines.specs.Lines.{lines, words}
+use Rattle.text_lines.specs.Lines.{lines, words, ended, with_ends}
 use Rattle.interface_model.specs.Records.{Router}
 use Rattle.config_reader.specs.Statements.{begin_with}
 use Rattle.config_reader.specs.Configs.{config_of}
-use Rattle.config_reader.specs.Sections.{ended, with_ends}
 use Rattle.lsdb_build.specs.Graphs.{Database, graph_at}
 use Rattle.lsdb_build.specs.Topology.{database_of}
 use Rattle.path_requests.specs.Meaning.{present_cost}

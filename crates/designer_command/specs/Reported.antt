@@ -1,4 +1,4 @@
--- What the commands report.
+-- What the commands report. No public clause cites it.
 use Rattle.std.specs.Prelude.{List}
 use Rattle.cost_base.specs.declared.Status.{Status}
 use Rattle.cost_base.specs.declared.Status.TheVariants as status

@@ -95,13 +95,16 @@ files_of request configs = record { request = request; configs = configs }
 
 -- The whole text that a run writes with a status, where this came of its files.
 abbrev pub MayWrite : Option JobRead → List Taken → Status → List ℕ → Type 0
-MayWrite (Some (Design request limits configs)) came status bytes = MayAfter (outcome AsRequested (files_of request configs)) (MayDesign limits) came status bytes
+MayWrite (Some (Design request limits configs)) came status bytes =
+    MayAfter (outcome AsRequested (files_of request configs)) (MayDesign limits) came status bytes
 MayWrite (Some (Check request answer configs)) came status bytes = MayAfter (claim_read (files_of request configs) answer) MayCheck came status bytes
 MayWrite (Some (Audit request configs)) came status bytes = MayAfter (outcome AtPresent (files_of request configs)) MayAudit came status bytes
 MayWrite (Some (Rewrite answer config)) came status bytes = MayAfter (revision_read config answer) MayRewrite came status bytes
 MayWrite (Some (Trial blocks start)) came status bytes = (came ≡ []) × MayTrial blocks start status bytes
-MayWrite (Some (Conflict request limits configs)) came status bytes = MayAfter (outcome AsRequested (files_of request configs)) (MayConflict limits) came status bytes
-MayWrite (Some (Spread request sets limits configs)) came status bytes = MayAfter (spread_read (files_of request configs) sets) (MaySpread limits) came status bytes
+MayWrite (Some (Conflict request limits configs)) came status bytes =
+    MayAfter (outcome AsRequested (files_of request configs)) (MayConflict limits) came status bytes
+MayWrite (Some (Spread request sets limits configs)) came status bytes =
+    MayAfter (spread_read (files_of request configs) sets) (MaySpread limits) came status bytes
 MayWrite (Some (Total request limits configs)) came status bytes = MayAfter (outcome AsRequested (files_of request configs)) (MayTotal limits) came status bytes
 MayWrite (Some (Lsas request configs)) came status bytes = MayAfter (identified_read (files_of request configs)) MayLsas came status bytes
 MayWrite (Some (Route lsas from to)) came status bytes = MayAfter (route_read lsas from to) (MayRoute from to) came status bytes
@@ -119,7 +122,8 @@ pub record WritesWhole (may : Status → List ℕ → Type 0) (handed : List ℕ
   pub whole : GotWhole got_before got_now bytes
 
 -- the sink's count rose, and it was handed a prefix of a text that may be written
-pub record WritesPart (may : Status → List ℕ → Type 0) (handed : List ℕ → Type 0) (got_before got_now : Option (List ℕ)) (count_before count_now : ℕ) : Type 0 where
+pub record WritesPart (may : Status → List ℕ → Type 0) (handed : List ℕ → Type 0) (got_before got_now : Option (List ℕ))
+    (count_before count_now : ℕ) : Type 0 where
   pub status : Status
   pub bytes : List ℕ
   pub allowed : may status bytes
@@ -148,7 +152,9 @@ Writes may handed got_before got_now count_before count_now EvidenceRefused = Wr
 
 -- A run of these words: this came of the files that the shelf was asked for, true to what it holds and to its counts of
 -- faults, and what was written is right for that.
-pub record RunMeets (words : List (List ℕ)) (gave : List Taken → Type 0) (held : List ℕ → Option (List ℕ)) (before now : List ℕ → ℕ) (handed : List ℕ → Type 0) (got_before got_now : Option (List ℕ)) (count_before count_now : ℕ) (status : Status) : Type 0 where
+pub record RunMeets (words : List (List ℕ)) (gave : List Taken → Type 0) (held : List ℕ → Option (List ℕ))
+    (before now : List ℕ → ℕ) (handed : List ℕ → Type 0) (got_before got_now : Option (List ℕ))
+    (count_before count_now : ℕ) (status : Status) : Type 0 where
   pub came : List Taken
   pub given : gave came
   pub told : AreTold held came

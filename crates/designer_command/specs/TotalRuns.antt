@@ -14,7 +14,7 @@ use Rattle.path_rows.specs.declared.answer.Verdict.TheVariants.{Optimal, Impossi
 use Rattle.path_rows.specs.Answers.{AnswerParts}
 use Rattle.path_rows.specs.Text.{spaced, text, tree_lines}
 use Rattle.answer_laws.specs.Laws.{IsAnswerValue}
-use Rattle.evidence_text.specs.Lines.{text_of}
+use Rattle.text_lines.specs.Lines.{with_ends}
 use Rattle.evidence_text.specs.Parts.{rows_lines}
 use Rattle.least_total.specs.Totals.{HasLeastTotal, total}
 use Rattle.least_total.specs.Results.{FitText, IsAnswered, IsPrintedWithin, IsSpentOverTotal}
@@ -31,10 +31,10 @@ use Rattle.designer_command.specs.Designs.{IsDesigned, IsShownImpossible, IsShow
 -- the text: the whole text of an answer, the total of its costs, and the lines of what shows it
 abbrev pub total_text : List ℕ → ℕ → List (List ℕ) → List ℕ
 total_text inside sum shown =
-    text_of (codes "ospfcost total 1" ∷ []) ++ inside
-    ++ text_of (spaced (codes "total" ∷ decimal sum ∷ []) ∷ [])
-    ++ text_of shown
-    ++ text_of (codes "end" ∷ [])
+    with_ends (codes "ospfcost total 1" ∷ []) ++ inside
+    ++ with_ends (spaced (codes "total" ∷ decimal sum ∷ []) ∷ [])
+    ++ with_ends shown
+    ++ with_ends (codes "end" ∷ [])
 
 abbrev pub floor_lines : List (List ℕ)
 floor_lines = codes "floor total" ∷ []

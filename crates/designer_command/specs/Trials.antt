@@ -1,13 +1,11 @@
 -- What a trial prints of its made case.
-use Rattle.std.specs.Prelude.{◌≡◌, ℕ, ◌+◌, ◌*◌, ◌-◌, ◌^◌, List, [], ◌∷◌, ◌++◌, codes, Option, None, Some}
+use Rattle.std.specs.Prelude.{◌≡◌, ℕ, ◌+◌, ◌*◌, ◌-◌, ◌^◌, List, [], ◌∷◌, ◌++◌, codes}
 use Rattle.std.specs.List.{sum, zip}
 use Rattle.cost_base.specs.declared.Status.{Status}
 use Rattle.cost_base.specs.declared.Status.TheVariants.{Done, Impossible, Undecided, InputRefused}
 use Rattle.cost_base.specs.Decimal.{decimal}
 use Rattle.case_maker.specs.declared.Case.{Case}
 use Rattle.case_maker.specs.Cases.{made_case}
-use Rattle.path_rows.specs.declared.answer.CostLine.{CostLine}
-use Rattle.path_rows.specs.declared.answer.Costs.{Costs}
 use Rattle.path_rows.specs.Problems.{DesignProblem}
 use Rattle.path_rows.specs.Rows.{IsBest, greatest_cost}
 use Rattle.command_words.specs.Jobs.{Bounds}
@@ -58,11 +56,6 @@ MayTry blocks start d Impossible bytes =
 MayTry blocks start d Undecided bytes =
     IsFollowed (costless_line blocks start (codes "undecided")) (IsShownUndecided trial_limits d.problem) bytes
 MayTry blocks start d status bytes = ⊥
-
--- the cost lines of an answer's costs
-abbrev pub lines_in : Option Costs → List CostLine
-lines_in None = []
-lines_in (Some costs) = costs.lines
 
 -- the names of a case's files
 abbrev pub case_files : Case → InputFiles

@@ -1,6 +1,6 @@
 -- The text that tells how the program is called.
 use Rattle.std.specs.Prelude.{ℕ, List, [], ◌∷◌, codes}
-use Rattle.config_reader.specs.Sections.{with_ends}
+use Rattle.text_lines.specs.Lines.{with_ends}
 
 abbrev pub usage_lines : List (List ℕ)
 usage_lines =

@@ -20,7 +20,7 @@ use path_rows::{Problem, Request};
 use report_writer::Report;
 use spf_ties::Room;
 use std::alloc::Global;
-use text_parts::{push_bytes, push_number};
+use text_lines::{push_bytes, push_number};
 
 /// How a requested path stands among the simple paths of its request.
 #[derive(Clone, Copy, Debug, PartialEq, Eq)]

@@ -4,7 +4,7 @@ ghost use Rattle.cost_base.specs.Decimal.{decimal};
 ghost use Rattle.form_search.specs.Advised.{AreCalled};
 ghost use Rattle.command_words.specs.Jobs.{bounds};
 ghost use Rattle.path_rows.specs.Text.{spaced, text, tree_lines};
-ghost use Rattle.evidence_text.specs.Lines.{text_of};
+ghost use Rattle.text_lines.specs.Lines.{with_ends};
 ghost use Rattle.evidence_text.specs.Parts.{part_word, rows_lines};
 ghost use Rattle.input_files.specs.Readings.{Gave};
 ghost use Rattle.input_files.specs.Outcomes.{outcome};
@@ -24,7 +24,8 @@ use least_total::{Total, TotalProof, least_total};
 use path_rows::{Answer, CapTree, Problem, Row, Tree, Verdict};
 use report_writer::Report;
 use std::alloc::Global;
-use text_parts::{push_bytes, push_number, push_rows, push_tree, text_of_answer};
+use text_lines::{push_bytes, push_number};
+use text_parts::{push_rows, push_tree, text_of_answer};
 use wide_fraction::Limits;
 
 /// Adds a line of a word and a number.
@@ -40,7 +41,7 @@ fn push_line(text: &mut Vec<u8>, word: &[u8], number: u64) -> Result<(), OutOfMe
 /// The text up to the line of the total: the whole text of the answer stands in it.
 fn begun_text(alloc: Global, answer: &Answer, total: u64) -> Result<Vec<u8>, OutOfMemory>
     ensures { IfOk result (λ bytes.
-        bytes.items ≡ text_of (codes "ospfcost total 1" ∷ []) ++ text answer.now ++ text_of (spaced (codes "total" ∷ decimal total ∷ []) ∷ [])) }
+        bytes.items ≡ with_ends (codes "ospfcost total 1" ∷ []) ++ text answer.now ++ with_ends (spaced (codes "total" ∷ decimal total ∷ []) ∷ [])) }
 {
     let mut text = Vec::new(alloc);
     push_bytes(&mut text, b"ospfcost total 1\n")?;
@@ -59,7 +60,7 @@ fn push_evidence(
     tree: CapTree,
 ) -> Result<(), OutOfMemory>
     requires { FitText tree.cap rows.now tree.tree }
-    ensures { OnOk result (text.new.items ≡ text.old.items ++ text_of (rows_lines rows.now ++ tree_lines (part_word part) (Some tree))) }
+    ensures { OnOk result (text.new.items ≡ text.old.items ++ with_ends (rows_lines rows.now ++ tree_lines (part_word part) (Some tree))) }
 {
     push_rows(alloc, text, rows)?;
     push_tree(alloc, text, part, Some(&tree))
@@ -73,7 +74,7 @@ fn push_proof(
     proof: TotalProof,
 ) -> Result<(), OutOfMemory>
     requires { CanPrint cap proof }
-    ensures { OnOk result (text.new.items ≡ text.old.items ++ text_of (shown_lines cap proof)) }
+    ensures { OnOk result (text.new.items ≡ text.old.items ++ with_ends (shown_lines cap proof)) }
 {
     match proof {
         TotalProof::Floor => push_bytes(text, b"floor total\n"),

@@ -5,7 +5,7 @@ ghost use Rattle.designer_command.specs.Trials.{case_part, costless_line, summar
 
 use cost_base::OutOfMemory;
 use std::alloc::Global;
-use text_parts::{push_bytes, push_number};
+use text_lines::{push_bytes, push_number};
 
 /// A trial: how many blocks its case has, 1 to 125, and the number from which the sides of the blocks are chosen.
 #[derive(Clone, Copy)]

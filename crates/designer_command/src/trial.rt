@@ -4,6 +4,7 @@ ghost use Rattle.std.specs.List.{sum};
 ghost use Rattle.cost_base.specs.Decimal.{decimal};
 ghost use Rattle.command_words.specs.Jobs.{bounds};
 ghost use Rattle.path_rows.specs.Text.{text};
+ghost use Rattle.path_rows.specs.Answers.{lines_in};
 ghost use Rattle.form_search.specs.Advised.{AreCalled};
 ghost use Rattle.input_files.specs.Readings.{Gave};
 ghost use Rattle.input_files.specs.Outcomes.{Input, outcome};
@@ -12,7 +13,7 @@ ghost use Rattle.evidence_checker.specs.Tests.{costs_given};
 ghost use Rattle.report_writer.specs.Reports.{Reports, bytes_in};
 ghost use Rattle.designer_command.specs.Designs.{IsAnswerTo};
 ghost use Rattle.designer_command.specs.Reported.{status_of};
-ghost use Rattle.designer_command.specs.Trials.{MayTrial, MayTry, costless_line, lines_in, summary_line, trial_limits};
+ghost use Rattle.designer_command.specs.Trials.{MayTrial, MayTry, costless_line, summary_line, trial_limits};
 
 use crate::design::{answer_to, status_of};
 use crate::made_files::{REQUEST, shelf_of, words_of};
@@ -25,7 +26,8 @@ use input_files::{FileWords, Stop, View, read_problem};
 use path_rows::{Answer, CostLine, Costs, Problem, Verdict};
 use report_writer::{Report, report_of};
 use std::alloc::Global;
-use text_parts::{push_bytes, text_of_answer};
+use text_lines::push_bytes;
+use text_parts::text_of_answer;
 use wide_fraction::{Limits, Top};
 
 /// The limits of a trial: a budget of 100,000 entries, and numbers of 127 bits.

@@ -45,8 +45,11 @@ no_higher p kept k d k_in =
     let same = get_or_default p.low k d 0 k_in in
     omega (arith, ordered.1)
 
-least_is_shown : (p : DesignProblem) (rows : List Row) (k : ℕ) (floor : Floor) (proof : Option CapTree) → ShapeOfLeast p k floor proof → (IsFalseFloor p k floor → ⊥) → ProofHolds p rows proof → ShowsLeast p rows k floor proof
-least_is_shown p rows k Absent (Some proof) shape true_floor holds = (proof.cap, shape.0, record { at_cap = refl; no_higher = shape.1; sound = holds.0; closed = holds.1 })
+least_is_shown : (p : DesignProblem) (rows : List Row) (k : ℕ) (floor : Floor) (proof : Option CapTree) →
+    ShapeOfLeast p k floor proof → (IsFalseFloor p k floor → ⊥) → ProofHolds p rows proof →
+    ShowsLeast p rows k floor proof
+least_is_shown p rows k Absent (Some proof) shape true_floor holds =
+    (proof.cap, shape.0, record { at_cap = refl; no_higher = shape.1; sound = holds.0; closed = holds.1 })
 least_is_shown p rows k Absent None shape true_floor holds = absurd shape
 least_is_shown p rows k Empty None shape true_floor holds =
     elim (ℕ_discrete (length p.low) 0) [ yes none ↦ none | no some ↦ absurd (true_floor some) ]
@@ -58,7 +61,9 @@ least_is_shown p rows k (Var v) None shape true_floor holds =
     ]
 least_is_shown p rows k (Var v) (Some proof) shape true_floor holds = absurd shape
 
-claim_of : (p : DesignProblem) (rows : List Row) (verdict : Verdict) (costs : Option Costs) (floor : Floor) (proof : Option CapTree) → IsProblem p → ShapeOfClaim p verdict costs floor proof → CostsHold p verdict costs floor → ProofHolds p rows proof → ClaimHolds p rows verdict costs floor proof
+claim_of : (p : DesignProblem) (rows : List Row) (verdict : Verdict) (costs : Option Costs) (floor : Floor)
+    (proof : Option CapTree) → IsProblem p → ShapeOfClaim p verdict costs floor proof →
+    CostsHold p verdict costs floor → ProofHolds p rows proof → ClaimHolds p rows verdict costs floor proof
 claim_of p rows (Optimal k) (Some costs) floor proof kept shape costs_hold holds = (costs_hold.0, least_is_shown p rows k floor proof shape costs_hold.1 holds)
 claim_of p rows (Optimal k) None floor proof kept shape costs_hold holds = absurd shape
 claim_of p rows Impossible None Absent (Some proof) kept shape costs_hold holds =
@@ -74,7 +79,9 @@ claim_of p rows Impossible None (Var v) proof kept shape costs_hold holds = absu
 claim_of p rows Impossible (Some costs) floor proof kept shape costs_hold holds = absurd shape
 claim_of p rows (Budget cap) costs floor proof kept shape costs_hold holds = absurd shape
 
-pub valid_of : (p : DesignProblem) (a : AnswerParts) → IsProblem p → ShapeOfClaim p a.verdict a.costs a.floor a.proof × (a.unfinished ≡ None) → CostsHold p a.verdict a.costs a.floor → All (IsRow p) a.rows → ProofHolds p a.rows a.proof → IsValid p a
+pub valid_of : (p : DesignProblem) (a : AnswerParts) → IsProblem p → ShapeOfClaim p a.verdict a.costs a.floor a.proof
+    × (a.unfinished ≡ None) → CostsHold p a.verdict a.costs a.floor → All (IsRow p) a.rows →
+    ProofHolds p a.rows a.proof → IsValid p a
 valid_of p a kept shape costs_hold true_rows holds = record {
   rows = true_rows;
   finished = shape.1;
@@ -82,12 +89,14 @@ valid_of p a kept shape costs_hold true_rows holds = record {
 }
 
 -- of a valid claim
-claims_something : (p : DesignProblem) (rows : List Row) (verdict : Verdict) (costs : Option Costs) (floor : Floor) (proof : Option CapTree) → ClaimHolds p rows verdict costs floor proof → ClaimsNothing verdict → ⊥
+claims_something : (p : DesignProblem) (rows : List Row) (verdict : Verdict) (costs : Option Costs) (floor : Floor)
+    (proof : Option CapTree) → ClaimHolds p rows verdict costs floor proof → ClaimsNothing verdict → ⊥
 claims_something p rows (Optimal k) costs floor proof claim nothing = nothing
 claims_something p rows Impossible costs floor proof claim nothing = nothing
 claims_something p rows (Budget cap) costs floor proof claim nothing = claim
 
-shape_of_least : (p : DesignProblem) (rows : List Row) (k : ℕ) (floor : Floor) (proof : Option CapTree) → ShowsLeast p rows k floor proof → ShapeOfLeast p k floor proof
+shape_of_least : (p : DesignProblem) (rows : List Row) (k : ℕ) (floor : Floor) (proof : Option CapTree) →
+    ShowsLeast p rows k floor proof → ShapeOfLeast p k floor proof
 shape_of_least p rows k Absent (Some proof) shows = (
   ap (λ (cap : ℕ). cap + 1) shows.2.at_cap ∙ shows.1,
   subst (λ (cap : ℕ). All (λ low. low ≤ cap) p.low) (sym shows.2.at_cap) shows.2.no_higher,
@@ -98,7 +107,8 @@ shape_of_least p rows k Empty (Some proof) shows = absurd shows
 shape_of_least p rows k (Var v) None shows = tt
 shape_of_least p rows k (Var v) (Some proof) shows = absurd shows
 
-shape_of : (p : DesignProblem) (rows : List Row) (verdict : Verdict) (costs : Option Costs) (floor : Floor) (proof : Option CapTree) → ClaimHolds p rows verdict costs floor proof → ShapeOfClaim p verdict costs floor proof
+shape_of : (p : DesignProblem) (rows : List Row) (verdict : Verdict) (costs : Option Costs) (floor : Floor)
+    (proof : Option CapTree) → ClaimHolds p rows verdict costs floor proof → ShapeOfClaim p verdict costs floor proof
 shape_of p rows (Optimal k) (Some costs) floor proof claim = shape_of_least p rows k floor proof claim.1
 shape_of p rows (Optimal k) None floor proof claim = absurd claim
 shape_of p rows Impossible None Absent (Some proof) claim = claim.at_cap
@@ -108,7 +118,8 @@ shape_of p rows Impossible None (Var v) proof claim = absurd claim
 shape_of p rows Impossible (Some costs) floor proof claim = absurd claim
 shape_of p rows (Budget cap) costs floor proof claim = absurd claim
 
-true_floor_of : (p : DesignProblem) (rows : List Row) (k : ℕ) (floor : Floor) (proof : Option CapTree) → ShowsLeast p rows k floor proof → IsFalseFloor p k floor → ⊥
+true_floor_of : (p : DesignProblem) (rows : List Row) (k : ℕ) (floor : Floor) (proof : Option CapTree) →
+    ShowsLeast p rows k floor proof → IsFalseFloor p k floor → ⊥
 true_floor_of p rows k Absent proof shows is_false = is_false
 true_floor_of p rows k Empty None shows is_false = is_false shows
 true_floor_of p rows k Empty (Some proof) shows is_false = shows
@@ -119,7 +130,8 @@ sound_at : (p : DesignProblem) (rows : List Row) (cap : ℕ) (proof : CapTree) �
 sound_at p rows cap proof proves =
     (subst (λ (c : ℕ). IsSoundTree (forms_of_rows p rows) (capped (box_of p) c) proof.tree) (sym proves.at_cap) proves.sound, proves.closed)
 
-proof_of_least : (p : DesignProblem) (rows : List Row) (k : ℕ) (floor : Floor) (proof : Option CapTree) → ShowsLeast p rows k floor proof → ProofHolds p rows proof
+proof_of_least : (p : DesignProblem) (rows : List Row) (k : ℕ) (floor : Floor) (proof : Option CapTree) →
+    ShowsLeast p rows k floor proof → ProofHolds p rows proof
 proof_of_least p rows k Absent (Some proof) shows = sound_at p rows shows.0 proof shows.2
 proof_of_least p rows k Absent None shows = tt
 proof_of_least p rows k Empty None shows = tt
@@ -127,7 +139,8 @@ proof_of_least p rows k Empty (Some proof) shows = absurd shows
 proof_of_least p rows k (Var v) None shows = tt
 proof_of_least p rows k (Var v) (Some proof) shows = absurd shows
 
-proof_of : (p : DesignProblem) (rows : List Row) (verdict : Verdict) (costs : Option Costs) (floor : Floor) (proof : Option CapTree) → ClaimHolds p rows verdict costs floor proof → ProofHolds p rows proof
+proof_of : (p : DesignProblem) (rows : List Row) (verdict : Verdict) (costs : Option Costs) (floor : Floor)
+    (proof : Option CapTree) → ClaimHolds p rows verdict costs floor proof → ProofHolds p rows proof
 proof_of p rows (Optimal k) (Some costs) floor proof claim = proof_of_least p rows k floor proof claim.1
 proof_of p rows (Optimal k) None floor proof claim = absurd claim
 proof_of p rows Impossible None Absent (Some proof) claim = sound_at p rows (greatest_bound p) proof claim
@@ -137,26 +150,31 @@ proof_of p rows Impossible None (Var v) proof claim = absurd claim
 proof_of p rows Impossible (Some costs) floor proof claim = absurd claim
 proof_of p rows (Budget cap) costs floor proof claim = absurd claim
 
-places_of : (w : List ℕ) (names : List VarName) (lines : List CostLine) → AllZip (λ name line. (line.router ≡ name.router) × (line.interface ≡ name.interface) × (line.cost ≡ slice_index w name.var)) names lines → NamesPlaces names lines
+places_of : (w : List ℕ) (names : List VarName) (lines : List CostLine) →
+    AllZip (λ name line. (line.router ≡ name.router) × (line.interface ≡ name.interface)
+    × (line.cost ≡ slice_index w name.var)) names lines → NamesPlaces names lines
 places_of w [] [] named = tt
 places_of w [] (line ∷ lines) named = named
 places_of w (name ∷ names) [] named = named
 places_of w (name ∷ names) (line ∷ lines) named = ((named.0.0, named.0.1), places_of w names lines named.1)
 
-costs_of : (p : DesignProblem) (rows : List Row) (verdict : Verdict) (costs : Option Costs) (floor : Floor) (proof : Option CapTree) → ClaimHolds p rows verdict costs floor proof → CostsHold p verdict costs floor
+costs_of : (p : DesignProblem) (rows : List Row) (verdict : Verdict) (costs : Option Costs) (floor : Floor)
+    (proof : Option CapTree) → ClaimHolds p rows verdict costs floor proof → CostsHold p verdict costs floor
 costs_of p rows (Optimal k) (Some costs) floor proof claim = (claim.0, true_floor_of p rows k floor proof claim.1)
 costs_of p rows (Optimal k) None floor proof claim = tt
 costs_of p rows Impossible costs floor proof claim = tt
 costs_of p rows (Budget cap) costs floor proof claim = tt
 
 -- costs that hold meet no test
-costs_met : (p : DesignProblem) (verdict : Verdict) (costs : Option Costs) (floor : Floor) → IsProblem p → CostsHold p verdict costs floor → NoneOf (cost_tests p verdict costs floor)
+costs_met : (p : DesignProblem) (verdict : Verdict) (costs : Option Costs) (floor : Floor) → IsProblem p →
+    CostsHold p verdict costs floor → NoneOf (cost_tests p verdict costs floor)
 costs_met p (Optimal k) (Some costs) floor kept holds =
     let gives = holds.0 in
     let w = gives.values in
     let is = names_written p costs.lines w kept.each_named gives.fit.within.low_count gives.names in
     subst (λ (v : List ℕ). NoneOf (TestsAt p k costs.greatest costs.lines floor v)) (sym is)
-    (passes p k costs.greatest costs.lines floor w (places_of w p.vars costs.lines gives.names) gives.names gives.fit.within (gives.printed, gives.greatest) gives.fit.only holds.1)
+    (passes p k costs.greatest costs.lines floor w (places_of w p.vars costs.lines gives.names) gives.names
+    gives.fit.within (gives.printed, gives.greatest) gives.fit.only holds.1)
 costs_met p (Optimal k) None floor kept holds = tt
 costs_met p Impossible costs floor kept holds = tt
 costs_met p (Budget cap) costs floor kept holds = tt
@@ -169,7 +187,8 @@ rows_met p place (row ∷ rows) f true_rows met =
       | inr later ↦ rows_met p (place + 1) rows f (All-tail (IsRow p) row rows true_rows) later.1
     ]
 
-lines_met : (forms : List Form) (boxes : List CostBox) (place : ℕ) (entries : List Entry) (f : Fault) → Sound forms boxes entries → IsClosed entries → AtFirstLine forms boxes place entries f → ⊥
+lines_met : (forms : List Form) (boxes : List CostBox) (place : ℕ) (entries : List Entry) (f : Fault) →
+    Sound forms boxes entries → IsClosed entries → AtFirstLine forms boxes place entries f → ⊥
 lines_met forms [] place entries f sound closed met = met
 lines_met forms (box ∷ boxes) place [] f sound closed met = met
 lines_met forms (box ∷ boxes) place (entry ∷ entries) f sound closed met =
@@ -186,7 +205,9 @@ proof_met p rows (Some proof) holds = (λ f met. lines_met (forms_of_rows p rows
 abbrev pub EarlyTests : DesignProblem → AnswerParts → List (Fault → Type 0)
 EarlyTests p a = OnWhole 49 (ClaimsNothing a.verdict) ∷ OnWhole 51 (HasWrongShape p a) ∷ cost_tests p a.verdict a.costs a.floor
 
-early_met : (p : DesignProblem) (a : AnswerParts) → IsProblem p → (ClaimsNothing a.verdict → ⊥) → ShapeOfClaim p a.verdict a.costs a.floor a.proof × (a.unfinished ≡ None) → CostsHold p a.verdict a.costs a.floor → NoneOf (EarlyTests p a)
+early_met : (p : DesignProblem) (a : AnswerParts) → IsProblem p → (ClaimsNothing a.verdict → ⊥) →
+    ShapeOfClaim p a.verdict a.costs a.floor a.proof × (a.unfinished ≡ None) → CostsHold p a.verdict a.costs a.floor →
+    NoneOf (EarlyTests p a)
 early_met p a kept claims shape holds =
     (λ f met. claims met.2, (λ f met. met.2 shape, costs_met p a.verdict a.costs a.floor kept holds))
 
@@ -195,7 +216,9 @@ valid_meets_none : (p : DesignProblem) (a : AnswerParts) → IsProblem p → IsV
 valid_meets_none p a kept valid =
     let claim = valid.claim in
     none_left_right (EarlyTests p a) (AtFirstItem (row_tests p) 0 a.rows ∷ proof_tests p a.rows a.proof)
-    (early_met p a kept (claims_something p a.rows a.verdict a.costs a.floor a.proof claim) (shape_of p a.rows a.verdict a.costs a.floor a.proof claim, valid.finished) (costs_of p a.rows a.verdict a.costs a.floor a.proof claim))
+    (early_met p a kept (claims_something p a.rows a.verdict a.costs a.floor a.proof claim)
+    (shape_of p a.rows a.verdict a.costs a.floor a.proof claim, valid.finished)
+    (costs_of p a.rows a.verdict a.costs a.floor a.proof claim))
     (λ f met. rows_met p 0 a.rows f valid.rows met, proof_met p a.rows a.proof (proof_of p a.rows a.verdict a.costs a.floor a.proof claim))
 
 -- so an answer that a test refuses isn't valid
@@ -209,7 +232,9 @@ accepted_claims Impossible accepted is nothing = nothing
 accepted_claims (Budget cap) accepted is nothing = is
 
 -- a test of the costs, after the verdict and the shape
-pub stops_costs : (p : DesignProblem) (a : AnswerParts) (accepted : Accepted) (s : CheckStop) → IsAcceptedAs a.verdict accepted → ShapeOfClaim p a.verdict a.costs a.floor a.proof × (a.unfinished ≡ None) → StopsBy (cost_tests p a.verdict a.costs a.floor) s → StopsBy (tests p a) s
+pub stops_costs : (p : DesignProblem) (a : AnswerParts) (accepted : Accepted) (s : CheckStop) →
+    IsAcceptedAs a.verdict accepted → ShapeOfClaim p a.verdict a.costs a.floor a.proof × (a.unfinished ≡ None) →
+    StopsBy (cost_tests p a.verdict a.costs a.floor) s → StopsBy (tests p a) s
 stops_costs p a accepted s is shape stops =
     let costs = cost_tests p a.verdict a.costs a.floor in
     let others = AtFirstItem (row_tests p) 0 a.rows ∷ proof_tests p a.rows a.proof in
@@ -218,17 +243,30 @@ stops_costs p a accepted s is shape stops =
     (stop_left costs others s stops)
 
 -- a test of the rows or of the proof, after all others
-pub stops_evidence : (p : DesignProblem) (a : AnswerParts) (accepted : Accepted) (s : CheckStop) → IsProblem p → IsAcceptedAs a.verdict accepted → ShapeOfClaim p a.verdict a.costs a.floor a.proof × (a.unfinished ≡ None) → CostsHold p a.verdict a.costs a.floor → StopsBy (AtFirstItem (row_tests p) 0 a.rows ∷ proof_tests p a.rows a.proof) s → StopsBy (tests p a) s
+pub stops_evidence : (p : DesignProblem) (a : AnswerParts) (accepted : Accepted) (s : CheckStop) → IsProblem p →
+    IsAcceptedAs a.verdict accepted → ShapeOfClaim p a.verdict a.costs a.floor a.proof × (a.unfinished ≡ None) →
+    CostsHold p a.verdict a.costs a.floor →
+    StopsBy (AtFirstItem (row_tests p) 0 a.rows ∷ proof_tests p a.rows a.proof) s → StopsBy (tests p a) s
 stops_evidence p a accepted s kept is shape holds stops =
     stop_right (EarlyTests p a) (AtFirstItem (row_tests p) 0 a.rows ∷ proof_tests p a.rows a.proof) s
     (early_met p a kept (accepted_claims a.verdict accepted is) shape holds) stops
 
 -- a test of the proof, after those of the rows
-pub stops_proof : (p : DesignProblem) (rows : List Row) (stands : Option CapTree) (proof : CapTree) (forms given : List Form) (low high : List ℕ) (s : CheckStop) → stands ≡ Some proof → given ≡ forms → low ≡ p.low → high ≡ p.high → forms ≡ forms_of_rows p rows → All (IsRow p) rows → StopsBy (AtFirstLine given (capped (record { low = low; high = high }) proof.cap ∷ []) 0 proof.tree ∷ []) s → StopsBy (AtFirstItem (row_tests p) 0 rows ∷ proof_tests p rows stands) s
+pub stops_proof : (p : DesignProblem) (rows : List Row) (stands : Option CapTree) (proof : CapTree)
+    (forms given : List Form) (low high : List ℕ) (s : CheckStop) → stands ≡ Some proof → given ≡ forms → low ≡ p.low →
+    high ≡ p.high → forms ≡ forms_of_rows p rows → All (IsRow p) rows →
+    StopsBy (AtFirstLine given (capped (record { low = low; high = high }) proof.cap ∷ []) 0 proof.tree ∷ []) s →
+    StopsBy (AtFirstItem (row_tests p) 0 rows ∷ proof_tests p rows stands) s
 stops_proof p rows stands proof forms given low high s is given_is low_is high_is forms_are true_rows stops =
     let all_forms = given_is ∙ forms_are in
-    let at_forms = subst (λ (fs : List Form). StopsBy (AtFirstLine fs (capped (record { low = low; high = high }) proof.cap ∷ []) 0 proof.tree ∷ []) s) all_forms stops in
-    let at_low = subst (λ (xs : List ℕ). StopsBy (AtFirstLine (forms_of_rows p rows) (capped (record { low = xs; high = high }) proof.cap ∷ []) 0 proof.tree ∷ []) s) low_is at_forms in
-    let at_high = subst (λ (xs : List ℕ). StopsBy (AtFirstLine (forms_of_rows p rows) (capped (record { low = p.low; high = xs }) proof.cap ∷ []) 0 proof.tree ∷ []) s) high_is at_low in
+    let at_forms = subst (λ (fs : List Form).
+    StopsBy (AtFirstLine fs (capped (record { low = low; high = high }) proof.cap ∷ []) 0 proof.tree ∷ []) s)
+    all_forms stops in
+    let at_low = subst (λ (xs : List ℕ).
+    StopsBy (AtFirstLine (forms_of_rows p rows) (capped (record { low = xs; high = high }) proof.cap ∷ []) 0
+    proof.tree ∷ []) s) low_is at_forms in
+    let at_high = subst (λ (xs : List ℕ).
+    StopsBy (AtFirstLine (forms_of_rows p rows) (capped (record { low = p.low; high = xs }) proof.cap ∷ []) 0
+    proof.tree ∷ []) s) high_is at_low in
     subst (λ (o : Option CapTree). StopsBy (AtFirstItem (row_tests p) 0 rows ∷ proof_tests p rows o) s) (sym is)
     (stop_right (AtFirstItem (row_tests p) 0 rows ∷ []) (proof_tests p rows (Some proof)) s (λ f met. rows_met p 0 rows f true_rows met, tt) at_high)

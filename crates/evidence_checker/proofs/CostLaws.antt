@@ -21,7 +21,9 @@ length-written costs (name ∷ names) [] = refl
 length-written costs (name ∷ names) (line ∷ lines) = length-written (slice_set costs name.var line.cost) names lines ∙ length-set costs name.var line.cost
 
 -- each cost is one that a line gives, or what stood there before
-written_given : (costs : List ℕ) (names : List VarName) (lines : List CostLine) (var : ℕ) → var < length costs → GivesCost names lines var (slice_index (written costs names lines) var) ⊎ (slice_index (written costs names lines) var ≡ slice_index costs var)
+written_given : (costs : List ℕ) (names : List VarName) (lines : List CostLine) (var : ℕ) → var < length costs →
+    GivesCost names lines var (slice_index (written costs names lines) var)
+    ⊎ (slice_index (written costs names lines) var ≡ slice_index costs var)
 written_given costs [] lines var var_in = inr refl
 written_given costs (name ∷ names) [] var var_in = inr refl
 written_given costs (name ∷ names) (line ∷ lines) var var_in =
@@ -30,13 +32,19 @@ written_given costs (name ∷ names) (line ∷ lines) var var_in =
       | inl given ↦ inl (inr given)
       | inr same ↦
           elim (ℕ_discrete name.var var) [
-            | yes here ↦ inl (inl (here, sym (same ∙ get_or-set_at costs name.var var line.cost 0 (sym here) (let e : name.var < length costs = omega arith in e))))
+            | yes here ↦ inl
+                (inl (
+                  here,
+                  sym (same ∙ get_or-set_at costs name.var var line.cost 0 (sym here)
+                      (let e : name.var < length costs = omega arith in e)),
+                ))
             | no other ↦ inr (same ∙ get_or-set_other costs name.var var line.cost 0 (λ q. other (sym q)))
           ]
     ]
 
 -- a variable with a line has a cost that a line gives
-pub written_of_line : (costs : List ℕ) (names : List VarName) (lines : List CostLine) (var c : ℕ) → var < length costs → GivesCost names lines var c → GivesCost names lines var (slice_index (written costs names lines) var)
+pub written_of_line : (costs : List ℕ) (names : List VarName) (lines : List CostLine) (var c : ℕ) → var < length costs →
+    GivesCost names lines var c → GivesCost names lines var (slice_index (written costs names lines) var)
 written_of_line costs [] lines var c var_in given = absurd given
 written_of_line costs (name ∷ names) [] var c var_in given = absurd given
 written_of_line costs (name ∷ names) (line ∷ lines) var c var_in given =
@@ -45,7 +53,12 @@ written_of_line costs (name ∷ names) (line ∷ lines) var c var_in given =
       | inl here ↦
           elim (written_given (slice_set costs name.var line.cost) names lines var (omega arith)) [
             | inl there ↦ inr there
-            | inr same ↦ inl (here.0, sym (same ∙ get_or-set_at costs name.var var line.cost 0 (sym here.0) (let e : name.var < length costs = omega (arith, here.0) in e)))
+            | inr same ↦ inl (
+              here.0,
+              sym (same
+                  ∙ get_or-set_at costs name.var var line.cost 0 (sym here.0) (let e : name.var < length costs =
+                  omega (arith, here.0) in e)),
+            )
           ]
       | inr there ↦ inr (written_of_line (slice_set costs name.var line.cost) names lines var c (omega arith) there)
     ]
@@ -65,7 +78,9 @@ abbrev pub IsOff : List ℕ → List VarName → List CostLine → ℕ → Type 
 IsOff costs names lines var = (c : ℕ) × GivesCost names lines var c × (c ≡ slice_index costs var → ⊥)
 
 -- where the costs are those that the lines give, a variable with unequal ends is off, and the other way round
-pub off_unequal : (n : ℕ) (costs : List ℕ) (names : List VarName) (lines : List CostLine) (var : ℕ) → All (λ name. name.var < length costs) names → costs ≡ written (replicate n 0) names lines → IsOff costs names lines var → HasUnequalEnds names lines var
+pub off_unequal : (n : ℕ) (costs : List ℕ) (names : List VarName) (lines : List CostLine) (var : ℕ) →
+    All (λ name. name.var < length costs) names → costs ≡ written (replicate n 0) names lines →
+    IsOff costs names lines var → HasUnequalEnds names lines var
 off_unequal n costs names lines var known is off =
     let count = ap length is ∙ length-written (replicate n 0) names lines in
     let var_in : var < length costs = given_known (length costs) names lines var off.0 known off.1 in
@@ -110,7 +125,9 @@ given_later (suc k) (name ∷ names) [] var c given = absurd (given_nil (drop k 
 given_later (suc k) (name ∷ names) (line ∷ lines) var c given = inr (given_later k names lines var c given)
 
 -- of what is left, the next line or a later one
-off_rest : (costs : List ℕ) (name : VarName) (names : List VarName) (line : CostLine) (lines : List CostLine) (var : ℕ) → IsOff costs (name ∷ names) (line ∷ lines) var → ((name.var ≡ var) × (line.cost ≡ slice_index costs name.var → ⊥)) ⊎ IsOff costs names lines var
+off_rest : (costs : List ℕ) (name : VarName) (names : List VarName) (line : CostLine) (lines : List CostLine)
+    (var : ℕ) → IsOff costs (name ∷ names) (line ∷ lines) var →
+    ((name.var ≡ var) × (line.cost ≡ slice_index costs name.var → ⊥)) ⊎ IsOff costs names lines var
 off_rest costs name names line lines var off =
     elim (off.1) [
       | inl here ↦ inl (here.0, λ q. off.2 (sym here.1 ∙ q ∙ ap (λ (v : ℕ). slice_index costs v) here.0))
@@ -140,7 +157,10 @@ lesser_found P (Some least) v found here =
     ]
 
 -- the next line is off
-pub off_more : (costs : List ℕ) (names : List VarName) (lines : List CostLine) (k : ℕ) (least : Option ℕ) (name : VarName) (line : CostLine) → k < length names → k < length lines → name ≡ get_or names k name → line ≡ get_or lines k line → (line.cost ≡ slice_index costs name.var → ⊥) → LeastOff costs names lines k least → LeastOff costs names lines (k + 1) (Some (lesser_of least name.var))
+pub off_more : (costs : List ℕ) (names : List VarName) (lines : List CostLine) (k : ℕ) (least : Option ℕ)
+    (name : VarName) (line : CostLine) → k < length names → k < length lines → name ≡ get_or names k name →
+    line ≡ get_or lines k line → (line.cost ≡ slice_index costs name.var → ⊥) → LeastOff costs names lines k least →
+    LeastOff costs names lines (k + 1) (Some (lesser_of least name.var))
 off_more costs names lines k least name line name_in line_in name_is line_is differs so_far =
     let names_read = read names k name name_in name_is in
     let lines_read = read lines k line line_in line_is in
@@ -155,7 +175,9 @@ off_more costs names lines k least name line name_in line_in name_is line_is dif
           elim (so_far.others var off) [
             | inl most ↦ inl (at_most_lesser least name.var var most)
             | inr left ↦
-                elim (off_rest costs name (drop (k + 1) names) line (drop (k + 1) lines) var (subst (λ (ls : List CostLine). IsOff costs (name ∷ drop (k + 1) names) ls var) lines_read (subst (λ (ns : List VarName). IsOff costs ns (drop k lines) var) names_read left))) [
+                elim (off_rest costs name (drop (k + 1) names) line (drop (k + 1) lines) var
+                (subst (λ (ls : List CostLine). IsOff costs (name ∷ drop (k + 1) names) ls var) lines_read
+                (subst (λ (ns : List VarName). IsOff costs ns (drop k lines) var) names_read left))) [
                   | inl is_here ↦ inl (subst (λ (v : ℕ). lesser_of least name.var ≤ v) is_here.0 (lesser_most least name.var))
                   | inr later ↦ inr later
                 ]
@@ -163,7 +185,10 @@ off_more costs names lines k least name line name_in line_in name_is line_is dif
     }
 
 -- the next line isn't off
-pub off_same : (costs : List ℕ) (names : List VarName) (lines : List CostLine) (k : ℕ) (least : Option ℕ) (name : VarName) (line : CostLine) → k < length names → k < length lines → name ≡ get_or names k name → line ≡ get_or lines k line → line.cost ≡ slice_index costs name.var → LeastOff costs names lines k least → LeastOff costs names lines (k + 1) least
+pub off_same : (costs : List ℕ) (names : List VarName) (lines : List CostLine) (k : ℕ) (least : Option ℕ)
+    (name : VarName) (line : CostLine) → k < length names → k < length lines → name ≡ get_or names k name →
+    line ≡ get_or lines k line → line.cost ≡ slice_index costs name.var → LeastOff costs names lines k least →
+    LeastOff costs names lines (k + 1) least
 off_same costs names lines k least name line name_in line_in name_is line_is same so_far =
     let names_read = read names k name name_in name_is in
     let lines_read = read lines k line line_in line_is in
@@ -173,7 +198,9 @@ off_same costs names lines k least name line name_in line_in name_is line_is sam
           elim (so_far.others var off) [
             | inl most ↦ inl most
             | inr left ↦
-                elim (off_rest costs name (drop (k + 1) names) line (drop (k + 1) lines) var (subst (λ (ls : List CostLine). IsOff costs (name ∷ drop (k + 1) names) ls var) lines_read (subst (λ (ns : List VarName). IsOff costs ns (drop k lines) var) names_read left))) [
+                elim (off_rest costs name (drop (k + 1) names) line (drop (k + 1) lines) var
+                (subst (λ (ls : List CostLine). IsOff costs (name ∷ drop (k + 1) names) ls var) lines_read
+                (subst (λ (ns : List VarName). IsOff costs ns (drop k lines) var) names_read left))) [
                   | inl is_here ↦ absurd (is_here.1 same)
                   | inr later ↦ inr later
                 ]
@@ -188,7 +215,9 @@ nothing_off costs (name ∷ names) [] (suc k) var past off = given_nil (drop k n
 nothing_off costs (name ∷ names) (line ∷ lines) (suc k) var past off = nothing_off costs names lines k var (omega arith) off
 
 -- at the end it is the first variable with unequal ends
-first_of_least : (n : ℕ) (costs : List ℕ) (names : List VarName) (lines : List CostLine) (k : ℕ) (least : Option ℕ) → All (λ name. name.var < length costs) names → costs ≡ written (replicate n 0) names lines → length names ≤ k → LeastOff costs names lines k least → IsFirst (HasUnequalEnds names lines) least
+first_of_least : (n : ℕ) (costs : List ℕ) (names : List VarName) (lines : List CostLine) (k : ℕ) (least : Option ℕ) →
+    All (λ name. name.var < length costs) names → costs ≡ written (replicate n 0) names lines → length names ≤ k →
+    LeastOff costs names lines k least → IsFirst (HasUnequalEnds names lines) least
 first_of_least n costs names lines k None known is past so_far = λ var unequal.
     elim (so_far.others var (unequal_off costs names lines var unequal)) [
       | inl most ↦ most
@@ -203,22 +232,32 @@ first_of_least n costs names lines k (Some least) known is past so_far = (
       ],
 )
 
-pub off_ends : (n : ℕ) (costs : List ℕ) (names : List VarName) (lines : List CostLine) (k : ℕ) (least : Option ℕ) → All (λ name. name.var < length costs) names → costs ≡ written (replicate n 0) names lines → length names ≤ k → LeastOff costs names lines k least → IsFirst (HasUnequalEnds names lines) least
+pub off_ends : (n : ℕ) (costs : List ℕ) (names : List VarName) (lines : List CostLine) (k : ℕ) (least : Option ℕ) →
+    All (λ name. name.var < length costs) names → costs ≡ written (replicate n 0) names lines → length names ≤ k →
+    LeastOff costs names lines k least → IsFirst (HasUnequalEnds names lines) least
 off_ends = first_of_least
 
 -- there are as many costs as variables
 pub given_count : (n : ℕ) (costs : List ℕ) (names : List VarName) (lines : List CostLine) → costs ≡ written (replicate n 0) names lines → length costs ≡ n
 given_count n costs names lines is = ap length is ∙ length-written (replicate n 0) names lines ∙ length-replicate {A = ℕ} n 0
 
-pub known_names : (n : ℕ) (xs names : List VarName) (costs : List ℕ) → xs ≡ names → length costs ≡ n → All (λ name. name.var < n) names → All (λ name. name.var < length costs) xs
-known_names n xs names costs same count known = subst (λ (ns : List VarName). All (λ name. name.var < length costs) ns) (sym same) (subst (λ (m : ℕ). All (λ name. name.var < m) names) (sym count) known)
+pub known_names : (n : ℕ) (xs names : List VarName) (costs : List ℕ) → xs ≡ names → length costs ≡ n →
+    All (λ name. name.var < n) names → All (λ name. name.var < length costs) xs
+known_names n xs names costs same count known =
+    subst (λ (ns : List VarName). All (λ name. name.var < length costs) ns) (sym same)
+    (subst (λ (m : ℕ). All (λ name. name.var < m) names) (sym count) known)
 
-pub given_moved : (n : ℕ) (xs names : List VarName) (lines : List CostLine) (costs : List ℕ) → xs ≡ names → length costs ≡ n → costs ≡ written (replicate n 0) names lines → costs ≡ written (replicate (length costs) 0) xs lines
+pub given_moved : (n : ℕ) (xs names : List VarName) (lines : List CostLine) (costs : List ℕ) → xs ≡ names →
+    length costs ≡ n → costs ≡ written (replicate n 0) names lines →
+    costs ≡ written (replicate (length costs) 0) xs lines
 given_moved n xs names lines costs same count is =
     is ∙ ap (λ (m : ℕ). written (replicate m 0) names lines) (sym count) ∙ ap (λ (ns : List VarName). written (replicate (length costs) 0) ns lines) (sym same)
 
 -- where no variable has unequal ends, each line gives the cost of its variable
-names_given : (w : List ℕ) (names : List VarName) (lines : List CostLine) → NamesPlaces names lines → ((var : ℕ) → IsOff w names lines var → ⊥) → AllZip (λ name line. (line.router ≡ name.router) × (line.interface ≡ name.interface) × (line.cost ≡ slice_index w name.var)) names lines
+names_given : (w : List ℕ) (names : List VarName) (lines : List CostLine) → NamesPlaces names lines →
+    ((var : ℕ) → IsOff w names lines var → ⊥) →
+    AllZip (λ name line. (line.router ≡ name.router) × (line.interface ≡ name.interface)
+    × (line.cost ≡ slice_index w name.var)) names lines
 names_given w [] [] named none = tt
 names_given w [] (line ∷ lines) named none = named
 names_given w (name ∷ names) [] named none = named
@@ -231,14 +270,20 @@ names_given w (name ∷ names) (line ∷ lines) named none = (
   names_given w names lines named.1 (λ var off. none var (off.0, inr off.1, off.2)),
 )
 
-pub ends_equal : (p : DesignProblem) (xs : List VarName) (lines : List CostLine) (costs : List ℕ) → xs ≡ p.vars → All (λ name. name.var < length p.low) p.vars → NamesPlaces p.vars lines → costs ≡ costs_given p lines → IsFirst (HasUnequalEnds xs lines) None → Names p lines costs
+pub ends_equal : (p : DesignProblem) (xs : List VarName) (lines : List CostLine) (costs : List ℕ) → xs ≡ p.vars →
+    All (λ name. name.var < length p.low) p.vars → NamesPlaces p.vars lines → costs ≡ costs_given p lines →
+    IsFirst (HasUnequalEnds xs lines) None → Names p lines costs
 ends_equal p xs lines costs same known named is none =
     let count = given_count (length p.low) costs p.vars lines is in
     names_given costs p.vars lines named
-    (λ var off. none var (subst (λ (ns : List VarName). HasUnequalEnds ns lines var) (sym same) (off_unequal (length p.low) costs p.vars lines var (known_names (length p.low) p.vars p.vars costs refl count known) is off)))
+    (λ var off. none var (subst (λ (ns : List VarName). HasUnequalEnds ns lines var) (sym same)
+    (off_unequal (length p.low) costs p.vars lines var
+    (known_names (length p.low) p.vars p.vars costs refl count known) is off)))
 
 -- a cost that a line gives is that of the variable
-given_is : (w : List ℕ) (names : List VarName) (lines : List CostLine) (var c : ℕ) → AllZip (λ name line. (line.router ≡ name.router) × (line.interface ≡ name.interface) × (line.cost ≡ slice_index w name.var)) names lines → GivesCost names lines var c → c ≡ slice_index w var
+given_is : (w : List ℕ) (names : List VarName) (lines : List CostLine) (var c : ℕ) →
+    AllZip (λ name line. (line.router ≡ name.router) × (line.interface ≡ name.interface)
+    × (line.cost ≡ slice_index w name.var)) names lines → GivesCost names lines var c → c ≡ slice_index w var
 given_is w [] lines var c names_lines given = absurd given
 given_is w (name ∷ names) [] var c names_lines given = absurd given
 given_is w (name ∷ names) (line ∷ lines) var c names_lines given =
@@ -251,7 +296,10 @@ pub names_equal : (p : DesignProblem) (lines : List CostLine) (w : List ℕ) (va
 names_equal p lines w var names_lines unequal =
     unequal.4 (given_is w p.vars lines var unequal.0 names_lines unequal.2 ∙ sym (given_is w p.vars lines var unequal.1 names_lines unequal.3))
 
-line_of : (w : List ℕ) (k : ℕ) (names : List VarName) (lines : List CostLine) (name : VarName) → AllZip (λ name line. (line.router ≡ name.router) × (line.interface ≡ name.interface) × (line.cost ≡ slice_index w name.var)) names lines → k < length names → get_or names k name ≡ name → (c : ℕ) × GivesCost names lines name.var c
+line_of : (w : List ℕ) (k : ℕ) (names : List VarName) (lines : List CostLine) (name : VarName) →
+    AllZip (λ name line. (line.router ≡ name.router) × (line.interface ≡ name.interface)
+    × (line.cost ≡ slice_index w name.var)) names lines → k < length names → get_or names k name ≡ name →
+    (c : ℕ) × GivesCost names lines name.var c
 line_of w k [] lines name names_lines k_in is = absurd (omega arith)
 line_of w k (x ∷ names) [] name names_lines k_in is = absurd names_lines
 line_of w zero (x ∷ names) (line ∷ lines) name names_lines k_in is = (line.cost, inl (ap (λ (n : VarName). n.var) is, refl))
@@ -259,7 +307,9 @@ line_of w (suc k) (x ∷ names) (line ∷ lines) name names_lines k_in is =
     let rest = line_of w k names lines name names_lines.1 (omega arith) is in (rest.0, inr rest.1)
 
 -- lines that give each variable one cost give those costs
-pub names_written : (p : DesignProblem) (lines : List CostLine) (w : List ℕ) → ((k : ℕ) → k < length p.low → Any (λ name. name.var ≡ k) p.vars) → length p.low ≡ length w → Names p lines w → costs_given p lines ≡ w
+pub names_written : (p : DesignProblem) (lines : List CostLine) (w : List ℕ) →
+    ((k : ℕ) → k < length p.low → Any (λ name. name.var ≡ k) p.vars) → length p.low ≡ length w → Names p lines w →
+    costs_given p lines ≡ w
 names_written p lines w each_named count names_lines =
     let n = length p.low in
     let long : length (costs_given p lines) ≡ n = length-written (replicate n 0) p.vars lines ∙ length-replicate {A = ℕ} n 0 in

@@ -30,7 +30,9 @@ TestsAt p k printed lines floor w =
     ∷ OnWhole 52 (IsFalseFloor p k floor)
     ∷ []
 
-moved : (p : DesignProblem) (k : ℕ) (costs : Costs) (floor : Floor) (lines : List CostLine) (w : List ℕ) (s : CheckStop) → lines ≡ costs.lines → w ≡ costs_given p lines → StopsBy (TestsAt p k costs.greatest lines floor w) s → StopsBy (cost_tests p (Optimal k) (Some costs) floor) s
+moved : (p : DesignProblem) (k : ℕ) (costs : Costs) (floor : Floor) (lines : List CostLine) (w : List ℕ)
+    (s : CheckStop) → lines ≡ costs.lines → w ≡ costs_given p lines →
+    StopsBy (TestsAt p k costs.greatest lines floor w) s → StopsBy (cost_tests p (Optimal k) (Some costs) floor) s
 moved p k costs floor lines w s lines_are given stops =
     subst (λ (ls : List CostLine). StopsBy (TestsAt p k costs.greatest ls floor (costs_given p ls)) s) lines_are
     (subst (λ (v : List ℕ). StopsBy (TestsAt p k costs.greatest lines floor v) s) given stops)
@@ -59,46 +61,97 @@ no_paths p w only f met = met.1.1 (only f.place no_request met.1.0)
 no_floor : (p : DesignProblem) (k : ℕ) (floor : Floor) → (IsFalseFloor p k floor → ⊥) → (f : Fault) → OnWhole 52 (IsFalseFloor p k floor) f → ⊥
 no_floor p k floor true_floor f met = true_floor met.2
 
-pub stops_ends : (p : DesignProblem) (k : ℕ) (costs : Costs) (floor : Floor) (lines : List CostLine) (w : List ℕ) (s : CheckStop) → lines ≡ costs.lines → w ≡ costs_given p lines → NamesPlaces p.vars lines → StopsBy (AtFirst 53 (HasUnequalEnds p.vars lines) ∷ []) s → StopsBy (cost_tests p (Optimal k) (Some costs) floor) s
+pub stops_ends : (p : DesignProblem) (k : ℕ) (costs : Costs) (floor : Floor) (lines : List CostLine) (w : List ℕ)
+    (s : CheckStop) → lines ≡ costs.lines → w ≡ costs_given p lines → NamesPlaces p.vars lines →
+    StopsBy (AtFirst 53 (HasUnequalEnds p.vars lines) ∷ []) s → StopsBy (cost_tests p (Optimal k) (Some costs) floor) s
 stops_ends p k costs floor lines w OutOfMemory lines_are given named stops = tt
 stops_ends p k costs floor lines w (Refused fault place) lines_are given named stops =
     let f : Fault = record { number = number_of fault; place = place } in
     moved p k costs floor lines w (Refused fault place) lines_are given
     (inr (no_places p lines named, inl (only_test (AtFirst 53 (HasUnequalEnds p.vars lines)) f stops)))
 
-pub stops_bounds : (p : DesignProblem) (k : ℕ) (costs : Costs) (floor : Floor) (lines : List CostLine) (w : List ℕ) (s : CheckStop) → lines ≡ costs.lines → w ≡ costs_given p lines → NamesPlaces p.vars lines → Names p lines w → StopsBy (AtFirst 45 (IsOutside p.low p.high w) ∷ []) s → StopsBy (cost_tests p (Optimal k) (Some costs) floor) s
+pub stops_bounds : (p : DesignProblem) (k : ℕ) (costs : Costs) (floor : Floor) (lines : List CostLine) (w : List ℕ)
+    (s : CheckStop) → lines ≡ costs.lines → w ≡ costs_given p lines → NamesPlaces p.vars lines → Names p lines w →
+    StopsBy (AtFirst 45 (IsOutside p.low p.high w) ∷ []) s → StopsBy (cost_tests p (Optimal k) (Some costs) floor) s
 stops_bounds p k costs floor lines w OutOfMemory lines_are given named names_lines stops = tt
 stops_bounds p k costs floor lines w (Refused fault place) lines_are given named names_lines stops =
     let f : Fault = record { number = number_of fault; place = place } in
     moved p k costs floor lines w (Refused fault place) lines_are given
     (inr (no_places p lines named, inr (no_ends p lines w names_lines, inl (only_test (AtFirst 45 (IsOutside p.low p.high w)) f stops))))
 
-pub stops_greatest : (p : DesignProblem) (k : ℕ) (costs : Costs) (floor : Floor) (lines : List CostLine) (w : List ℕ) (s : CheckStop) → lines ≡ costs.lines → w ≡ costs_given p lines → NamesPlaces p.vars lines → Names p lines w → IsInBox (box_of p) w → StopsBy (OnWhole 47 (HasWrongGreatest k costs.greatest w) ∷ []) s → StopsBy (cost_tests p (Optimal k) (Some costs) floor) s
+pub stops_greatest : (p : DesignProblem) (k : ℕ) (costs : Costs) (floor : Floor) (lines : List CostLine) (w : List ℕ)
+    (s : CheckStop) → lines ≡ costs.lines → w ≡ costs_given p lines → NamesPlaces p.vars lines → Names p lines w →
+    IsInBox (box_of p) w → StopsBy (OnWhole 47 (HasWrongGreatest k costs.greatest w) ∷ []) s →
+    StopsBy (cost_tests p (Optimal k) (Some costs) floor) s
 stops_greatest p k costs floor lines w OutOfMemory lines_are given named names_lines within stops = tt
 stops_greatest p k costs floor lines w (Refused fault place) lines_are given named names_lines within stops =
     let f : Fault = record { number = number_of fault; place = place } in
     moved p k costs floor lines w (Refused fault place) lines_are given
-    (inr (no_places p lines named, inr (no_ends p lines w names_lines, inr (no_bounds p w within, inl (only_test (OnWhole 47 (HasWrongGreatest k costs.greatest w)) f stops)))))
+    (inr (
+      no_places p lines named,
+      inr (
+        no_ends p lines w names_lines,
+        inr (no_bounds p w within, inl (only_test (OnWhole 47 (HasWrongGreatest k costs.greatest w)) f stops)),
+      ),
+    ))
 
-pub stops_paths : (p : DesignProblem) (k : ℕ) (costs : Costs) (floor : Floor) (lines : List CostLine) (w : List ℕ) (s : CheckStop) → lines ≡ costs.lines → w ≡ costs_given p lines → NamesPlaces p.vars lines → Names p lines w → IsInBox (box_of p) w → (costs.greatest ≡ k) × (greatest_cost w ≡ k) → StopsBy (AtFirst 46 (IsNotOnly p w) ∷ []) s → StopsBy (cost_tests p (Optimal k) (Some costs) floor) s
+pub stops_paths : (p : DesignProblem) (k : ℕ) (costs : Costs) (floor : Floor) (lines : List CostLine) (w : List ℕ)
+    (s : CheckStop) → lines ≡ costs.lines → w ≡ costs_given p lines → NamesPlaces p.vars lines → Names p lines w →
+    IsInBox (box_of p) w → (costs.greatest ≡ k) × (greatest_cost w ≡ k) → StopsBy (AtFirst 46 (IsNotOnly p w) ∷ []) s →
+    StopsBy (cost_tests p (Optimal k) (Some costs) floor) s
 stops_paths p k costs floor lines w OutOfMemory lines_are given named names_lines within same stops = tt
 stops_paths p k costs floor lines w (Refused fault place) lines_are given named names_lines within same stops =
     let f : Fault = record { number = number_of fault; place = place } in
     moved p k costs floor lines w (Refused fault place) lines_are given
-    (inr (no_places p lines named, inr (no_ends p lines w names_lines, inr (no_bounds p w within, inr (no_greatest k costs.greatest w same, inl (only_test (AtFirst 46 (IsNotOnly p w)) f stops))))))
+    (inr (
+      no_places p lines named,
+      inr (
+        no_ends p lines w names_lines,
+        inr (
+          no_bounds p w within,
+          inr (no_greatest k costs.greatest w same, inl (only_test (AtFirst 46 (IsNotOnly p w)) f stops)),
+        ),
+      ),
+    ))
 
-pub stops_floor : (p : DesignProblem) (k : ℕ) (costs : Costs) (floor : Floor) (lines : List CostLine) (w : List ℕ) (s : CheckStop) → lines ≡ costs.lines → w ≡ costs_given p lines → NamesPlaces p.vars lines → Names p lines w → IsInBox (box_of p) w → (costs.greatest ≡ k) × (greatest_cost w ≡ k) → All (IsOnlyAt p.graph w) p.paths → StopsBy (OnWhole 52 (IsFalseFloor p k floor) ∷ []) s → StopsBy (cost_tests p (Optimal k) (Some costs) floor) s
+pub stops_floor : (p : DesignProblem) (k : ℕ) (costs : Costs) (floor : Floor) (lines : List CostLine) (w : List ℕ)
+    (s : CheckStop) → lines ≡ costs.lines → w ≡ costs_given p lines → NamesPlaces p.vars lines → Names p lines w →
+    IsInBox (box_of p) w → (costs.greatest ≡ k) × (greatest_cost w ≡ k) → All (IsOnlyAt p.graph w) p.paths →
+    StopsBy (OnWhole 52 (IsFalseFloor p k floor) ∷ []) s → StopsBy (cost_tests p (Optimal k) (Some costs) floor) s
 stops_floor p k costs floor lines w OutOfMemory lines_are given named names_lines within same only stops = tt
 stops_floor p k costs floor lines w (Refused fault place) lines_are given named names_lines within same only stops =
     let f : Fault = record { number = number_of fault; place = place } in
     moved p k costs floor lines w (Refused fault place) lines_are given
-    (inr (no_places p lines named, inr (no_ends p lines w names_lines, inr (no_bounds p w within, inr (no_greatest k costs.greatest w same, inr (no_paths p w only, inl (only_test (OnWhole 52 (IsFalseFloor p k floor)) f stops)))))))
+    (inr (
+      no_places p lines named,
+      inr (
+        no_ends p lines w names_lines,
+        inr (
+          no_bounds p w within,
+          inr (
+            no_greatest k costs.greatest w same,
+            inr (no_paths p w only, inl (only_test (OnWhole 52 (IsFalseFloor p k floor)) f stops)),
+          ),
+        ),
+      ),
+    ))
 
 -- none is met
-pub passes : (p : DesignProblem) (k printed : ℕ) (lines : List CostLine) (floor : Floor) (w : List ℕ) → NamesPlaces p.vars lines → Names p lines w → IsInBox (box_of p) w → (printed ≡ k) × (greatest_cost w ≡ k) → All (IsOnlyAt p.graph w) p.paths → (IsFalseFloor p k floor → ⊥) → NoneOf (TestsAt p k printed lines floor w)
-passes p k printed lines floor w named names_lines within same only true_floor =
-    (no_places p lines named, (no_ends p lines w names_lines, (no_bounds p w within, (no_greatest k printed w same, (no_paths p w only, (no_floor p k floor true_floor, tt))))))
+pub passes : (p : DesignProblem) (k printed : ℕ) (lines : List CostLine) (floor : Floor) (w : List ℕ) →
+    NamesPlaces p.vars lines → Names p lines w → IsInBox (box_of p) w → (printed ≡ k) × (greatest_cost w ≡ k) →
+    All (IsOnlyAt p.graph w) p.paths → (IsFalseFloor p k floor → ⊥) → NoneOf (TestsAt p k printed lines floor w)
+passes p k printed lines floor w named names_lines within same only true_floor = (
+  no_places p lines named,
+  (
+    no_ends p lines w names_lines,
+    (
+      no_bounds p w within,
+      (no_greatest k printed w same, (no_paths p w only, (no_floor p k floor true_floor, tt))),
+    ),
+  ),
+)
 
 -- a refusal that is handed on
-pub err_stops : {T : Type 0} (r : Result T CheckStop) (s : CheckStop) (ts : List (Fault → Type 0)) → IsErrAnd r (λ e. e ≡ s) → StopsBy ts s → IfErr r (StopsBy ts)
+pub err_stops : {T : Type 0} (r : Result T CheckStop) (s : CheckStop) (ts : List (Fault → Type 0)) →
+    IsErrAnd r (λ e. e ≡ s) → StopsBy ts s → IfErr r (StopsBy ts)
 err_stops r s ts is stops = err_tells r s (StopsBy ts) is stops

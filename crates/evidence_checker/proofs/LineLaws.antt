@@ -17,10 +17,13 @@ use Rattle.evidence_checker.specs.declared.fault.CheckFault.{CheckFault}
 use Rattle.evidence_checker.specs.Numbers.{number_of}
 use Rattle.evidence_checker.specs.Tests.{line_tests}
 
-pub sum_is_great : (forms : List Form) (box : CostBox) (parts : List (ℕ × ℕ)) → 2 ^ 100 ≤ sum_by (λ part. part.1) parts → FirstOf (line_tests forms box (Refute parts)) 48
+pub sum_is_great : (forms : List Form) (box : CostBox) (parts : List (ℕ × ℕ)) →
+    2 ^ 100 ≤ sum_by (λ part. part.1) parts → FirstOf (line_tests forms box (Refute parts)) 48
 sum_is_great forms box parts great = inl (refl, great)
 
-pub nothing_refuted : (forms : List Form) (box : CostBox) (parts : List (ℕ × ℕ)) → sum_by (λ part. part.1) parts < 2 ^ 100 → Any (λ part. length forms ≤ part.0) parts ⊎ (pos 0 ≤ℤ greatest (weighted forms parts) box) → FirstOf (line_tests forms box (Refute parts)) 43
+pub nothing_refuted : (forms : List Form) (box : CostBox) (parts : List (ℕ × ℕ)) →
+    sum_by (λ part. part.1) parts < 2 ^ 100 → Any (λ part. length forms ≤ part.0) parts
+    ⊎ (pos 0 ≤ℤ greatest (weighted forms parts) box) → FirstOf (line_tests forms box (Refute parts)) 43
 nothing_refuted forms box parts small nothing = inr (λ n met. absurd (omega (arith, met.1)), inl (refl, nothing))
 
 -- a Tighten, a Split or a Halve
@@ -49,7 +52,8 @@ true_false : true ≡ false → ⊥
 true_false e = cc
 
 -- a sound line that isn't open meets no test
-pub sound_meets_none : (forms : List Form) (box : CostBox) (entry : Entry) → SoundAt forms box entry → is_undone entry ≡ false → NoneOf (line_tests forms box entry)
+pub sound_meets_none : (forms : List Form) (box : CostBox) (entry : Entry) → SoundAt forms box entry →
+    is_undone entry ≡ false → NoneOf (line_tests forms box entry)
 sound_meets_none forms box (Tighten var side value row) sound closed = (λ n met. met.1, (λ n met. met.1, (λ n met. met.1 sound, (λ n met. met.1, tt))))
 sound_meets_none forms box (Split var value) sound closed = (λ n met. met.1, (λ n met. met.1, (λ n met. met.1 sound, (λ n met. met.1, tt))))
 sound_meets_none forms box (Halve var value wide) sound closed = (λ n met. met.1, (λ n met. met.1, (λ n met. met.1 sound, (λ n met. met.1, tt))))
@@ -63,7 +67,11 @@ sound_meets_none forms box (Refute parts) sound closed = (
 sound_meets_none forms box Undone sound closed = absurd (true_false closed)
 
 -- a Refute, as it stands among the lines
-pub refute_line : (forms : List Form) (box : CostBox) (entry : Entry) (parts : List (ℕ × ℕ)) (r : Option CheckFault) → entry ≡ Refute parts → MatchOption r (Refutes forms parts box) (λ f. FirstOf (line_tests forms box (Refute parts)) (number_of f)) → MatchOption r (SoundAt forms box entry × (is_undone entry ≡ false)) (λ f. FirstOf (line_tests forms box entry) (number_of f))
+pub refute_line : (forms : List Form) (box : CostBox) (entry : Entry) (parts : List (ℕ × ℕ)) (r : Option CheckFault) →
+    entry ≡ Refute parts → MatchOption r (Refutes forms parts box)
+    (λ f. FirstOf (line_tests forms box (Refute parts)) (number_of f)) →
+    MatchOption r (SoundAt forms box entry × (is_undone entry ≡ false))
+    (λ f. FirstOf (line_tests forms box entry) (number_of f))
 refute_line forms box entry parts None e met = subst (λ (x : Entry). SoundAt forms box x × (is_undone x ≡ false)) (sym e) (met, refl)
 refute_line forms box entry parts (Some f) e met = subst (λ (x : Entry). FirstOf (line_tests forms box x) (number_of f)) (sym e) met
 
@@ -71,9 +79,18 @@ pub false_true : IsTrue false → ⊥
 false_true e = cc
 
 -- whether a bound that makes the range smaller is a sound step, by the greatest value over the removed part
-pub tightens_iff : (forms : List Form) (box : CostBox) (side : Side) (var value row : ℕ) (form : Form) (x : ℤ) → var < length box.low → row < length forms → IsSmaller box side var value → form_at forms row ≡ form → x ≡ greatest form (removed box side var value) → (IsTrue (lt_z x (pos 0)) → TightensAt forms box side var value row) × (TightensAt forms box side var value row → IsTrue (lt_z x (pos 0)))
+pub tightens_iff : (forms : List Form) (box : CostBox) (side : Side) (var value row : ℕ) (form : Form) (x : ℤ) →
+    var < length box.low → row < length forms → IsSmaller box side var value → form_at forms row ≡ form →
+    x ≡ greatest form (removed box side var value) → (IsTrue (lt_z x (pos 0)) → TightensAt forms box side var value row)
+    × (TightensAt forms box side var value row → IsTrue (lt_z x (pos 0)))
 tightens_iff forms box side var value row form x var_in row_in smaller form_is e =
     let both = negative_iff x (greatest form (removed box side var value)) e in (
-      λ yes. record { var_known = var_in; smaller = smaller; row_known = row_in; refuted = subst (λ (f : Form). greatest f (removed box side var value) <ℤ pos 0) (sym form_is) (both.0 yes) },
+      λ yes. record {
+        var_known = var_in;
+        smaller = smaller;
+        row_known = row_in;
+        refuted = subst (λ (f : Form). greatest f (removed box side var value) <ℤ pos 0) (sym form_is)
+            (both.0 yes);
+      },
       λ step. both.1 (subst (λ (f : Form). greatest f (removed box side var value) <ℤ pos 0) form_is step.refuted),
     )

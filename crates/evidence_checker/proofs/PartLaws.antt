@@ -22,7 +22,8 @@ get_or-scaled m (c ∷ cs) zero = refl
 get_or-scaled m (c ∷ cs) (suc i) = get_or-scaled m cs i
 
 -- a part that hasn't been added yet, and those after it
-part_at : (forms : List Form) (parts : List (ℕ × ℕ)) (k : ℕ) (d : ℕ × ℕ) → k < length parts → weighted forms (drop k parts) ≡ weighted forms (get_or parts k d ∷ drop (k + 1) parts)
+part_at : (forms : List Form) (parts : List (ℕ × ℕ)) (k : ℕ) (d : ℕ × ℕ) → k < length parts →
+    weighted forms (drop k parts) ≡ weighted forms (get_or parts k d ∷ drop (k + 1) parts)
 part_at forms parts k d k_in =
     let e : drop k parts ≡ get_or parts k d ∷ drop (k + 1) parts = rw (add-one, drop-cons parts k d) refl in
     ap (weighted forms) e
@@ -30,11 +31,16 @@ part_at forms parts k d k_in =
 moved : (x a p r whole : ℤ) → x ≡ (a +ℤ p) → whole ≡ (p +ℤ r) → (x +ℤ r) ≡ (a +ℤ whole)
 moved x a p r whole e q = omega (arith, ints)
 
-pub constant_more : (forms : List Form) (parts : List (ℕ × ℕ)) (k : ℕ) (d : ℕ × ℕ) (a x : ℤ) → k < length parts → x ≡ (a +ℤ (pos (get_or parts k d).1 *ℤ (form_at forms (get_or parts k d).0).constant)) → (x +ℤ (weighted forms (drop (k + 1) parts)).constant) ≡ (a +ℤ (weighted forms (drop k parts)).constant)
+pub constant_more : (forms : List Form) (parts : List (ℕ × ℕ)) (k : ℕ) (d : ℕ × ℕ) (a x : ℤ) → k < length parts →
+    x ≡ (a +ℤ (pos (get_or parts k d).1 *ℤ (form_at forms (get_or parts k d).0).constant)) →
+    (x +ℤ (weighted forms (drop (k + 1) parts)).constant) ≡ (a +ℤ (weighted forms (drop k parts)).constant)
 constant_more forms parts k d a x k_in e =
     moved x a _ (weighted forms (drop (k + 1) parts)).constant _ e (ap (λ (f : Form). f.constant) (part_at forms parts k d k_in))
 
-pub coefficient_more : (forms : List Form) (parts : List (ℕ × ℕ)) (k i : ℕ) (d : ℕ × ℕ) (a x : ℤ) → k < length parts → x ≡ (a +ℤ (pos (get_or parts k d).1 *ℤ get_or (form_at forms (get_or parts k d).0).coefficients i (pos 0))) → (x +ℤ get_or (weighted forms (drop (k + 1) parts)).coefficients i (pos 0)) ≡ (a +ℤ get_or (weighted forms (drop k parts)).coefficients i (pos 0))
+pub coefficient_more : (forms : List Form) (parts : List (ℕ × ℕ)) (k i : ℕ) (d : ℕ × ℕ) (a x : ℤ) → k < length parts →
+    x ≡ (a +ℤ (pos (get_or parts k d).1 *ℤ get_or (form_at forms (get_or parts k d).0).coefficients i (pos 0))) →
+    (x +ℤ get_or (weighted forms (drop (k + 1) parts)).coefficients i (pos 0))
+    ≡ (a +ℤ get_or (weighted forms (drop k parts)).coefficients i (pos 0))
 coefficient_more forms parts k i d a x k_in e =
     let f = form_at forms (get_or parts k d).0 in
     let m = pos (get_or parts k d).1 in
@@ -45,7 +51,9 @@ coefficient_more forms parts k i d a x k_in e =
     ∙ ap (λ (z : ℤ). z +ℤ get_or rest.coefficients i (pos 0)) (get_or-scaled m f.coefficients i))
 
 -- what one part more adds is within its multiplier times 2^27
-pub size_of_part : (parts : List (ℕ × ℕ)) (k : ℕ) (d : ℕ × ℕ) (a x c : ℤ) → k < length parts → nat_abs a ≤ sum_by (λ p. p.1) (take k parts) * 2 ^ 27 → nat_abs c ≤ 2 ^ 27 → x ≡ (a +ℤ (pos (get_or parts k d).1 *ℤ c)) → nat_abs x ≤ sum_by (λ p. p.1) (take (k + 1) parts) * 2 ^ 27
+pub size_of_part : (parts : List (ℕ × ℕ)) (k : ℕ) (d : ℕ × ℕ) (a x c : ℤ) → k < length parts →
+    nat_abs a ≤ sum_by (λ p. p.1) (take k parts) * 2 ^ 27 → nat_abs c ≤ 2 ^ 27 →
+    x ≡ (a +ℤ (pos (get_or parts k d).1 *ℤ c)) → nat_abs x ≤ sum_by (λ p. p.1) (take (k + 1) parts) * 2 ^ 27
 size_of_part parts k d a x c k_in before small e =
     let m = (get_or parts k d).1 in
     let more = sum_by_more (λ (p : ℕ × ℕ). p.1) parts k d k_in in
@@ -56,7 +64,9 @@ size_of_part parts k d a x c k_in before small e =
     omega arith
 
 -- one part more fits
-pub room_for : (parts : List (ℕ × ℕ)) (k : ℕ) (d : ℕ × ℕ) (a size : ℕ) → k < length parts → sum_by (λ p. p.1) parts < 2 ^ 100 → a ≤ sum_by (λ p. p.1) (take k parts) * 2 ^ 27 → size < 2 ^ 27 → a + (get_or parts k d).1 * size < 2 ^ 127
+pub room_for : (parts : List (ℕ × ℕ)) (k : ℕ) (d : ℕ × ℕ) (a size : ℕ) → k < length parts →
+    sum_by (λ p. p.1) parts < 2 ^ 100 → a ≤ sum_by (λ p. p.1) (take k parts) * 2 ^ 27 → size < 2 ^ 27 →
+    a + (get_or parts k d).1 * size < 2 ^ 127
 room_for parts k d a size k_in sum before small =
     let m = (get_or parts k d).1 in
     let more = sum_by_more_le (λ (p : ℕ × ℕ). p.1) parts k d k_in in
@@ -98,7 +108,8 @@ zero_terms (d ∷ ds) (l ∷ ls) (h ∷ hs) zeros =
     let rest = zero_terms ds ls hs (λ i i_in. zeros (suc i) (omega arith)) in
     omega (arith, ints, here, rest)
 
-pub padded_upper : (cs ds : List ℤ) (ls hs : List ℕ) → length cs ≤ length ds → ((i : ℕ) → i < length ds → get_or ds i (pos 0) ≡ get_or cs i (pos 0)) → upper_sum ds ls hs ≡ upper_sum cs ls hs
+pub padded_upper : (cs ds : List ℤ) (ls hs : List ℕ) → length cs ≤ length ds →
+    ((i : ℕ) → i < length ds → get_or ds i (pos 0) ≡ get_or cs i (pos 0)) → upper_sum ds ls hs ≡ upper_sum cs ls hs
 padded_upper [] ds ls hs short same = zero_terms ds ls hs same
 padded_upper (c ∷ cs) [] ls hs short same = absurd (omega arith)
 padded_upper (c ∷ cs) (d ∷ ds) [] hs short same = refl
@@ -115,7 +126,8 @@ zero_sizes (d ∷ ds) zeros =
     let rest = zero_sizes ds (λ i i_in. zeros (suc i) (omega arith)) in
     rw (sum_by-cons nat_abs d ds) (omega arith)
 
-pub padded_size : (cs ds : List ℤ) → length cs ≤ length ds → ((i : ℕ) → i < length ds → get_or ds i (pos 0) ≡ get_or cs i (pos 0)) → sum_by nat_abs ds ≡ sum_by nat_abs cs
+pub padded_size : (cs ds : List ℤ) → length cs ≤ length ds →
+    ((i : ℕ) → i < length ds → get_or ds i (pos 0) ≡ get_or cs i (pos 0)) → sum_by nat_abs ds ≡ sum_by nat_abs cs
 padded_size [] ds short same = zero_sizes ds same
 padded_size (c ∷ cs) [] short same = absurd (omega arith)
 padded_size (c ∷ cs) (d ∷ ds) short same =
@@ -147,7 +159,11 @@ smalls : (n : ℕ) (forms : List Form) → All (IsSmallForm n) forms → All (λ
 smalls n forms small row d row_in = (small row d row_in).size
 
 -- the sums that were made fit 127 bits, times the most that an end can be
-pub made_fits : (n : ℕ) (forms : List Form) (parts : List (ℕ × ℕ)) (constant : ℤ) (sums : List ℤ) → All (IsSmallForm n) forms → sum_by (λ p. p.1) parts < 2 ^ 100 → length sums ≡ n → constant ≡ (weighted forms parts).constant → ((i : ℕ) → i < n → get_or sums i (pos 0) ≡ get_or (weighted forms parts).coefficients i (pos 0)) → nat_abs constant + 65535 * sum_by nat_abs sums < 2 ^ 127
+pub made_fits : (n : ℕ) (forms : List Form) (parts : List (ℕ × ℕ)) (constant : ℤ) (sums : List ℤ) →
+    All (IsSmallForm n) forms → sum_by (λ p. p.1) parts < 2 ^ 100 → length sums ≡ n →
+    constant ≡ (weighted forms parts).constant →
+    ((i : ℕ) → i < n → get_or sums i (pos 0) ≡ get_or (weighted forms parts).coefficients i (pos 0)) →
+    nat_abs constant + 65535 * sum_by nat_abs sums < 2 ^ 127
 made_fits n forms parts constant sums small sum count constants each =
     let whole = weighted forms parts in
     let fits = weighted_fits forms parts (smalls n forms small) sum in
@@ -157,7 +173,11 @@ made_fits n forms parts constant sums small sum count constants each =
     omega arith
 
 -- and their greatest value over a box is that of the weighted sum
-pub made_greatest : (n : ℕ) (forms : List Form) (parts : List (ℕ × ℕ)) (constant : ℤ) (sums : List ℤ) (ls hs : List ℕ) → All (IsSmallForm n) forms → length sums ≡ n → constant ≡ (weighted forms parts).constant → ((i : ℕ) → i < n → get_or sums i (pos 0) ≡ get_or (weighted forms parts).coefficients i (pos 0)) → (constant +ℤ upper_sum sums ls hs) ≡ ((weighted forms parts).constant +ℤ upper_sum (weighted forms parts).coefficients ls hs)
+pub made_greatest : (n : ℕ) (forms : List Form) (parts : List (ℕ × ℕ)) (constant : ℤ) (sums : List ℤ) (ls hs : List ℕ) →
+    All (IsSmallForm n) forms → length sums ≡ n → constant ≡ (weighted forms parts).constant →
+    ((i : ℕ) → i < n → get_or sums i (pos 0) ≡ get_or (weighted forms parts).coefficients i (pos 0)) →
+    (constant +ℤ upper_sum sums ls hs)
+    ≡ ((weighted forms parts).constant +ℤ upper_sum (weighted forms parts).coefficients ls hs)
 made_greatest n forms parts constant sums ls hs small count constants each =
     let whole = weighted forms parts in
     let short = weighted_length n forms parts small in

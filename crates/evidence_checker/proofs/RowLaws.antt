@@ -36,24 +36,31 @@ row_read rows k row k_in e =
 abbrev pub FirstIsLeft : DesignProblem → List Row → ℕ → Type 0
 FirstIsLeft p rows k = (f : Fault) → AtFirstItem (row_tests p) k (drop k rows) f → AtFirstItem (row_tests p) 0 rows f
 
-pub first_goes_on : (p : DesignProblem) (rows : List Row) (k : ℕ) (row : Row) → k < length rows → row ≡ get_or rows k row → IsRow p row → FirstIsLeft p rows k → FirstIsLeft p rows (k + 1)
+pub first_goes_on : (p : DesignProblem) (rows : List Row) (k : ℕ) (row : Row) → k < length rows →
+    row ≡ get_or rows k row → IsRow p row → FirstIsLeft p rows k → FirstIsLeft p rows (k + 1)
 first_goes_on p rows k row k_in e is_row left f met =
     left f (subst (λ (xs : List Row). AtFirstItem (row_tests p) k xs f) (sym (row_read rows k row k_in e)) (inr (row_meets_none p row is_row, met)))
 
-pub first_is_here : (p : DesignProblem) (rows : List Row) (k number : ℕ) (row : Row) → k < length rows → row ≡ get_or rows k row → FirstOf (row_tests p row) number → FirstIsLeft p rows k → AtFirstItem (row_tests p) 0 rows (record { number = number; place = k })
+pub first_is_here : (p : DesignProblem) (rows : List Row) (k number : ℕ) (row : Row) → k < length rows →
+    row ≡ get_or rows k row → FirstOf (row_tests p row) number → FirstIsLeft p rows k →
+    AtFirstItem (row_tests p) 0 rows (record { number = number; place = k })
 first_is_here p rows k number row k_in e met left =
     let f : Fault = record { number = number; place = k } in
     left f (subst (λ (xs : List Row). AtFirstItem (row_tests p) k xs f) (sym (row_read rows k row k_in e)) (inl (refl, met)))
 
 -- one form more
-pub forms_more : (g : Row → Form) (fs more : List Form) (f : Form) (rows : List Row) (k : ℕ) (row : Row) → more ≡ fs ++ f ∷ [] → f ≡ g row → k < length rows → row ≡ get_or rows k row → fs ≡ map g (take k rows) → more ≡ map g (take (k + 1) rows)
+pub forms_more : (g : Row → Form) (fs more : List Form) (f : Form) (rows : List Row) (k : ℕ) (row : Row) →
+    more ≡ fs ++ f ∷ [] → f ≡ g row → k < length rows → row ≡ get_or rows k row → fs ≡ map g (take k rows) →
+    more ≡ map g (take (k + 1) rows)
 forms_more g fs more f rows k row e same k_in is before =
     e
     ∙ ap (λ (es : List Form). es ++ f ∷ []) before
     ∙ ap (λ (x : Form). map g (take k rows) ++ x ∷ []) (same ∙ ap g is)
     ∙ sym (ap (map g) (take_more rows k row k_in) ∙ map-append g (take k rows) (get_or rows k row ∷ []))
 
-pub rows_more : (p : DesignProblem) (rows : List Row) (k : ℕ) (row : Row) → k < length rows → row ≡ get_or rows k row → IsRow p row → ((j : ℕ) (d : Row) → j < k → IsRow p (get_or rows j d)) → (j : ℕ) (d : Row) → j < k + 1 → IsRow p (get_or rows j d)
+pub rows_more : (p : DesignProblem) (rows : List Row) (k : ℕ) (row : Row) → k < length rows → row ≡ get_or rows k row →
+    IsRow p row → ((j : ℕ) (d : Row) → j < k → IsRow p (get_or rows j d)) → (j : ℕ) (d : Row) → j < k + 1 →
+    IsRow p (get_or rows j d)
 rows_more p rows k row k_in is is_row before j d j_in =
     below_more (λ (i : ℕ). (e : Row) → IsRow p (get_or rows i e)) k (λ i i_in e. before i e i_in)
     (λ e. subst (IsRow p) (is ∙ get_or_default rows k row e k_in) is_row) j j_in d

@@ -49,7 +49,9 @@ negative_size : (c : ℕ) (l : ℕ) → l ≤ 65535 → suc c * 65535 < 2 ^ 127 
 negative_size c l low size = fits_size (negsuc c *ℤ pos l) (omega (arith, ints, mul-le-mul_left (suc c) low))
 
 -- the term of a negative coefficient, as it is computed
-pub negative_is : (c r : ℤ) (l h : ℕ) → c <ℤ pos 0 → SFits w128 c → r ≡ pos l → l ≤ 65535 → nat_abs c * 65535 < 2 ^ 127 → to_z w128 (of_z w128 (to_z w128 (of_z w128 c) *ℤ to_z w128 (of_z w128 r))) ≡ upper c l h
+pub negative_is : (c r : ℤ) (l h : ℕ) → c <ℤ pos 0 → SFits w128 c → r ≡ pos l → l ≤ 65535 →
+    nat_abs c * 65535 < 2 ^ 127 → to_z w128 (of_z w128 (to_z w128 (of_z w128 c) *ℤ to_z w128 (of_z w128 r)))
+    ≡ upper c l h
 negative_is (pos c) r l h negative fits e low size = absurd (omega (arith, ints))
 negative_is (negsuc c) r l h negative fits e low size =
     let small : SFits w128 (pos l) = fits_size (pos l) (omega (arith, ints)) in

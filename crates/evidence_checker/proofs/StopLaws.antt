@@ -9,7 +9,8 @@ use Rattle.evidence_checker.specs.declared.stop.CheckStop.TheVariants.{Refused, 
 use Rattle.evidence_checker.specs.Refusals.{Fault, AtFirst, IsFirst, StopsBy}
 
 -- the refusal at the first place
-pub stop_at : (Met : ℕ → Type 0) (number var place : ℕ) → place ≡ var → IsFirst Met (Some var) → FirstOf (AtFirst number Met ∷ []) (record { number = number; place = place })
+pub stop_at : (Met : ℕ → Type 0) (number var place : ℕ) → place ≡ var → IsFirst Met (Some var) →
+    FirstOf (AtFirst number Met ∷ []) (record { number = number; place = place })
 stop_at Met number var place e first = inl (refl, subst Met (sym e) first.0, λ k before. first.1 k (subst (λ (n : ℕ). k < n) e before))
 
 -- one test alone

@@ -60,7 +60,10 @@ other_place : (s m rest : ℤ) (c : ℤ) → c ≡ pos 0 → (s +ℤ (m *ℤ res
 other_place s m rest c q = ap (λ (z : ℤ). s +ℤ (m *ℤ z)) (let e : rest ≡ (c +ℤ rest) = omega (arith, ints) in e)
 
 -- after one term more, the sums and the rest are what they were
-pub each_more : (sums : List ℤ) (m : ℕ) (all : List Term) (k i : ℕ) (d : Term) (x : ℤ) → k < length all → i < length sums → x ≡ (get_or sums (get_or all k d).var (pos 0) +ℤ (pos m *ℤ (get_or all k d).coefficient)) → (get_or (set sums (get_or all k d).var x) i (pos 0) +ℤ (pos m *ℤ sum_at (drop (k + 1) all) i)) ≡ (get_or sums i (pos 0) +ℤ (pos m *ℤ sum_at (drop k all) i))
+pub each_more : (sums : List ℤ) (m : ℕ) (all : List Term) (k i : ℕ) (d : Term) (x : ℤ) → k < length all →
+    i < length sums → x ≡ (get_or sums (get_or all k d).var (pos 0) +ℤ (pos m *ℤ (get_or all k d).coefficient)) →
+    (get_or (set sums (get_or all k d).var x) i (pos 0) +ℤ (pos m *ℤ sum_at (drop (k + 1) all) i))
+    ≡ (get_or sums i (pos 0) +ℤ (pos m *ℤ sum_at (drop k all) i))
 each_more sums m all k i d x k_in i_in e =
     let t = get_or all k d in
     let rest = sum_at (drop (k + 1) all) i in
@@ -68,14 +71,21 @@ each_more sums m all k i d x k_in i_in e =
     (elim (ℕ_discrete t.var i) [
       | yes same ↦
           ap (λ (z : ℤ). z +ℤ (pos m *ℤ rest)) (get_or-set_at sums t.var i x (pos 0) (sym same) (let t_in : t.var < length sums = omega arith in t_in))
-          ∙ same_place (get_or sums i (pos 0)) x (pos m) t.coefficient rest (cond (eqb t.var i) t.coefficient (pos 0)) (e ∙ ap (λ (j : ℕ). get_or sums j (pos 0) +ℤ (pos m *ℤ t.coefficient)) same) (ap (λ (b : Bool). cond b t.coefficient (pos 0)) (eq-eqb t.var i same))
+          ∙ same_place (get_or sums i (pos 0)) x (pos m) t.coefficient rest (cond (eqb t.var i) t.coefficient (pos 0))
+          (e ∙ ap (λ (j : ℕ). get_or sums j (pos 0) +ℤ (pos m *ℤ t.coefficient)) same)
+          (ap (λ (b : Bool). cond b t.coefficient (pos 0)) (eq-eqb t.var i same))
       | no other ↦
           ap (λ (z : ℤ). z +ℤ (pos m *ℤ rest)) (get_or-set_other sums t.var i x (pos 0) (λ q. other (sym q)))
-          ∙ other_place (get_or sums i (pos 0)) (pos m) rest (cond (eqb t.var i) t.coefficient (pos 0)) (ap (λ (b : Bool). cond b t.coefficient (pos 0)) (ne_eqb t.var i other))
+          ∙ other_place (get_or sums i (pos 0)) (pos m) rest (cond (eqb t.var i) t.coefficient (pos 0))
+          (ap (λ (b : Bool). cond b t.coefficient (pos 0)) (ne_eqb t.var i other))
     ])
 
 -- and their sizes stay within bounds
-pub size_more : (sums : List ℤ) (m : ℕ) (all : List Term) (k i : ℕ) (d : Term) (x : ℤ) → k < length all → i < length sums → x ≡ (get_or sums (get_or all k d).var (pos 0) +ℤ (pos m *ℤ (get_or all k d).coefficient)) → ((j : ℕ) → j < length sums → nat_abs (get_or sums j (pos 0)) + m * sum_by (λ t. nat_abs t.coefficient) (drop k all) < 2 ^ 127) → nat_abs (get_or (set sums (get_or all k d).var x) i (pos 0)) + m * sum_by (λ t. nat_abs t.coefficient) (drop (k + 1) all) < 2 ^ 127
+pub size_more : (sums : List ℤ) (m : ℕ) (all : List Term) (k i : ℕ) (d : Term) (x : ℤ) → k < length all →
+    i < length sums → x ≡ (get_or sums (get_or all k d).var (pos 0) +ℤ (pos m *ℤ (get_or all k d).coefficient)) →
+    ((j : ℕ) → j < length sums → nat_abs (get_or sums j (pos 0)) + m * sum_by (λ t. nat_abs t.coefficient) (drop k all)
+    < 2 ^ 127) → nat_abs (get_or (set sums (get_or all k d).var x) i (pos 0))
+    + m * sum_by (λ t. nat_abs t.coefficient) (drop (k + 1) all) < 2 ^ 127
 size_more sums m all k i d x k_in i_in e bound =
     let t = get_or all k d in
     let split = ap (λ (n : ℕ). m * n) (sum_by-drop_more (λ (s : Term). nat_abs s.coefficient) all k d k_in) in

@@ -16,7 +16,8 @@ use Rattle.evidence_checker.specs.Tests.{line_tests, AtFirstLine}
 use Rattle.evidence_checker.proofs.LineLaws.{sound_meets_none}
 
 -- what is left tells of the whole tree: where it is sound, and its first line that meets a test
-pub record Walks (forms : List Form) (start : List CostBox) (whole : List Entry) (box : CostBox) (boxes : List CostBox) (place : ℕ) (rest : List Entry) : Type 0 where
+pub record Walks (forms : List Form) (start : List CostBox) (whole : List Entry) (box : CostBox) (boxes : List CostBox)
+    (place : ℕ) (rest : List Entry) : Type 0 where
   pub sound : Sound forms (box ∷ boxes) rest → Sound forms start whole
   pub closed : IsClosed rest → IsClosed whole
   pub first : (f : Fault) → AtFirstLine forms (box ∷ boxes) place rest f → AtFirstLine forms start 0 whole f
@@ -33,11 +34,18 @@ subbox_count box (Refute parts) boxes = omega arith
 subbox_count box Undone boxes = omega arith
 
 -- a line that is sound at its box, and the next box
-pub walk_goes_on : (forms : List Form) (start : List CostBox) (whole : List Entry) (box : CostBox) (boxes : List CostBox) (place : ℕ) (entry : Entry) (rest : List Entry) (next : CostBox) (others : List CostBox) → Walks forms start whole box boxes place (entry ∷ rest) → SoundAt forms box entry → is_undone entry ≡ false → subboxes box entry ++ boxes ≡ next ∷ others → Walks forms start whole next others (place + 1) rest
+pub walk_goes_on : (forms : List Form) (start : List CostBox) (whole : List Entry) (box : CostBox)
+    (boxes : List CostBox) (place : ℕ) (entry : Entry) (rest : List Entry) (next : CostBox) (others : List CostBox) →
+    Walks forms start whole box boxes place (entry ∷ rest) → SoundAt forms box entry → is_undone entry ≡ false →
+    subboxes box entry ++ boxes ≡ next ∷ others → Walks forms start whole next others (place + 1) rest
 walk_goes_on forms start whole box boxes place entry rest next others walks here closed e = record {
   sound = λ s. walks.sound (here, subst (λ (bs : List CostBox). Sound forms bs rest) (sym e) s);
   closed = λ c. walks.closed (closed, c);
-  first = λ f met. walks.first f (inr (sound_meets_none forms box entry here closed, subst (λ (bs : List CostBox). AtFirstLine forms bs (place + 1) rest f) (sym e) met));
+  first = λ f met. walks.first f
+      (inr (
+        sound_meets_none forms box entry here closed,
+        subst (λ (bs : List CostBox). AtFirstLine forms bs (place + 1) rest f) (sym e) met,
+      ));
   trees = subst (λ (n : ℕ). WholeTrees n rest) (sym (subbox_count box entry boxes) ∙ ap length e) walks.trees;
 }
 
@@ -46,7 +54,10 @@ nothing_left [] trees = refl
 nothing_left (entry ∷ rest) trees = absurd trees
 
 -- the last line
-pub walk_ends : (forms : List Form) (start : List CostBox) (whole : List Entry) (box : CostBox) (boxes : List CostBox) (place : ℕ) (entry : Entry) (rest : List Entry) → Walks forms start whole box boxes place (entry ∷ rest) → SoundAt forms box entry → is_undone entry ≡ false → subboxes box entry ++ boxes ≡ [] → Sound forms start whole × IsClosed whole
+pub walk_ends : (forms : List Form) (start : List CostBox) (whole : List Entry) (box : CostBox) (boxes : List CostBox)
+    (place : ℕ) (entry : Entry) (rest : List Entry) → Walks forms start whole box boxes place (entry ∷ rest) →
+    SoundAt forms box entry → is_undone entry ≡ false → subboxes box entry ++ boxes ≡ [] →
+    Sound forms start whole × IsClosed whole
 walk_ends forms start whole box boxes place entry rest walks here closed e =
     let last = nothing_left rest (subst (λ (n : ℕ). WholeTrees n rest) (sym (subbox_count box entry boxes) ∙ ap length e) walks.trees) in (
       walks.sound (here, subst (λ (bs : List CostBox). Sound forms bs rest) (sym e) (subst (λ (es : List Entry). Sound forms [] es) (sym last) tt)),
@@ -54,15 +65,20 @@ walk_ends forms start whole box boxes place entry rest walks here closed e =
     )
 
 -- a line that meets a test
-pub walk_stops : (forms : List Form) (start : List CostBox) (whole : List Entry) (box : CostBox) (boxes : List CostBox) (place : ℕ) (entry : Entry) (rest : List Entry) (number : ℕ) → Walks forms start whole box boxes place (entry ∷ rest) → FirstOf (line_tests forms box entry) number → AtFirstLine forms start 0 whole (record { number = number; place = place })
+pub walk_stops : (forms : List Form) (start : List CostBox) (whole : List Entry) (box : CostBox) (boxes : List CostBox)
+    (place : ℕ) (entry : Entry) (rest : List Entry) (number : ℕ) →
+    Walks forms start whole box boxes place (entry ∷ rest) → FirstOf (line_tests forms box entry) number →
+    AtFirstLine forms start 0 whole (record { number = number; place = place })
 walk_stops forms start whole box boxes place entry rest number walks met = walks.first (record { number = number; place = place }) (inl (refl, met))
 
 -- a box is open while lines are left
-pub walk_goes : (forms : List Form) (start : List CostBox) (whole : List Entry) (box : CostBox) (boxes : List CostBox) (place : ℕ) → Walks forms start whole box boxes place [] → ⊥
+pub walk_goes : (forms : List Form) (start : List CostBox) (whole : List Entry) (box : CostBox) (boxes : List CostBox)
+    (place : ℕ) → Walks forms start whole box boxes place [] → ⊥
 walk_goes forms start whole box boxes place walks = walks.trees
 
 -- the line that was read, and those after it
-pub line_read : (entries : List Entry) (k : ℕ) (entry : Entry) → k < length entries → entry ≡ get_or entries k entry → drop k entries ≡ entry ∷ drop (k + 1) entries
+pub line_read : (entries : List Entry) (k : ℕ) (entry : Entry) → k < length entries → entry ≡ get_or entries k entry →
+    drop k entries ≡ entry ∷ drop (k + 1) entries
 line_read entries k entry k_in e =
     let split : drop k entries ≡ get_or entries k entry ∷ drop (k + 1) entries = rw (add-one, drop-cons entries k entry) refl in
     split ∙ ap (λ (x : Entry). x ∷ drop (k + 1) entries) (sym e)
@@ -71,7 +87,9 @@ line_read entries k entry k_in e =
 abbrev pub StopsTree : List Form → CostBox → List Entry → CheckStop → Type 0
 StopsTree forms box tree = StopsBy (AtFirstLine forms (box ∷ []) 0 tree ∷ [])
 
-pub stop_moved : {T : Type 0} (r : Result T CheckStop) (forms : List Form) (here there : CostBox) (tree whole : List Entry) → here ≡ there → tree ≡ whole → IfErr r (StopsTree forms here tree) → IfErr r (StopsTree forms there whole)
+pub stop_moved : {T : Type 0} (r : Result T CheckStop) (forms : List Form) (here there : CostBox)
+    (tree whole : List Entry) → here ≡ there → tree ≡ whole → IfErr r (StopsTree forms here tree) →
+    IfErr r (StopsTree forms there whole)
 stop_moved r forms here there tree whole boxes trees stops =
     subst (λ (es : List Entry). IfErr r (StopsTree forms there es)) trees
     (subst (λ (box : CostBox). IfErr r (StopsTree forms box tree)) boxes stops)
@@ -81,20 +99,31 @@ abbrev pub HaveEnds : ℕ → List CostBox → Type 0
 HaveEnds n boxes = All (λ box. length box.low ≡ n) boxes
 
 both : (n : ℕ) (a b : CostBox) → length a.low ≡ n → length b.low ≡ n → HaveEnds n (a ∷ b ∷ [])
-both n a b first second = All-cons (λ (box : CostBox). length box.low ≡ n) a (b ∷ []) first (All-cons (λ (box : CostBox). length box.low ≡ n) b [] second (All-nil (λ (box : CostBox). length box.low ≡ n)))
+both n a b first second = All-cons (λ (box : CostBox). length box.low ≡ n) a (b ∷ []) first
+    (All-cons (λ (box : CostBox). length box.low ≡ n) b [] second (All-nil (λ (box : CostBox). length box.low ≡ n)))
 
 parts_have_ends : (n : ℕ) (box : CostBox) (entry : Entry) → length box.low ≡ n → HaveEnds n (subboxes box entry)
-parts_have_ends n box (Tighten var Low value row) count = All-cons (λ (b : CostBox). length b.low ≡ n) (with_low box var value) [] (length-set box.low var value ∙ count) (All-nil (λ (b : CostBox). length b.low ≡ n))
-parts_have_ends n box (Tighten var High value row) count = All-cons (λ (b : CostBox). length b.low ≡ n) (with_high box var value) [] count (All-nil (λ (b : CostBox). length b.low ≡ n))
-parts_have_ends n box (Split var value) count = both n (with_high box var value) (with_low box var (value + 1)) count (length-set box.low var (value + 1) ∙ count)
-parts_have_ends n box (Halve var value wide) count = both n (with_high box var value) (with_low box var (value + 1)) count (length-set box.low var (value + 1) ∙ count)
+parts_have_ends n box (Tighten var Low value row) count =
+    All-cons (λ (b : CostBox). length b.low ≡ n) (with_low box var value) [] (length-set box.low var value ∙ count)
+    (All-nil (λ (b : CostBox). length b.low ≡ n))
+parts_have_ends n box (Tighten var High value row) count =
+    All-cons (λ (b : CostBox). length b.low ≡ n) (with_high box var value) [] count
+    (All-nil (λ (b : CostBox). length b.low ≡ n))
+parts_have_ends n box (Split var value) count =
+    both n (with_high box var value) (with_low box var (value + 1)) count (length-set box.low var (value + 1) ∙ count)
+parts_have_ends n box (Halve var value wide) count =
+    both n (with_high box var value) (with_low box var (value + 1)) count (length-set box.low var (value + 1) ∙ count)
 parts_have_ends n box (Refute parts) count = All-nil (λ (b : CostBox). length b.low ≡ n)
 parts_have_ends n box Undone count = All-nil (λ (b : CostBox). length b.low ≡ n)
 
-pub next_have_ends : (n : ℕ) (box : CostBox) (boxes : List CostBox) (entry : Entry) (next : CostBox) (others : List CostBox) → HaveEnds n (box ∷ boxes) → subboxes box entry ++ boxes ≡ next ∷ others → HaveEnds n (next ∷ others)
+pub next_have_ends : (n : ℕ) (box : CostBox) (boxes : List CostBox) (entry : Entry) (next : CostBox)
+    (others : List CostBox) → HaveEnds n (box ∷ boxes) → subboxes box entry ++ boxes ≡ next ∷ others →
+    HaveEnds n (next ∷ others)
 next_have_ends n box boxes entry next others have e =
     All-same (λ (b : CostBox). length b.low ≡ n) (next ∷ others) (subboxes box entry ++ boxes) (sym e)
-    (All-append (λ (b : CostBox). length b.low ≡ n) (subboxes box entry) boxes (parts_have_ends n box entry (All-head (λ (b : CostBox). length b.low ≡ n) box boxes have)) (All-tail (λ (b : CostBox). length b.low ≡ n) box boxes have))
+    (All-append (λ (b : CostBox). length b.low ≡ n) (subboxes box entry) boxes
+    (parts_have_ends n box entry (All-head (λ (b : CostBox). length b.low ≡ n) box boxes have))
+    (All-tail (λ (b : CostBox). length b.low ≡ n) box boxes have))
 
 -- what a test of a Bool tells
 pub at_true : (A B : Type 0) → (b : Bool) → b ≡ true → MatchBool b A B → A

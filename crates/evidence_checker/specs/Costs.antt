@@ -1,4 +1,4 @@
--- What is told of costs on the way to a verdict.
+-- What is told of costs on the way to a verdict. No public clause cites it.
 use Rattle.std.specs.Prelude.{ℕ, ◌<◌, min, List, length, All, Option, Some, None}
 use Rattle.area_graph.specs.Area.{Area}
 use Rattle.area_graph.specs.Costs.{at_costs, IsOnlyCheapest}

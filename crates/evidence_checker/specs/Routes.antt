@@ -1,4 +1,4 @@
--- The tests of a row's edges, where its request is known.
+-- The tests of a row's edges, where its request is known. No public clause cites it.
 use Rattle.std.specs.Prelude.{◌≡◌, ◌≢◌, ℕ, List, [], ◌∷◌}
 use Rattle.area_graph.specs.Area.{Area}
 use Rattle.area_graph.specs.Paths.{IsPathOf}

@@ -47,7 +47,9 @@ pub record IsSheet (p : DesignProblem) (pool : Pooled) (sheet : Sheet) : Type 0 
 abbrev pub sheet_of : Option CapTree → Option CapTree → List Row → Sheet
 sheet_of proof unfinished rows = record { rows = rows; named = named_in proof unfinished }
 
-pub is_sheet : (p : DesignProblem) (pool : Pooled) (old : List Row) (proof unfinished : Option CapTree) (rows : List Row) (new_proof new_unfinished : Option CapTree) → IsProblem p → FitsGraph p.graph → IsPool p pool → old ≡ pool.rows → ArePrinted old proof unfinished rows new_proof new_unfinished → IsSheet p pool (sheet_of proof unfinished rows)
+is_sheet : (p : DesignProblem) (pool : Pooled) (old : List Row) (proof unfinished : Option CapTree) (rows : List Row)
+    (new_proof new_unfinished : Option CapTree) → IsProblem p → FitsGraph p.graph → IsPool p pool → old ≡ pool.rows →
+    ArePrinted old proof unfinished rows new_proof new_unfinished → IsSheet p pool (sheet_of proof unfinished rows)
 is_sheet p pool old proof unfinished rows new_proof new_unfinished problem graph is_pool same are = record {
   problem = problem;
   graph = graph;
@@ -56,12 +58,16 @@ is_sheet p pool old proof unfinished rows new_proof new_unfinished problem graph
 }
 
 -- a tree of a pool names its rows
-pub names_rows : (p : DesignProblem) (top cap : ℕ) (pool : Pooled) (rows : List Row) (tree : List Entry) → rows ≡ pool.rows → IsTreeAt p top cap pool tree → All (NamesBelow (length rows)) tree
+pub names_rows : (p : DesignProblem) (top cap : ℕ) (pool : Pooled) (rows : List Row) (tree : List Entry) →
+    rows ≡ pool.rows → IsTreeAt p top cap pool tree → All (NamesBelow (length rows)) tree
 names_rows p top cap pool rows tree same holds =
-    subst (λ (rs : List Row). All (NamesBelow (length rs)) tree) (sym same) (search_names (LeadsEach p) top (form_of_row p) pool.rows (capped (box_of p) cap) tree holds)
+    subst (λ (rs : List Row). All (NamesBelow (length rs)) tree) (sym same)
+    (search_names (LeadsEach p) top (form_of_row p) pool.rows (capped (box_of p) cap) tree holds)
 
 -- and so does a kept one
-pub kept_names : (p : DesignProblem) (top nodes : ℕ) (pool : Pooled) (rows : List Row) (cap : ℕ) (kept : Option CapTree) → rows ≡ pool.rows → IsKeptBelow p top nodes pool cap kept → TreeNamesBelow (length rows) kept
+pub kept_names : (p : DesignProblem) (top nodes : ℕ) (pool : Pooled) (rows : List Row) (cap : ℕ)
+    (kept : Option CapTree) → rows ≡ pool.rows → IsKeptBelow p top nodes pool cap kept →
+    TreeNamesBelow (length rows) kept
 kept_names p top nodes pool rows cap None same holds = tt
 kept_names p top nodes pool rows cap (Some t) same holds = names_rows p top t.cap pool rows t.tree same holds.2.tree
 
@@ -79,19 +85,60 @@ IsPrintedBy pool sheet (Some t) (Some u) = IsCopied pool sheet t u
 IsPrintedBy pool sheet None (Some u) = ⊥
 IsPrintedBy pool sheet (Some t) None = ⊥
 
-pub proof_printed_by : (p : DesignProblem) (pool : Pooled) (old : List Row) (proof unfinished : Option CapTree) (rows : List Row) (new_proof new_unfinished : Option CapTree) → old ≡ pool.rows → TreeNamesBelow (length old) proof → ArePrinted old proof unfinished rows new_proof new_unfinished → IsPrintedBy pool (sheet_of proof unfinished rows) proof new_proof
+proof_printed_by : (p : DesignProblem) (pool : Pooled) (old : List Row) (proof unfinished : Option CapTree)
+    (rows : List Row) (new_proof new_unfinished : Option CapTree) → old ≡ pool.rows →
+    TreeNamesBelow (length old) proof → ArePrinted old proof unfinished rows new_proof new_unfinished →
+    IsPrintedBy pool (sheet_of proof unfinished rows) proof new_proof
 proof_printed_by p pool old None unfinished rows None new_unfinished same below are = tt
 proof_printed_by p pool old None unfinished rows (Some u) new_unfinished same below are = are.proof_is
 proof_printed_by p pool old (Some t) unfinished rows None new_unfinished same below are = are.proof_is
-proof_printed_by p pool old (Some t) unfinished rows (Some u) new_unfinished same below are =
-    (are.proof_is.0, subst (λ (rs : List Row). IsCopy (named_in (Some t) unfinished) rs rows t.tree u.tree) same (proof_copy old rows t u unfinished new_unfinished are below))
+proof_printed_by p pool old (Some t) unfinished rows (Some u) new_unfinished same below are = (
+  are.proof_is.0,
+  subst (λ (rs : List Row). IsCopy (named_in (Some t) unfinished) rs rows t.tree u.tree) same
+      (proof_copy old rows t u unfinished new_unfinished are below),
+)
 
-pub unfinished_printed_by : (p : DesignProblem) (pool : Pooled) (old : List Row) (proof unfinished : Option CapTree) (rows : List Row) (new_proof new_unfinished : Option CapTree) → old ≡ pool.rows → TreeNamesBelow (length old) unfinished → ArePrinted old proof unfinished rows new_proof new_unfinished → IsPrintedBy pool (sheet_of proof unfinished rows) unfinished new_unfinished
+unfinished_printed_by : (p : DesignProblem) (pool : Pooled) (old : List Row) (proof unfinished : Option CapTree)
+    (rows : List Row) (new_proof new_unfinished : Option CapTree) → old ≡ pool.rows →
+    TreeNamesBelow (length old) unfinished → ArePrinted old proof unfinished rows new_proof new_unfinished →
+    IsPrintedBy pool (sheet_of proof unfinished rows) unfinished new_unfinished
 unfinished_printed_by p pool old proof None rows new_proof None same below are = tt
 unfinished_printed_by p pool old proof None rows new_proof (Some u) same below are = are.unfinished_is
 unfinished_printed_by p pool old proof (Some t) rows new_proof None same below are = are.unfinished_is
-unfinished_printed_by p pool old proof (Some t) rows new_proof (Some u) same below are =
-    (are.unfinished_is.0, subst (λ (rs : List Row). IsCopy (named_in proof (Some t)) rs rows t.tree u.tree) same (unfinished_copy old rows t u proof new_proof are below))
+unfinished_printed_by p pool old proof (Some t) rows new_proof (Some u) same below are = (
+  are.unfinished_is.0,
+  subst (λ (rs : List Row). IsCopy (named_in proof (Some t)) rs rows t.tree u.tree) same
+      (unfinished_copy old rows t u proof new_proof are below),
+)
+
+-- a sheet of a pool, and two of its trees as they are printed on it
+pub record AreOnSheet (p : DesignProblem) (pool : Pooled) (proof unfinished : Option CapTree) (rows : List Row)
+    (new_proof new_unfinished : Option CapTree) : Type 0 where
+  pub sheet : IsSheet p pool (sheet_of proof unfinished rows)
+  pub proof_is : IsPrintedBy pool (sheet_of proof unfinished rows) proof new_proof
+  pub unfinished_is : IsPrintedBy pool (sheet_of proof unfinished rows) unfinished new_unfinished
+
+pub on_sheet : (p : DesignProblem) (pool : Pooled) (old : List Row) (proof unfinished : Option CapTree)
+    (rows : List Row) (new_proof new_unfinished : Option CapTree) → IsProblem p → FitsGraph p.graph → IsPool p pool →
+    old ≡ pool.rows → TreeNamesBelow (length old) proof → TreeNamesBelow (length old) unfinished →
+    ArePrinted old proof unfinished rows new_proof new_unfinished → AreOnSheet p pool proof unfinished rows new_proof new_unfinished
+on_sheet p pool old proof unfinished rows new_proof new_unfinished problem graph is_pool same proof_below unfinished_below are = record {
+  sheet = is_sheet p pool old proof unfinished rows new_proof new_unfinished problem graph is_pool same are;
+  proof_is = proof_printed_by p pool old proof unfinished rows new_proof new_unfinished same proof_below are;
+  unfinished_is = unfinished_printed_by p pool old proof unfinished rows new_proof new_unfinished same unfinished_below are;
+}
+
+-- where the first of the trees is a kept one that was lent
+pub kept_on_sheet : (p : DesignProblem) (top nodes cap : ℕ) (pool : Pooled) (old : List Row)
+    (kept lent unfinished : Option CapTree) (rows : List Row) (new_proof new_unfinished : Option CapTree) →
+    IsProblem p → FitsGraph p.graph → IsPool p pool → old ≡ pool.rows → lent ≡ kept →
+    IsKeptBelow p top nodes pool cap kept →
+    TreeNamesBelow (length old) unfinished → ArePrinted old lent unfinished rows new_proof new_unfinished →
+    AreOnSheet p pool kept unfinished rows new_proof new_unfinished
+kept_on_sheet p top nodes cap pool old kept lent unfinished rows new_proof new_unfinished problem graph is_pool same lent_is below unfinished_below are =
+    on_sheet p pool old kept unfinished rows new_proof new_unfinished problem graph is_pool same
+    (kept_names p top nodes pool old cap kept same below) unfinished_below
+    (subst (λ (k : Option CapTree). ArePrinted old k unfinished rows new_proof new_unfinished) lent_is are)
 
 at_new_cap : (p : DesignProblem) (top : ℕ) (pool : Pooled) (t u : CapTree) → u.cap ≡ t.cap → IsTreeAt p top t.cap pool t.tree → IsTreeAt p top u.cap pool t.tree
 at_new_cap p top pool t u same holds = subst (λ (cap : ℕ). IsTreeAt p top cap pool t.tree) (sym same) holds
@@ -101,18 +148,26 @@ true_forms : (p : DesignProblem) (rows : List Row) → All (IsRow p) rows → Al
 true_forms p rows all k d k_in = record { row = slice_index_or rows k d; is_row = all k d k_in; same = refl }
 
 -- it is printed
-tree_printed : (p : DesignProblem) (top nodes : ℕ) (pool : Pooled) (sheet : Sheet) (t u : CapTree) → IsSheet p pool sheet → IsCopied pool sheet t u → IsTreeAt p top t.cap pool t.tree → entry_count t.tree ≤ nodes → IsPrintedTree p top nodes sheet.rows u
+tree_printed : (p : DesignProblem) (top nodes : ℕ) (pool : Pooled) (sheet : Sheet) (t u : CapTree) →
+    IsSheet p pool sheet → IsCopied pool sheet t u → IsTreeAt p top t.cap pool t.tree → entry_count t.tree ≤ nodes →
+    IsPrintedTree p top nodes sheet.rows u
 tree_printed p top nodes pool sheet t u is copy holds few =
-    copy_printed (LeadsEach p) (IsFormOfRow p) top nodes (form_of_row p) (capped (box_of p) u.cap) sheet.named pool.rows sheet.rows t.tree u.tree copy.1 (true_forms p pool.rows is.is_pool.rows) (at_new_cap p top pool t u copy.0 holds) few
+    copy_printed (LeadsEach p) (IsFormOfRow p) top nodes (form_of_row p) (capped (box_of p) u.cap) sheet.named pool.rows
+    sheet.rows t.tree u.tree copy.1 (true_forms p pool.rows is.is_pool.rows)
+    (at_new_cap p top pool t u copy.0 holds) few
 
 -- and it can be printed
-tree_printable : (p : DesignProblem) (top nodes : ℕ) (pool : Pooled) (sheet : Sheet) (t u : CapTree) → IsSheet p pool sheet → IsCopied pool sheet t u → greatest_cost p.low ≤ t.cap → t.cap ≤ 65535 → nodes ≤ 10000000 → IsTreeAt p top t.cap pool t.tree → entry_count t.tree ≤ nodes → IsPrintable u
+tree_printable : (p : DesignProblem) (top nodes : ℕ) (pool : Pooled) (sheet : Sheet) (t u : CapTree) →
+    IsSheet p pool sheet → IsCopied pool sheet t u → greatest_cost p.low ≤ t.cap → t.cap ≤ 65535 → nodes ≤ 10000000 →
+    IsTreeAt p top t.cap pool t.tree → entry_count t.tree ≤ nodes → IsPrintable u
 tree_printable p top nodes pool sheet t u is copy from small budget holds few =
     copy_printable (LeadsEach p) top nodes u.cap (form_of_row p) (capped (box_of p) u.cap) sheet.named pool.rows sheet.rows t.tree u.tree copy.1
     (cost_bounds p u.cap is.problem (omega (arith, copy.0)) (omega (arith, copy.0))) (omega (arith, copy.0)) budget (at_new_cap p top pool t u copy.0 holds) few
 
 -- a closed tree proves that no costs are fit at its cap
-tree_proves : (p : DesignProblem) (top nodes : ℕ) (pool : Pooled) (sheet : Sheet) (t u : CapTree) → IsSheet p pool sheet → IsCopied pool sheet t u → greatest_cost p.low ≤ t.cap → IsRefuted p top nodes pool t → Proves p sheet.rows u.cap u
+tree_proves : (p : DesignProblem) (top nodes : ℕ) (pool : Pooled) (sheet : Sheet) (t u : CapTree) →
+    IsSheet p pool sheet → IsCopied pool sheet t u → greatest_cost p.low ≤ t.cap → IsRefuted p top nodes pool t →
+    Proves p sheet.rows u.cap u
 tree_proves p top nodes pool sheet t u is copy from refuted = record {
   at_cap = refl;
   no_higher = no_low_above p.low u.cap (omega (arith, copy.0));
@@ -121,7 +176,9 @@ tree_proves p top nodes pool sheet t u is copy from refuted = record {
 }
 
 -- no costs are fit
-pub impossible_answered : (p : DesignProblem) (top nodes : ℕ) (pool : Pooled) (sheet : Sheet) (t : CapTree) (proof unfinished : Option CapTree) → IsSheet p pool sheet → IsPrintedBy pool sheet (Some t) proof → IsPrintedBy pool sheet None unfinished → t.cap ≡ greatest_bound p → IsRefuted p top nodes pool t →
+pub impossible_answered : (p : DesignProblem) (top nodes : ℕ) (pool : Pooled) (sheet : Sheet) (t : CapTree)
+    (proof unfinished : Option CapTree) → IsSheet p pool sheet → IsPrintedBy pool sheet (Some t) proof →
+    IsPrintedBy pool sheet None unfinished → t.cap ≡ greatest_bound p → IsRefuted p top nodes pool t →
     IsAnswered p top nodes (record { verdict = Impossible; costs = None; floor = Absent; rows = sheet.rows; proof = proof; unfinished = unfinished })
 impossible_answered p top nodes pool sheet t None unfinished is proof_is unfinished_is ceiling refuted = absurd proof_is
 impossible_answered p top nodes pool sheet t (Some u) (Some v) is proof_is unfinished_is ceiling refuted = absurd unfinished_is
@@ -137,13 +194,23 @@ impossible_answered p top nodes pool sheet t (Some u) None is proof_is unfinishe
 rows_kept : (p : DesignProblem) (pool : Pooled) (sheet : Sheet) → IsSheet p pool sheet → All (λ row. IsLine (row_line row)) sheet.rows
 rows_kept p pool sheet is = rows_short p sheet.rows is.problem is.graph (sheet_rows p pool sheet is)
 
-pub impossible_kept : (p : DesignProblem) (top nodes : ℕ) (pool : Pooled) (sheet : Sheet) (t : CapTree) (proof unfinished : Option CapTree) → IsSheet p pool sheet → IsPrintedBy pool sheet (Some t) proof → IsPrintedBy pool sheet None unfinished → t.cap ≡ greatest_bound p → t.cap ≤ 65535 → nodes ≤ 10000000 → IsRefuted p top nodes pool t →
+pub impossible_kept : (p : DesignProblem) (top nodes : ℕ) (pool : Pooled) (sheet : Sheet) (t : CapTree)
+    (proof unfinished : Option CapTree) → IsSheet p pool sheet → IsPrintedBy pool sheet (Some t) proof →
+    IsPrintedBy pool sheet None unfinished → t.cap ≡ greatest_bound p → t.cap ≤ 65535 → nodes ≤ 10000000 →
+    IsRefuted p top nodes pool t →
     IsAnswer (record { verdict = Impossible; costs = None; floor = Absent; rows = sheet.rows; proof = proof; unfinished = unfinished })
 impossible_kept p top nodes pool sheet t None unfinished is proof_is unfinished_is ceiling small budget refuted = absurd proof_is
 impossible_kept p top nodes pool sheet t (Some u) (Some v) is proof_is unfinished_is ceiling small budget refuted = absurd unfinished_is
 impossible_kept p top nodes pool sheet t (Some u) None is proof_is unfinished_is ceiling small budget refuted =
     let from : greatest_cost p.low ≤ t.cap = let below = floor_below_ceiling p is.problem in omega arith in
-    answer_kept (record { verdict = Impossible; costs = None; floor = Absent; rows = sheet.rows; proof = Some u; unfinished = None }) tt tt tt is.kept.few (rows_kept p pool sheet is)
+    answer_kept (record {
+      verdict = Impossible;
+      costs = None;
+      floor = Absent;
+      rows = sheet.rows;
+      proof = Some u;
+      unfinished = None;
+    }) tt tt tt is.kept.few (rows_kept p pool sheet is)
     (tree_printable p top nodes pool sheet t u is proof_is from small budget refuted.tree refuted.few) tt
 
 -- the printed costs are the costs that were found
@@ -156,9 +223,19 @@ floor_shows p rows k Empty is shows = shows
 floor_shows p rows k (Var v) is shows = (shows.0, shows.1 ∙ sym is)
 
 -- costs of the least greatest cost
-pub optimal_answered : (p : DesignProblem) (top nodes : ℕ) (pool : Pooled) (sheet : Sheet) (w : List ℕ) (costs : CostsPart) (floor : Floor) (kept proof unfinished : Option CapTree) → IsSheet p pool sheet → IsPrintedBy pool sheet kept proof → IsPrintedBy pool sheet None unfinished → IsFit p w → ArePrintedCosts p w costs → IsFloorFor p kept floor →
+pub optimal_answered : (p : DesignProblem) (top nodes : ℕ) (pool : Pooled) (sheet : Sheet) (w : List ℕ)
+    (costs : CostsPart) (floor : Floor) (kept proof unfinished : Option CapTree) → IsSheet p pool sheet →
+    IsPrintedBy pool sheet kept proof → IsPrintedBy pool sheet None unfinished → IsFit p w → ArePrintedCosts p w costs →
+    IsFloorFor p kept floor →
     IsKeptAt p top nodes pool (greatest_cost w) kept →
-    IsAnswered p top nodes (record { verdict = Optimal costs.greatest; costs = Some costs; floor = floor; rows = sheet.rows; proof = proof; unfinished = unfinished })
+    IsAnswered p top nodes (record {
+      verdict = Optimal costs.greatest;
+      costs = Some costs;
+      floor = floor;
+      rows = sheet.rows;
+      proof = proof;
+      unfinished = unfinished;
+    })
 optimal_answered p top nodes pool sheet w costs floor None (Some u) unfinished is proof_is unfinished_is fit printed shows holds = absurd proof_is
 optimal_answered p top nodes pool sheet w costs floor (Some t) None unfinished is proof_is unfinished_is fit printed shows holds = absurd proof_is
 optimal_answered p top nodes pool sheet w costs floor None None (Some v) is proof_is unfinished_is fit printed shows holds = absurd unfinished_is
@@ -189,7 +266,9 @@ floor_fits p None Empty problem shows = tt
 floor_fits p None (Var v) problem shows = omega (arith, problem.var_count, shows.0)
 floor_fits p (Some t) floor problem shows = subst FitsFloor (sym shows) tt
 
-kept_printable : (p : DesignProblem) (top nodes : ℕ) (pool : Pooled) (sheet : Sheet) (cap : ℕ) (kept proof : Option CapTree) → IsSheet p pool sheet → IsPrintedBy pool sheet kept proof → IsKeptBelow p top nodes pool cap kept → cap ≤ 65535 → nodes ≤ 10000000 → CanPrintTree proof
+kept_printable : (p : DesignProblem) (top nodes : ℕ) (pool : Pooled) (sheet : Sheet) (cap : ℕ)
+    (kept proof : Option CapTree) → IsSheet p pool sheet → IsPrintedBy pool sheet kept proof →
+    IsKeptBelow p top nodes pool cap kept → cap ≤ 65535 → nodes ≤ 10000000 → CanPrintTree proof
 kept_printable p top nodes pool sheet cap None None is proof_is holds small budget = tt
 kept_printable p top nodes pool sheet cap None (Some u) is proof_is holds small budget = absurd proof_is
 kept_printable p top nodes pool sheet cap (Some t) None is proof_is holds small budget = absurd proof_is
@@ -197,7 +276,8 @@ kept_printable p top nodes pool sheet cap (Some t) (Some u) is proof_is holds sm
     tree_printable p top nodes pool sheet t u is proof_is holds.1 (omega (arith, holds.0)) budget holds.2.tree holds.2.few
 
 -- a tree at the cap below is one at a cap below
-pub kept_below : (p : DesignProblem) (top nodes : ℕ) (pool : Pooled) (least cap : ℕ) (kept : Option CapTree) → least ≤ cap → IsKeptAt p top nodes pool least kept → IsKeptBelow p top nodes pool cap kept
+pub kept_below : (p : DesignProblem) (top nodes : ℕ) (pool : Pooled) (least cap : ℕ) (kept : Option CapTree) →
+    least ≤ cap → IsKeptAt p top nodes pool least kept → IsKeptBelow p top nodes pool cap kept
 kept_below p top nodes pool least cap None small holds = tt
 kept_below p top nodes pool least cap (Some t) small holds = (omega (arith, holds.0), holds.1, holds.2)
 
@@ -205,42 +285,67 @@ none_printable : (pool : Pooled) (sheet : Sheet) (unfinished : Option CapTree) �
 none_printable pool sheet None is = tt
 none_printable pool sheet (Some v) is = absurd is
 
-pub optimal_kept : (p : DesignProblem) (top nodes : ℕ) (pool : Pooled) (sheet : Sheet) (w : List ℕ) (costs : CostsPart) (floor : Floor) (kept proof unfinished : Option CapTree) → IsSheet p pool sheet → IsPrintedBy pool sheet kept proof → IsPrintedBy pool sheet None unfinished → ArePrintedCosts p w costs → IsFloorFor p kept floor → nodes ≤ 10000000 →
+pub optimal_kept : (p : DesignProblem) (top nodes : ℕ) (pool : Pooled) (sheet : Sheet) (w : List ℕ) (costs : CostsPart)
+    (floor : Floor) (kept proof unfinished : Option CapTree) → IsSheet p pool sheet →
+    IsPrintedBy pool sheet kept proof → IsPrintedBy pool sheet None unfinished → ArePrintedCosts p w costs →
+    IsFloorFor p kept floor → nodes ≤ 10000000 →
     IsKeptAt p top nodes pool (greatest_cost w) kept →
     IsAnswer (record { verdict = Optimal costs.greatest; costs = Some costs; floor = floor; rows = sheet.rows; proof = proof; unfinished = unfinished })
 optimal_kept p top nodes pool sheet w costs floor kept proof unfinished is proof_is unfinished_is printed shows budget holds =
-    answer_kept (record { verdict = Optimal costs.greatest; costs = Some costs; floor = floor; rows = sheet.rows; proof = proof; unfinished = unfinished }) printed.small (printed.named, printed.small) (floor_fits p kept floor is.problem shows) is.kept.few (rows_kept p pool sheet is)
-    (kept_printable p top nodes pool sheet (greatest_cost w) kept proof is proof_is (kept_below p top nodes pool (greatest_cost w) (greatest_cost w) kept (omega arith) holds) (omega (arith, printed.greatest, printed.small)) budget)
+    answer_kept (record {
+      verdict = Optimal costs.greatest;
+      costs = Some costs;
+      floor = floor;
+      rows = sheet.rows;
+      proof = proof;
+      unfinished = unfinished;
+    }) printed.small (printed.named, printed.small)
+    (floor_fits p kept floor is.problem shows) is.kept.few (rows_kept p pool sheet is)
+    (kept_printable p top nodes pool sheet (greatest_cost w) kept proof is proof_is
+    (kept_below p top nodes pool (greatest_cost w) (greatest_cost w) kept (omega arith) holds)
+    (omega (arith, printed.greatest, printed.small)) budget)
     (none_printable pool sheet unfinished unfinished_is)
 
-unfinished_at : (p : DesignProblem) (top nodes : ℕ) (pool : Pooled) (sheet : Sheet) (t : CapTree) (unfinished : Option CapTree) → IsSheet p pool sheet → IsPrintedBy pool sheet (Some t) unfinished → IsSpent p top nodes pool t → UnfinishedAt p top nodes sheet.rows t.cap unfinished
+unfinished_at : (p : DesignProblem) (top nodes : ℕ) (pool : Pooled) (sheet : Sheet) (t : CapTree)
+    (unfinished : Option CapTree) → IsSheet p pool sheet → IsPrintedBy pool sheet (Some t) unfinished →
+    IsSpent p top nodes pool t → UnfinishedAt p top nodes sheet.rows t.cap unfinished
 unfinished_at p top nodes pool sheet t None is copy spent = absurd copy
 unfinished_at p top nodes pool sheet t (Some u) is copy spent = (
   copy.0,
-  copy_spent (LeadsEach p) (IsFormOfRow p) top nodes (form_of_row p) (capped (box_of p) u.cap) sheet.named pool.rows sheet.rows t.tree u.tree copy.1 (true_forms p pool.rows is.is_pool.rows) (at_new_cap p top pool t u copy.0 spent.tree) spent.undone spent.spent,
+  copy_spent (LeadsEach p) (IsFormOfRow p) top nodes (form_of_row p) (capped (box_of p) u.cap) sheet.named pool.rows
+      sheet.rows t.tree u.tree copy.1 (true_forms p pool.rows is.is_pool.rows)
+      (at_new_cap p top pool t u copy.0 spent.tree) spent.undone spent.spent,
 )
 
-proof_below : (p : DesignProblem) (top nodes : ℕ) (pool : Pooled) (sheet : Sheet) (cap : ℕ) (kept proof : Option CapTree) → IsSheet p pool sheet → IsPrintedBy pool sheet kept proof → IsKeptBelow p top nodes pool cap kept → ProofIsBelow p sheet.rows cap proof
+proof_below : (p : DesignProblem) (top nodes : ℕ) (pool : Pooled) (sheet : Sheet) (cap : ℕ)
+    (kept proof : Option CapTree) → IsSheet p pool sheet → IsPrintedBy pool sheet kept proof →
+    IsKeptBelow p top nodes pool cap kept → ProofIsBelow p sheet.rows cap proof
 proof_below p top nodes pool sheet cap None None is proof_is holds = tt
 proof_below p top nodes pool sheet cap None (Some u) is proof_is holds = absurd proof_is
 proof_below p top nodes pool sheet cap (Some t) None is proof_is holds = absurd proof_is
 proof_below p top nodes pool sheet cap (Some t) (Some u) is proof_is holds =
     (tree_proves p top nodes pool sheet t u is proof_is holds.1 holds.2, omega (arith, proof_is.0, holds.0))
 
-proof_printed : (p : DesignProblem) (top nodes : ℕ) (pool : Pooled) (sheet : Sheet) (cap : ℕ) (kept proof : Option CapTree) → IsSheet p pool sheet → IsPrintedBy pool sheet kept proof → IsKeptBelow p top nodes pool cap kept → ProofIsPrinted p top nodes sheet.rows proof
+proof_printed : (p : DesignProblem) (top nodes : ℕ) (pool : Pooled) (sheet : Sheet) (cap : ℕ)
+    (kept proof : Option CapTree) → IsSheet p pool sheet → IsPrintedBy pool sheet kept proof →
+    IsKeptBelow p top nodes pool cap kept → ProofIsPrinted p top nodes sheet.rows proof
 proof_printed p top nodes pool sheet cap None None is proof_is holds = tt
 proof_printed p top nodes pool sheet cap None (Some u) is proof_is holds = absurd proof_is
 proof_printed p top nodes pool sheet cap (Some t) None is proof_is holds = absurd proof_is
 proof_printed p top nodes pool sheet cap (Some t) (Some u) is proof_is holds = tree_printed p top nodes pool sheet t u is proof_is holds.2.tree holds.2.few
 
-costs_above : (p : DesignProblem) (cap : ℕ) (found : Option (List ℕ)) (costs : Option CostsPart) → CostsFound p cap found → ArePrintedIfAny p found costs → CostsAreAbove p cap costs
+costs_above : (p : DesignProblem) (cap : ℕ) (found : Option (List ℕ)) (costs : Option CostsPart) →
+    CostsFound p cap found → ArePrintedIfAny p found costs → CostsAreAbove p cap costs
 costs_above p cap None None holds printed = holds
 costs_above p cap None (Some costs) holds printed = absurd printed
 costs_above p cap (Some w) None holds printed = absurd printed
 costs_above p cap (Some w) (Some costs) holds printed = (gives p w costs holds.0 printed, omega (arith, holds.1, printed.greatest))
 
 -- the budget was used up
-pub undecided_answered : (p : DesignProblem) (top nodes : ℕ) (pool : Pooled) (sheet : Sheet) (found : Option (List ℕ)) (costs : Option CostsPart) (kept proof : Option CapTree) (t : CapTree) (unfinished : Option CapTree) → IsSheet p pool sheet → IsPrintedBy pool sheet kept proof → IsPrintedBy pool sheet (Some t) unfinished → greatest_cost p.low ≤ t.cap →
+pub undecided_answered : (p : DesignProblem) (top nodes : ℕ) (pool : Pooled) (sheet : Sheet) (found : Option (List ℕ))
+    (costs : Option CostsPart) (kept proof : Option CapTree) (t : CapTree) (unfinished : Option CapTree) →
+    IsSheet p pool sheet → IsPrintedBy pool sheet kept proof → IsPrintedBy pool sheet (Some t) unfinished →
+    greatest_cost p.low ≤ t.cap →
     CostsFound p t.cap found → ArePrintedIfAny p found costs → IsKeptBelow p top nodes pool t.cap kept → IsSpent p top nodes pool t →
     IsAnswered p top nodes (record { verdict = Budget t.cap; costs = costs; floor = Absent; rows = sheet.rows; proof = proof; unfinished = unfinished })
 undecided_answered p top nodes pool sheet found costs kept proof t unfinished is proof_is unfinished_is from holds printed below spent = record {
@@ -261,13 +366,29 @@ costs_printable p None (Some costs) printed = absurd printed
 costs_printable p (Some w) None printed = absurd printed
 costs_printable p (Some w) (Some costs) printed = (printed.named, printed.small)
 
-spent_printable : (p : DesignProblem) (top nodes : ℕ) (pool : Pooled) (sheet : Sheet) (t : CapTree) (unfinished : Option CapTree) → IsSheet p pool sheet → IsPrintedBy pool sheet (Some t) unfinished → greatest_cost p.low ≤ t.cap → t.cap ≤ 65535 → nodes ≤ 10000000 → IsSpent p top nodes pool t → CanPrintTree unfinished
+spent_printable : (p : DesignProblem) (top nodes : ℕ) (pool : Pooled) (sheet : Sheet) (t : CapTree)
+    (unfinished : Option CapTree) → IsSheet p pool sheet → IsPrintedBy pool sheet (Some t) unfinished →
+    greatest_cost p.low ≤ t.cap → t.cap ≤ 65535 → nodes ≤ 10000000 → IsSpent p top nodes pool t →
+    CanPrintTree unfinished
 spent_printable p top nodes pool sheet t None is copy from small budget spent = absurd copy
-spent_printable p top nodes pool sheet t (Some u) is copy from small budget spent = tree_printable p top nodes pool sheet t u is copy from small budget spent.tree (omega (arith, spent.spent))
+spent_printable p top nodes pool sheet t (Some u) is copy from small budget spent =
+    tree_printable p top nodes pool sheet t u is copy from small budget spent.tree (omega (arith, spent.spent))
 
-pub undecided_kept : (p : DesignProblem) (top nodes : ℕ) (pool : Pooled) (sheet : Sheet) (found : Option (List ℕ)) (costs : Option CostsPart) (kept proof : Option CapTree) (t : CapTree) (unfinished : Option CapTree) → IsSheet p pool sheet → IsPrintedBy pool sheet kept proof → IsPrintedBy pool sheet (Some t) unfinished → greatest_cost p.low ≤ t.cap → t.cap ≤ 65535 → nodes ≤ 10000000 →
+pub undecided_kept : (p : DesignProblem) (top nodes : ℕ) (pool : Pooled) (sheet : Sheet) (found : Option (List ℕ))
+    (costs : Option CostsPart) (kept proof : Option CapTree) (t : CapTree) (unfinished : Option CapTree) →
+    IsSheet p pool sheet → IsPrintedBy pool sheet kept proof → IsPrintedBy pool sheet (Some t) unfinished →
+    greatest_cost p.low ≤ t.cap → t.cap ≤ 65535 → nodes ≤ 10000000 →
     ArePrintedIfAny p found costs → IsKeptBelow p top nodes pool t.cap kept → IsSpent p top nodes pool t →
     IsAnswer (record { verdict = Budget t.cap; costs = costs; floor = Absent; rows = sheet.rows; proof = proof; unfinished = unfinished })
 undecided_kept p top nodes pool sheet found costs kept proof t unfinished is proof_is unfinished_is from small budget printed below spent =
-    answer_kept (record { verdict = Budget t.cap; costs = costs; floor = Absent; rows = sheet.rows; proof = proof; unfinished = unfinished }) small (costs_printable p found costs printed) tt is.kept.few (rows_kept p pool sheet is)
-    (kept_printable p top nodes pool sheet t.cap kept proof is proof_is below small budget) (spent_printable p top nodes pool sheet t unfinished is unfinished_is from small budget spent)
+    answer_kept (record {
+      verdict = Budget t.cap;
+      costs = costs;
+      floor = Absent;
+      rows = sheet.rows;
+      proof = proof;
+      unfinished = unfinished;
+    }) small (costs_printable p found costs printed) tt is.kept.few
+    (rows_kept p pool sheet is)
+    (kept_printable p top nodes pool sheet t.cap kept proof is proof_is below small budget)
+    (spent_printable p top nodes pool sheet t unfinished is unfinished_is from small budget spent)

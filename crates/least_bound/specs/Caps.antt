@@ -1,4 +1,4 @@
--- What is known of the least greatest cost while caps are decided.
+-- What is known of the least greatest cost while caps are decided. No public clause cites it.
 use Rattle.std.specs.Prelude.{◌≡◌, ℕ, ◌+◌, ◌<◌, ◌≤◌, List, Contains, Option, None, Some}
 use Rattle.path_rows.specs.declared.tree.Entry.TheVariants.{Undone}
 use Rattle.path_rows.specs.declared.answer.CapTree.{CapTree}

@@ -10,10 +10,9 @@ ghost use Rattle.least_bound.specs.Caps.{IsKeptAt, IsKeptBelow, IsProgress, IsLe
 ghost use Rattle.least_bound.specs.Printing.{ArePrintedIfAny, IsFloorFor};
 
 use crate::greatest::floor_of;
-use crate::problem_law::keeps_problem;
 use crate::progress::{Best, Progress};
 use cost_base::OutOfMemory;
-use cost_branching::Pool;
+use cost_branching::{Pool, keeps_conditions};
 use path_rows::{Answer, CapTree, CostList, Costs, Floor, Problem, Tree, Verdict};
 use printed_rows::{printed_both, printed_costs};
 use std::alloc::Global;
@@ -29,9 +28,10 @@ pub(crate) fn impossible(
     requires pool { IsPool problem.now pool }
     requires ceiling { ceiling ≡ greatest_bound problem.now }
     requires refuted { (top : ℕ) × (nodes : ℕ) × (nodes ≤ 10000000) × IsRefuted problem.now top nodes pool (record { cap = ceiling; tree = tree }) }
-    ensures { (top nodes : ℕ) → IsRefuted problem.now top nodes pool (record { cap = ceiling; tree = tree }) → IfOk result (IsAnswered problem.now top nodes) }
+    ensures { (top nodes : ℕ) → IsRefuted problem.now top nodes pool (record { cap = ceiling; tree = tree }) →
+        IfOk result (IsAnswered problem.now top nodes) }
 {
-    keeps_problem(problem);
+    keeps_conditions(problem);
     let proof = CapTree { cap: ceiling, tree };
     let printed = printed_both(alloc, pool.into_rows(), Some(&proof), None)?;
     Ok(Answer {
@@ -67,7 +67,7 @@ fn optimal(
     requires kept { (top : ℕ) × (nodes : ℕ) × (nodes ≤ 10000000) × IsKeptAt problem.now top nodes pool (greatest_cost costs.now) kept }
     ensures { (top nodes : ℕ) → IsKeptAt problem.now top nodes pool (greatest_cost costs.now) kept → IfOk result (IsAnswered problem.now top nodes) }
 {
-    keeps_problem(problem);
+    keeps_conditions(problem);
     let floor = floor_without(problem, &kept);
     let printed = printed_both(alloc, pool.into_rows(), kept.as_ref(), None)?;
     let costs = printed_fit(alloc, problem, costs)?;
@@ -86,7 +86,7 @@ fn printed_fit(alloc: Global, problem: &Problem, costs: &CostList) -> Result<Cos
     requires { IsFit problem.now costs.now }
     ensures { IfOk result (ArePrintedCosts problem.now costs.now) }
 {
-    keeps_problem(problem);
+    keeps_conditions(problem);
     printed_costs(alloc, problem, costs.as_slice())
 }
 
@@ -130,7 +130,7 @@ fn undecided(
     ensures { (top nodes : ℕ) → IsKeptBelow problem.now top nodes pool unfinished.cap kept → IsSpent problem.now top nodes pool unfinished →
         IfOk result (IsAnswered problem.now top nodes) }
 {
-    keeps_problem(problem);
+    keeps_conditions(problem);
     let cap = cap_of(&unfinished);
     let printed = printed_both(alloc, pool.into_rows(), kept.as_ref(), Some(&unfinished))?;
     Ok(Answer {

@@ -6,11 +6,10 @@ ghost use Rattle.least_bound.specs.Answered.{IsAnswered};
 ghost use Rattle.least_bound.specs.Caps.{IsProgress};
 
 use crate::answering::impossible;
-use crate::problem_law::keeps_problem;
 use crate::progress::{Best, Progress};
 use advisor_box::Advisor;
 use cost_base::OutOfMemory;
-use cost_branching::{Found, Pool, decide};
+use cost_branching::{Found, Pool, decide, keeps_conditions};
 use path_rows::{Answer, CapTree, Problem};
 use printed_rows::greatest_of;
 use std::alloc::Global;
@@ -30,7 +29,7 @@ fn narrowed(
     ensures answered { IfOk result (IsAnswered problem.now limits.now.top limits.now.nodes) }
     ensures advisors { AreCalled ⟦<dyn Advisor as Advisor>⟧ (λ b. b.vtable) (λ b. state b) advisors.old.items advisors.new.items }
 {
-    keeps_problem(problem);
+    keeps_conditions(problem);
     let mut pool = pool;
     let mut progress = progress;
     while let Some(cap) = progress.next_cap() {
@@ -59,7 +58,7 @@ pub fn least(
     ensures answered { IfOk result (IsAnswered problem.now limits.now.top limits.now.nodes) }
     ensures advisors { AreCalled ⟦<dyn Advisor as Advisor>⟧ (λ b. b.vtable) (λ b. state b) advisors.old.items advisors.new.items }
 {
-    keeps_problem(problem);
+    keeps_conditions(problem);
     let ceiling = greatest_of(problem.high.as_slice());
     let mut pool = Pool::new(alloc);
     match decide(alloc, problem, ceiling, limits, &mut pool, advisors)? {

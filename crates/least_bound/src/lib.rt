@@ -7,7 +7,6 @@
 mod answering;
 mod greatest;
 mod least_cap;
-mod problem_law;
 mod progress;
 
 pub use least_cap::least;

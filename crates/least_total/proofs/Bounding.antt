@@ -6,10 +6,10 @@ use Rattle.std.proofs.lemmas.List.{length-map, append_cancel_left, take_all}
 use Rattle.std.proofs.lemmas.List.Elements.{All-nil, All-cons, All-append, All-head, All-tail, All-contains, All-push, All-weaker, Contains-append_cases, Contains-append_right, Contains-push}
 use Rattle.area_graph.specs.declared.Point.{Point}
 use Rattle.path_rows.specs.declared.form.Row.{Row}
-use Rattle.path_rows.specs.Forms.{Form, value_at}
+use Rattle.path_rows.specs.Forms.{Form, value_at, AreMet}
 use Rattle.path_rows.specs.Problems.{DesignProblem}
 use Rattle.path_rows.specs.Rows.{LeadsEach, form_of_row, forms_of_rows}
-use Rattle.form_search.specs.Sources.{AreMet, Grows, HasNewRival, IsAnswered}
+use Rattle.form_search.specs.Sources.{Grows, HasNewRival, IsAnswered}
 use Rattle.form_search.specs.declared.source.Asked.{Asked}
 use Rattle.form_search.specs.declared.source.Asked.TheVariants.{Nothing, Added}
 use Rattle.cost_branching.specs.Asking.{AreAllAsked}
@@ -34,27 +34,36 @@ abbrev Met : Point → Form → Type 0
 Met point form = pos 0 ≤ℤ value_at form point
 
 -- where the pool's forms are at least 0, those of the rows are
-pub rows_met : (old : BoundedRows) (pool : List Form) (point : Point) → AreInStep old pool → AreMet pool point → AreMet (forms_of_rows old.known.problem old.known.rows) point
+pub rows_met : (old : BoundedRows) (pool : List Form) (point : Point) → AreInStep old pool → AreMet pool point →
+    AreMet (forms_of_rows old.known.problem old.known.rows) point
 rows_met old pool point in_step met = by_place old.before (subst (λ (fs : List Form). All (Met point) fs) in_step.forms met)
   where
-    by_place : (before : Option ℕ) → All (Met point) (forms_with_total old.known.problem old.most old.known.rows before) → All (Met point) (forms_of_rows old.known.problem old.known.rows)
+    by_place : (before : Option ℕ) →
+        All (Met point) (forms_with_total old.known.problem old.most old.known.rows before) →
+        All (Met point) (forms_of_rows old.known.problem old.known.rows)
     by_place None all = all
     by_place (Some k) all = (all_without (Met point) (forms_of_rows old.known.problem old.known.rows) (form_of_total old.known.problem old.most) k all).0
 
 -- where the form of the total is negative, it hasn't come yet
-pub not_come : (old : BoundedRows) (pool : List Form) (point : Point) → AreInStep old pool → AreMet pool point → value_at (form_of_total old.known.problem old.most) point <ℤ pos 0 → old.before ≡ None
+pub not_come : (old : BoundedRows) (pool : List Form) (point : Point) → AreInStep old pool → AreMet pool point →
+    value_at (form_of_total old.known.problem old.most) point <ℤ pos 0 → old.before ≡ None
 not_come old pool point in_step met negative = by_place old.before refl (subst (λ (fs : List Form). All (Met point) fs) in_step.forms met)
   where
-    by_place : (before : Option ℕ) → old.before ≡ before → All (Met point) (forms_with_total old.known.problem old.most old.known.rows before) → old.before ≡ None
+    by_place : (before : Option ℕ) → old.before ≡ before →
+        All (Met point) (forms_with_total old.known.problem old.most old.known.rows before) → old.before ≡ None
     by_place None is all = is
-    by_place (Some k) is all = absurd (not_both (value_at (form_of_total old.known.problem old.most) point) (all_without (Met point) (forms_of_rows old.known.problem old.known.rows) (form_of_total old.known.problem old.most) k all).1 negative)
+    by_place (Some k) is all = absurd
+        (not_both (value_at (form_of_total old.known.problem old.most) point)
+        (all_without (Met point) (forms_of_rows old.known.problem old.known.rows)
+        (form_of_total old.known.problem old.most) k all).1 negative)
 
 with_more : (fs more : List Form) (f : Form) (k : ℕ) → k ≤ length fs → (take k fs ++ f ∷ drop k fs) ++ more ≡ take k (fs ++ more) ++ f ∷ drop k (fs ++ more)
 with_more fs more f zero within = refl
 with_more [] more f (suc k) within = absurd (omega arith)
 with_more (g ∷ fs) more f (suc k) within = ap (λ (hs : List Form). g ∷ hs) (with_more fs more f k (omega arith))
 
-form_with_more : (fs more : List Form) (f : Form) (before : Option ℕ) → IsPlaceIn (length fs) before → with_form before f fs ++ more ≡ with_form before f (fs ++ more)
+form_with_more : (fs more : List Form) (f : Form) (before : Option ℕ) → IsPlaceIn (length fs) before →
+    with_form before f fs ++ more ≡ with_form before f (fs ++ more)
 form_with_more fs more f None place = refl
 form_with_more fs more f (Some k) place = with_more fs more f k place
 
@@ -69,7 +78,9 @@ abbrev pub after_rows : BoundedRows → KnownRows → BoundedRows
 after_rows old new = record { known = new; most = old.most; before = old.before }
 
 -- the rows that came bring their forms, and nothing else
-pub in_step_after : (old : BoundedRows) (pool : List Form) (point : Point) (new : KnownRows) (grown : List Form) (asked : Asked) → AreInStep old pool → AreAllAsked point old.known pool new grown asked → AreInStep (after_rows old new) grown
+pub in_step_after : (old : BoundedRows) (pool : List Form) (point : Point) (new : KnownRows) (grown : List Form)
+    (asked : Asked) → AreInStep old pool → AreAllAsked point old.known pool new grown asked →
+    AreInStep (after_rows old new) grown
 in_step_after old pool point new grown asked in_step are =
     let p = old.known.problem in
     let rows = old.known.rows in
@@ -80,7 +91,8 @@ in_step_after old pool point new grown asked in_step are =
     let longer : length rows ≤ length new.rows = omega (arith, count, new_count, length-map new.rows (form_of_row p)) in
     let place : IsPlaceIn (length fs) old.before = subst (λ (n : ℕ). IsPlaceIn n old.before) count in_step.place in
     let forms : grown ≡ forms_with_total p old.most new.rows old.before =
-    are.forms ∙ ap (λ (gs : List Form). gs ++ are.more) in_step.forms ∙ form_with_more fs are.more total old.before place ∙ ap (with_form old.before total) (sym are.rows) in
+    are.forms ∙ ap (λ (gs : List Form). gs ++ are.more) in_step.forms
+    ∙ form_with_more fs are.more total old.before place ∙ ap (with_form old.before total) (sym are.rows) in
     record {
       are_rows = subst (λ (q : DesignProblem). AreRows q new.rows) (sym are.problem) are.are_rows;
       place = place_more (length rows) (length new.rows) old.before longer in_step.place;
@@ -99,7 +111,9 @@ the_second (inl a) no_a = absurd (no_a a)
 the_second (inr b) no_a = b
 
 -- where the form of the total is at least 0, the rows tell whether the point is accepted
-pub answered_within : (old : BoundedRows) (pool : List Form) (point : Point) (new : KnownRows) (grown : List Form) (asked : Asked) → AreMet pool point → AreAllAsked point old.known pool new grown asked → pos 0 ≤ℤ value_at (form_of_total old.known.problem old.most) point →
+pub answered_within : (old : BoundedRows) (pool : List Form) (point : Point) (new : KnownRows) (grown : List Form)
+    (asked : Asked) → AreMet pool point → AreAllAsked point old.known pool new grown asked →
+    pos 0 ≤ℤ value_at (form_of_total old.known.problem old.most) point →
     IsAnswered (LeadsWithin old.known.problem old.most) point pool grown asked
 answered_within old pool point new grown asked met are within = by_answer asked are.answer
   where
@@ -109,24 +123,31 @@ answered_within old pool point new grown asked met are within = by_answer asked 
     fs : List Form
     fs = forms_of_rows old.known.problem old.known.rows
 
-    by_answer : (asked : Asked) → IsAnswered (LeadsEach old.known.problem) point (forms_of_rows old.known.problem old.known.rows) (forms_of_rows old.known.problem new.rows) asked → IsAnswered (LeadsWithin old.known.problem old.most) point pool grown asked
+    by_answer : (asked : Asked) → IsAnswered (LeadsEach old.known.problem) point
+        (forms_of_rows old.known.problem old.known.rows) (forms_of_rows old.known.problem new.rows) asked →
+        IsAnswered (LeadsWithin old.known.problem old.most) point pool grown asked
     by_answer Nothing answer =
         let none = none_more fs are.more (sym are.rows ∙ answer.1) in
         (record { leads = answer.0; within = within }, are.forms ∙ ap (λ (gs : List Form). pool ++ gs) none ∙ append-nil pool)
     by_answer Added answer =
         let new_rival = answer.1 in
-        let here : Contains fs new_rival.form ⊎ Contains are.more new_rival.form = Contains-append_cases fs are.more new_rival.form (subst (λ (gs : List Form). Contains gs new_rival.form) are.rows new_rival.is_new) in (
+        let here : Contains fs new_rival.form ⊎ Contains are.more new_rival.form =
+        Contains-append_cases fs are.more new_rival.form
+        (subst (λ (gs : List Form). Contains gs new_rival.form) are.rows new_rival.is_new) in (
           λ accepted. answer.0 accepted.leads,
           record {
             form = new_rival.form;
-            is_new = subst (λ (gs : List Form). Contains gs new_rival.form) (sym are.forms) (Contains-append_right pool are.more new_rival.form (the_second here new_rival.not_old));
+            is_new = subst (λ (gs : List Form). Contains gs new_rival.form) (sym are.forms)
+                (Contains-append_right pool are.more new_rival.form (the_second here new_rival.not_old));
             not_old = not_in pool point new_rival.form met new_rival.negative;
             negative = new_rival.negative;
           },
         )
 
 -- where it is negative, it comes, and the point isn't accepted
-pub answered_over : (old : BoundedRows) (pool : List Form) (point : Point) (grown more : List Form) → AreMet pool point → value_at (form_of_total old.known.problem old.most) point <ℤ pos 0 → more ≡ grown ++ form_of_total old.known.problem old.most ∷ [] →
+pub answered_over : (old : BoundedRows) (pool : List Form) (point : Point) (grown more : List Form) →
+    AreMet pool point → value_at (form_of_total old.known.problem old.most) point <ℤ pos 0 →
+    more ≡ grown ++ form_of_total old.known.problem old.most ∷ [] →
     IsAnswered (LeadsWithin old.known.problem old.most) point pool more Added
 answered_over old pool point grown more met negative same =
     let total = form_of_total old.known.problem old.most in (
@@ -148,7 +169,9 @@ grows_within p most pool grown grows = record {
   more_true = All-weaker (IsTrueOf p) (IsTrueWithin p most) (λ form is. inl is) grows.more grows.more_true;
 }
 
-pub grows_over : (p : DesignProblem) (most : ℕ) (pool grown more : List Form) → IsTrueTotal p most (form_of_total p most) → Grows (IsTrueOf p) pool grown → more ≡ grown ++ form_of_total p most ∷ [] → Grows (IsTrueWithin p most) pool more
+pub grows_over : (p : DesignProblem) (most : ℕ) (pool grown more : List Form) →
+    IsTrueTotal p most (form_of_total p most) → Grows (IsTrueOf p) pool grown →
+    more ≡ grown ++ form_of_total p most ∷ [] → Grows (IsTrueWithin p most) pool more
 grows_over p most pool grown more is_true grows same =
     let total = form_of_total p most in
     let within = grows_within p most pool grown grows in
@@ -159,7 +182,9 @@ grows_over p most pool grown more is_true grows same =
     }
 
 -- the form of the total has come behind all rows
-pub in_step_over : (s t : BoundedRows) (grown more : List Form) → AreInStep s grown → s.before ≡ None → t.known ≡ s.known → t.most ≡ s.most → t.before ≡ Some (length s.known.rows) → more ≡ grown ++ form_of_total s.known.problem s.most ∷ [] → AreInStep t more
+pub in_step_over : (s t : BoundedRows) (grown more : List Form) → AreInStep s grown → s.before ≡ None →
+    t.known ≡ s.known → t.most ≡ s.most → t.before ≡ Some (length s.known.rows) →
+    more ≡ grown ++ form_of_total s.known.problem s.most ∷ [] → AreInStep t more
 in_step_over s t grown more in_step none known most place same =
     let p = s.known.problem in
     let rows = s.known.rows in
@@ -182,5 +207,6 @@ in_step_over s t grown more in_step none known most place same =
     whole (g ∷ fs) f zero long = absurd (omega arith)
     whole (g ∷ fs) f (suc n) long = ap (λ (hs : List Form). g ∷ hs) (whole fs f n (omega arith))
 
-    same_state : t.known ≡ s.known → t.most ≡ s.most → t.before ≡ Some (length s.known.rows) → (record { known = s.known; most = s.most; before = Some (length s.known.rows) }) ≡ t
+    same_state : t.known ≡ s.known → t.most ≡ s.most → t.before ≡ Some (length s.known.rows) →
+        (record { known = s.known; most = s.most; before = Some (length s.known.rows) }) ≡ t
     same_state k m b = λ i. record { known = sym k i; most = sym m i; before = sym b i }

@@ -1,6 +1,6 @@
 -- What is answered once no round is left, or one has used the budget up.
-use Rattle.std.proofs.Common.{◌≡◌, ℕ, ◌+◌, ◌<◌, ◌≤◌, refl, sym, ◌∙◌, ap, subst, List, arith}
-use Rattle.std.specs.Prelude.{All, Option, None, Some}
+use Rattle.std.proofs.Common.{◌≡◌, ℕ, ◌<◌, ◌≤◌, sym, ◌∙◌, ap, subst, List, arith}
+use Rattle.std.specs.Prelude.{Some}
 use Rattle.path_rows.specs.declared.answer.Verdict.{Verdict}
 use Rattle.path_rows.specs.declared.answer.Verdict.TheVariants.{Optimal, Impossible, Budget}
 use Rattle.path_rows.specs.Problems.{DesignProblem, IsProblem}
@@ -9,14 +9,13 @@ use Rattle.path_rows.specs.Answers.{AnswerParts}
 use Rattle.path_rows.proofs.ProblemTrees.{le_greatest}
 use Rattle.cost_branching.specs.Rivals.{IsKept}
 use Rattle.printed_rows.proofs.CostLaws.{greatest-le}
-use Rattle.least_total.specs.declared.finding.Total.{Total}
 use Rattle.least_total.specs.declared.finding.Total.TheVariants.{Least, Unknown}
 use Rattle.least_total.specs.declared.finding.TotalProof.{TotalProof}
-use Rattle.least_total.specs.declared.finding.TotalProof.TheVariants.{Floor, Tree}
+use Rattle.least_total.specs.declared.finding.TotalProof.TheVariants.{Tree}
 use Rattle.least_total.specs.declared.printing.PrintedTotal.{PrintedTotal}
 use Rattle.least_total.specs.declared.rounds.TotalTree.{TotalTree}
 use Rattle.least_total.specs.declared.standing.Standing.{Standing}
-use Rattle.least_total.specs.Totals.{HasLeastTotal, total}
+use Rattle.least_total.specs.Totals.{total}
 use Rattle.least_total.specs.Printing.{IsPrintedLast}
 use Rattle.least_total.specs.Rounds.{IsFitWithin, IsKeptBelow, IsSpentWithin, IsStanding}
 use Rattle.least_total.specs.Results.{CanPrint, FitText, IsAnswered, IsRecosted, IsSpentOverTotal, ShowsLeast}
@@ -24,7 +23,9 @@ use Rattle.least_total.proofs.LeastTotals.{best_within, kept_bounds}
 use Rattle.least_total.proofs.PrintedTotals.{shown_closed, shown_is, shown_spent}
 
 -- the printed kept tree shows the least total
-pub kept_shows : (p : DesignProblem) (top nodes cap least : ℕ) (t : TotalTree) (printed : PrintedTotal) → CanPrint p nodes cap → IsKeptBelow p top nodes cap least (Some t) → IsPrintedLast t printed → ShowsLeast p top nodes cap least (Tree printed.rows printed.tree)
+pub kept_shows : (p : DesignProblem) (top nodes cap least : ℕ) (t : TotalTree) (printed : PrintedTotal) →
+    CanPrint p nodes cap → IsKeptBelow p top nodes cap least (Some t) → IsPrintedLast t printed →
+    ShowsLeast p top nodes cap least (Tree printed.rows printed.tree)
 kept_shows p top nodes cap least t printed can kept last =
     let most = kept.0 in
     let refuted = kept.2 in
@@ -41,7 +42,8 @@ same_greatest : (p : DesignProblem) (old new : AnswerParts) (w : List ℕ) (cap 
 same_greatest p old new w cap is other = ap cap_in (sym is ∙ sym other.verdict ∙ other.tells)
 
 -- what a budget, a problem and its best costs' greatest can print
-pub can_print : (p : DesignProblem) (w : List ℕ) (nodes cap : ℕ) → IsKept p → IsBest p w → cap ≡ greatest_cost w → cap ≤ 65535 → nodes ≤ 10000000 → CanPrint p nodes cap
+can_print : (p : DesignProblem) (w : List ℕ) (nodes cap : ℕ) → IsKept p → IsBest p w → cap ≡ greatest_cost w →
+    cap ≤ 65535 → nodes ≤ 10000000 → CanPrint p nodes cap
 can_print p w nodes cap kept best same small budget = record {
   kept = kept;
   from_lows =
@@ -54,8 +56,23 @@ can_print p w nodes cap kept best same small budget = record {
   budget = budget;
 }
 
+-- an optimal answer from whose costs the rounds begin, and what they can print
+pub record Begins (p : DesignProblem) (nodes cap : ℕ) (old : AnswerParts) : Type 0 where
+  pub can : CanPrint p nodes cap
+  pub tells : old.verdict ≡ Optimal cap
+
+pub begins : (p : DesignProblem) (w seen : List ℕ) (nodes cap : ℕ) (old : AnswerParts) → IsKept p → IsBest p w →
+    old.verdict ≡ Optimal (greatest_cost w) → seen ≡ w → cap ≡ greatest_cost seen → cap ≤ 65535 → nodes ≤ 10000000 →
+    Begins p nodes cap old
+begins p w seen nodes cap old kept best tells seen_is cap_is small budget =
+    let same = cap_is ∙ ap greatest_cost seen_is in
+    record { can = can_print p w nodes cap kept best same small budget; tells = tells ∙ ap Optimal (sym same) }
+
 -- where no round is left
-pub least_answered : (p : DesignProblem) (top nodes cap : ℕ) (old answer : AnswerParts) (s : Standing) (sum : ℕ) (proof : TotalProof) → IsProblem p → old.verdict ≡ Optimal cap → IsStanding p top nodes cap s → s.total ≤ s.least → IsRecosted p old answer s.costs → sum ≡ s.total → ShowsLeast p top nodes cap s.least proof → IsAnswered p top nodes old (Least answer sum proof)
+pub least_answered : (p : DesignProblem) (top nodes cap : ℕ) (old answer : AnswerParts) (s : Standing) (sum : ℕ)
+    (proof : TotalProof) → IsProblem p → old.verdict ≡ Optimal cap → IsStanding p top nodes cap s → s.total ≤ s.least →
+    IsRecosted p old answer s.costs → sum ≡ s.total → ShowsLeast p top nodes cap s.least proof →
+    IsAnswered p top nodes old (Least answer sum proof)
 least_answered p top nodes cap old answer s sum proof problem is holds ended other sum_is shows =
     let w = s.costs in
     let same = same_greatest p old answer w cap is other in
@@ -74,7 +91,10 @@ least_answered p top nodes cap old answer s sum proof problem is holds ended oth
     )
 
 -- where a round has used the budget up
-pub unknown_answered : (p : DesignProblem) (top nodes cap : ℕ) (old answer : AnswerParts) (s : Standing) (sum most : ℕ) (t : TotalTree) (printed : PrintedTotal) → CanPrint p nodes cap → old.verdict ≡ Optimal cap → IsStanding p top nodes cap s → s.least ≤ most → most < s.total → IsSpentWithin p top nodes cap most t → IsRecosted p old answer s.costs → sum ≡ s.total → IsPrintedLast t printed →
+pub unknown_answered : (p : DesignProblem) (top nodes cap : ℕ) (old answer : AnswerParts) (s : Standing) (sum most : ℕ)
+    (t : TotalTree) (printed : PrintedTotal) → CanPrint p nodes cap → old.verdict ≡ Optimal cap →
+    IsStanding p top nodes cap s → s.least ≤ most → most < s.total → IsSpentWithin p top nodes cap most t →
+    IsRecosted p old answer s.costs → sum ≡ s.total → IsPrintedLast t printed →
     IsAnswered p top nodes old (Unknown answer sum most printed.rows printed.tree)
 unknown_answered p top nodes cap old answer s sum most t printed can is holds above below spent other sum_is last =
     let w = s.costs in
@@ -88,6 +108,7 @@ unknown_answered p top nodes cap old answer s sum most t printed can is holds ab
       omega arith,
       omega (arith, holds.total_is),
       shown.are_rows,
-      subst (λ (k : ℕ). IsSpentOverTotal p top nodes k most printed.rows.items printed.tree) same (record { printed = shown.printed; undone = counted.0; spent = counted.1 }),
+      subst (λ (k : ℕ). IsSpentOverTotal p top nodes k most printed.rows.items printed.tree) same
+          (record { printed = shown.printed; undone = counted.0; spent = counted.1 }),
       subst (λ (k : ℕ). FitText k printed.rows.items printed.tree) same shown.fits,
     )

@@ -1,26 +1,26 @@
 -- What trees and lower bounds say of totals.
-use Rattle.std.proofs.Common.{◌≡◌, ℕ, zero, suc, ◌+◌, ◌*◌, ◌^◌, ◌<◌, ◌≤◌, refl, sym, ◌∙◌, ap, subst, List, [], ◌∷◌, ◌++◌, map, length, fold, max, min, take, drop, arith, inl, inr}
+use Rattle.std.proofs.Common.{◌≡◌, ℕ, zero, suc, ◌+◌, ◌*◌, ◌<◌, ◌≤◌, refl, sym, ◌∙◌, subst, List, [], ◌∷◌, ◌++◌, length, min, take, drop, arith, inl, inr}
 use Rattle.std.specs.Prelude.{ℤ, pos, negsuc, ◌+ℤ◌, ◌*ℤ◌, ◌≤ℤ◌, All, Option, None, Some, slice_index, slice_index_or, replicate}
 use Rattle.std.specs.List.{sum}
 use Rattle.std.proofs.lemmas.Int.{ints}
 use Rattle.std.proofs.lemmas.Bool.{cases_lt}
-use Rattle.std.proofs.lemmas.List.{length-map, get_or-map, get_or_past}
-use Rattle.std.proofs.lemmas.List.Elements.{All-nil, All-cons, All-append, All-head, All-tail, All-map}
+use Rattle.std.proofs.lemmas.List.{length-map, get_or-map}
+use Rattle.std.proofs.lemmas.List.Elements.{All-nil, All-cons, All-head, All-tail}
 use Rattle.area_graph.specs.Costs.{at_costs}
-use Rattle.path_rows.specs.declared.form.CostBox.{CostBox}
 use Rattle.path_rows.specs.declared.form.Row.{Row}
 use Rattle.path_rows.specs.declared.tree.Entry.{Entry}
 use Rattle.path_rows.specs.Problems.{DesignProblem, IsProblem}
-use Rattle.path_rows.specs.Forms.{Form, Meets, dot, form_at, no_form, value, value_at}
+use Rattle.path_rows.specs.Forms.{Form, dot, form_at, value, value_at}
 use Rattle.path_rows.specs.Boxes.{IsInBox, capped}
-use Rattle.path_rows.specs.Rows.{IsBest, IsFit, IsRow, box_of, form_of_row, forms_of_rows, greatest_cost}
+use Rattle.path_rows.specs.Rows.{IsBest, IsFit, IsRow, box_of, forms_of_rows, greatest_cost}
 use Rattle.path_rows.specs.Trees.{IsClosed, IsSoundTree}
 use Rattle.path_rows.proofs.OpenPlaces.{earnest_tree_sound}
 use Rattle.path_rows.proofs.ProblemTrees.{fit_meets, le_greatest}
 use Rattle.path_rows.proofs.TreeLaws.{closed_tree_none}
+use Rattle.printed_rows.proofs.MetForms.{Met, meets_all}
 use Rattle.least_total.specs.declared.rounds.TotalTree.{TotalTree}
-use Rattle.least_total.specs.Totals.{HasLeastTotal, form_of_total, forms_within, total, total_form}
-use Rattle.least_total.specs.Bounded.{IsPlaceIn, forms_with_total, with_form}
+use Rattle.least_total.specs.Totals.{form_of_total, total}
+use Rattle.least_total.specs.Bounded.{forms_with_total, with_form}
 use Rattle.least_total.specs.BoundedLaws.{minus_sum, sum_more}
 use Rattle.least_total.specs.Rounds.{IsFitWithin, IsKeptBelow, IsRefutedWithin}
 
@@ -37,22 +37,6 @@ sum_le (l ∷ ls) (w ∷ ws) same below =
 -- fit costs have at least the total of the lower bounds
 pub from_lows : (p : DesignProblem) (w : List ℕ) → IsFit p w → total p.low ≤ total w
 from_lows p w fit = sum_le p.low w fit.within.low_count fit.within.above
-
-greatest_from : (w : List ℕ) (start most : ℕ) → start ≤ most → ((k : ℕ) → k < length w → slice_index w k ≤ most) → fold max start w ≤ most
-greatest_from [] start most first each = first
-greatest_from (x ∷ w) start most first each =
-    let here : x ≤ most = each 0 (omega arith) in
-    greatest_from w (max start x) most (omega arith) (λ k k_in. each (suc k) (omega arith))
-
--- costs of the box at a cap have a greatest cost within it
-pub within_cap : (box : CostBox) (cap : ℕ) (w : List ℕ) → IsInBox (capped box cap) w → greatest_cost w ≤ cap
-within_cap box cap w inside =
-    let count = length-map box.high (λ h. min h cap) in
-    greatest_from w 0 cap (omega arith)
-    (λ k k_in.
-    let cut = get_or-map (λ h. min h cap) box.high k 0 0 (omega (arith, inside.high_count)) in
-    let below = inside.below k k_in in
-    omega (arith, cut))
 
 -- and such costs lie in the box
 pub in_capped : (p : DesignProblem) (cap : ℕ) (w : List ℕ) → IsFitWithin p cap w → IsInBox (capped (box_of p) cap) w
@@ -87,15 +71,6 @@ total_small p most w count met = value_small most (sum w) (dot (replicate (lengt
 
 -- Trees that bound totals.
 
-abbrev Met : List ℕ → Form → Type 0
-Met w form = pos 0 ≤ℤ value form w
-
-meets_all : (forms : List Form) (w : List ℕ) → All (Met w) forms → Meets forms w
-meets_all forms w met row = elim (cases_lt row (length forms)) [
-  | inl row_in ↦ met row no_form row_in
-  | inr past ↦ subst (Met w) (sym (get_or_past forms row no_form past)) (omega (arith, ints))
-]
-
 rows_met : (p : DesignProblem) (rows : List Row) (w : List ℕ) → IsProblem p → All (IsRow p) rows → IsFit p w → All (Met w) (forms_of_rows p rows)
 rows_met p rows w kept true_rows fit k d k_in =
     let met = fit_meets p rows w kept true_rows fit k in
@@ -111,41 +86,35 @@ take_all_of P xs x zero all here = All-cons P x xs here all
 take_all_of P [] x (suc k) all here = All-cons P x [] here (All-nil P)
 take_all_of P (y ∷ xs) x (suc k) all here = All-cons P y (take k xs ++ x ∷ drop k xs) (All-head P y xs all) (take_all_of P xs x k (All-tail P y xs all) here)
 
-with_form_met : {X : Type 0} (P : X → Type 0) (xs : List X) (x : X) → (All P xs) → P x → All P (xs ++ x ∷ [])
-with_form_met P xs x all here = All-append P xs (x ∷ []) all (All-cons P x [] here (All-nil P))
-
 pub forms_met : (P : Form → Type 0) (fs : List Form) (f : Form) (before : Option ℕ) → All P fs → P f → All P (with_form before f fs)
 forms_met P fs f None all here = all
 forms_met P fs f (Some k) all here = take_all_of P fs f k all here
 
 -- a closed tree leaves no costs of the box that meet its forms
-pub none_left : (p : DesignProblem) (cap : ℕ) (forms : List Form) (tree : List Entry) (w : List ℕ) → IsSoundTree forms (capped (box_of p) cap) tree → IsClosed tree → IsFitWithin p cap w → All (Met w) forms → ⊥
+pub none_left : (p : DesignProblem) (cap : ℕ) (forms : List Form) (tree : List Entry) (w : List ℕ) →
+    IsSoundTree forms (capped (box_of p) cap) tree → IsClosed tree → IsFitWithin p cap w → All (Met w) forms → ⊥
 none_left p cap forms tree w sound closed fit met =
     closed_tree_none forms (capped (box_of p) cap) tree sound closed w (in_capped p cap w fit) (meets_all forms w met)
 
 -- a closed tree by the forms that were known: fit costs within the cap have a greater total than the bound
-pub refuted_bounds : (p : DesignProblem) (top nodes cap most : ℕ) (t : TotalTree) → IsProblem p → IsRefutedWithin p top nodes cap most t → (w : List ℕ) → IsFitWithin p cap w → most < total w
+pub refuted_bounds : (p : DesignProblem) (top nodes cap most : ℕ) (t : TotalTree) → IsProblem p →
+    IsRefutedWithin p top nodes cap most t → (w : List ℕ) → IsFitWithin p cap w → most < total w
 refuted_bounds p top nodes cap most t kept refuted w fit =
     elim (cases_lt most (total w)) [
       | inl above ↦ above
       | inr within ↦
           (let forms = forms_with_total p most t.rows.items t.before in
-          let met : All (Met w) forms = forms_met (Met w) (forms_of_rows p t.rows.items) (form_of_total p most) t.before (rows_met p t.rows.items w kept refuted.tree.placed.are_rows fit.0) (total_met p most w fit.0.within.low_count within) in
-          absurd (none_left p cap forms t.tree w (earnest_tree_sound _ top forms (capped (box_of p) cap) t.tree refuted.tree.tree.earnest) refuted.closed fit met))
-    ]
-
--- a printed closed tree says the same
-pub printed_bounds : (p : DesignProblem) (cap most : ℕ) (rows : List Row) (tree : List Entry) → IsProblem p → All (IsRow p) rows → IsSoundTree (forms_within p most rows) (capped (box_of p) cap) tree → IsClosed tree → (w : List ℕ) → IsFitWithin p cap w → most < total w
-printed_bounds p cap most rows tree kept true_rows sound closed w fit =
-    elim (cases_lt most (total w)) [
-      | inl above ↦ above
-      | inr within ↦
-          absurd (none_left p cap (forms_within p most rows) tree w sound closed fit
-          (with_form_met (Met w) (forms_of_rows p rows) (form_of_total p most) (rows_met p rows w kept true_rows fit.0) (total_met p most w fit.0.within.low_count within)))
+          let met : All (Met w) forms = forms_met (Met w) (forms_of_rows p t.rows.items) (form_of_total p most) t.before
+          (rows_met p t.rows.items w kept refuted.tree.placed.are_rows fit.0)
+          (total_met p most w fit.0.within.low_count within) in
+          absurd (none_left p cap forms t.tree w
+          (earnest_tree_sound _ top forms (capped (box_of p) cap) t.tree refuted.tree.tree.earnest)
+          refuted.closed fit met))
     ]
 
 -- what is kept bounds the total of fit costs within the cap
-pub kept_bounds : (p : DesignProblem) (top nodes cap least : ℕ) (kept : Option TotalTree) → IsProblem p → IsKeptBelow p top nodes cap least kept → (w : List ℕ) → IsFitWithin p cap w → least ≤ total w
+pub kept_bounds : (p : DesignProblem) (top nodes cap least : ℕ) (kept : Option TotalTree) → IsProblem p →
+    IsKeptBelow p top nodes cap least kept → (w : List ℕ) → IsFitWithin p cap w → least ≤ total w
 kept_bounds p top nodes cap least None problem floor w fit = let low = from_lows p w fit.0 in omega (arith, floor)
 kept_bounds p top nodes cap least (Some t) problem kept w fit =
     let above = refuted_bounds p top nodes cap kept.0 t problem kept.2 w fit in

@@ -1,12 +1,11 @@
 -- The parts of a Refute with those of one form behind the others: they refute what they refuted, and rise by their new numbers.
-use Rattle.std.proofs.Common.{◌≡◌, ◌≢◌, ℕ, zero, suc, ◌+◌, ◌-◌, ◌<◌, ◌≤◌, refl, sym, ◌∙◌, ap, subst, List, [], ◌∷◌, ◌++◌, map, length, length-append, append-nil, arith, Bool, true, false, not, cond, inl, inr, eqb}
+use Rattle.std.proofs.Common.{◌≡◌, ◌≢◌, ℕ, suc, ◌+◌, ◌-◌, ◌<◌, ◌≤◌, refl, sym, ◌∙◌, ap, subst, List, [], ◌∷◌, ◌++◌, map, length, length-append, append-nil, arith, Bool, true, false, not, cond, inl, inr, eqb}
 use Rattle.std.specs.Prelude.{ℤ, pos, ◌+ℤ◌, ◌*ℤ◌, ◌<ℤ◌, ◌==◌, ◌⊎◌, All, AllPairs, sum_by, slice_index_or, if◌then◌else◌}
-use Rattle.std.specs.List.{filter}
 use Rattle.std.proofs.lemmas.Int.{ints}
 use Rattle.std.proofs.lemmas.Bool.{cases_lt, eq-eqb, eqb-true, lt-ltb, le-ltb}
 use Rattle.std.proofs.lemmas.Bool.Decides.{eqb_tells}
 use Rattle.std.proofs.lemmas.List.{map-append}
-use Rattle.std.proofs.lemmas.List.Elements.{All-nil, All-cons, All-head, All-tail, All-filter, All-append, All-map, filter-append, filter_passes}
+use Rattle.std.proofs.lemmas.List.Elements.{All-head, All-tail, All-filter, All-append, All-map, filter_passes}
 use Rattle.std.proofs.lemmas.List.Kept.{AllPairs-filter, AllPairs-cons}
 use Rattle.std.proofs.lemmas.List.Quantifiers.{all_pairs_push}
 use Rattle.std.proofs.lemmas.List.Sums.{sum_by-append, sum_by-cons}
@@ -22,7 +21,10 @@ abbrev plus : Form → Form → Form
 plus f g = record { constant = f.constant +ℤ g.constant; coefficients = added f.coefficients g.coefficients }
 
 abbrev scaled : List Form → ℕ × ℕ → Form
-scaled forms part = record { constant = pos part.1 *ℤ (form_at forms part.0).constant; coefficients = map (λ c. pos part.1 *ℤ c) (form_at forms part.0).coefficients }
+scaled forms part = record {
+  constant = pos part.1 *ℤ (form_at forms part.0).constant;
+  coefficients = map (λ c. pos part.1 *ℤ c) (form_at forms part.0).coefficients;
+}
 
 abbrev form_with : ℤ → List ℤ → Form
 form_with c cs = record { constant = c; coefficients = cs }
@@ -71,7 +73,8 @@ weighted_append forms (x ∷ xs) ys =
     ap (plus (scaled forms x)) (weighted_append forms xs ys) ∙ sym (plus_assoc (scaled forms x) (weighted forms xs) (weighted forms ys))
 
 -- the weighted sum of the others and of the own is that of all
-weighted_split : (forms : List Form) (place : ℕ) (parts : List (ℕ × ℕ)) → plus (weighted forms (picked false place parts)) (weighted forms (picked true place parts)) ≡ weighted forms parts
+weighted_split : (forms : List Form) (place : ℕ) (parts : List (ℕ × ℕ)) →
+    plus (weighted forms (picked false place parts)) (weighted forms (picked true place parts)) ≡ weighted forms parts
 weighted_split forms place [] = plus_none no_form
 weighted_split forms place (part ∷ parts) = by_own (part.0 == place) ∙ ap (plus (scaled forms part)) (weighted_split forms place parts)
   where
@@ -81,7 +84,9 @@ weighted_split forms place (part ∷ parts) = by_own (part.0 == place) ∙ ap (p
     own : List (ℕ × ℕ)
     own = picked true place parts
 
-    by_own : (is : Bool) → plus (weighted forms (cond (not is) (part ∷ others) others)) (weighted forms (cond is (part ∷ own) own)) ≡ plus (scaled forms part) (plus (weighted forms others) (weighted forms own))
+    by_own : (is : Bool) → plus (weighted forms (cond (not is) (part ∷ others) others))
+        (weighted forms (cond is (part ∷ own) own))
+        ≡ plus (scaled forms part) (plus (weighted forms others) (weighted forms own))
     by_own true = plus_swap (weighted forms others) (scaled forms part) (weighted forms own)
     by_own false = plus_assoc (scaled forms part) (weighted forms others) (weighted forms own)
 
@@ -100,7 +105,8 @@ numbers_split f place (part ∷ parts) = by_own (part.0 == place) (numbers_split
     own : List (ℕ × ℕ)
     own = picked true place parts
 
-    by_own : (is : Bool) → sum_by f others + sum_by f own ≡ sum_by f parts → sum_by f (cond (not is) (part ∷ others) others) + sum_by f (cond is (part ∷ own) own) ≡ sum_by f (part ∷ parts)
+    by_own : (is : Bool) → sum_by f others + sum_by f own ≡ sum_by f parts →
+        sum_by f (cond (not is) (part ∷ others) others) + sum_by f (cond is (part ∷ own) own) ≡ sum_by f (part ∷ parts)
     by_own true rest = omega (arith, rest, sum_by-cons f part own, sum_by-cons f part parts)
     by_own false rest = omega (arith, rest, sum_by-cons f part others, sum_by-cons f part parts)
 
@@ -117,7 +123,8 @@ lengths_split place (part ∷ parts) = by_own (part.0 == place) (lengths_split p
     own : List (ℕ × ℕ)
     own = picked true place parts
 
-    by_own : (is : Bool) → length others + length own ≡ length parts → length (cond (not is) (part ∷ others) others) + length (cond is (part ∷ own) own) ≡ length (part ∷ parts)
+    by_own : (is : Bool) → length others + length own ≡ length parts →
+        length (cond (not is) (part ∷ others) others) + length (cond is (part ∷ own) own) ≡ length (part ∷ parts)
     by_own true rest = omega (arith, rest)
     by_own false rest = omega (arith, rest)
 
@@ -161,7 +168,8 @@ numbers_rise : (place others a b : ℕ) → a ≢ place → b ≢ place → a < 
 numbers_rise place others a b a_other b_other below = elim (cases_lt a place) [
   | inl a_before ↦ elim (cases_lt b place) [
     | inl b_before ↦ omega (arith, number_before place others a a_before, number_before place others b b_before)
-    | inr b_from ↦ (let b_behind : place < b = behind b b_other b_from in omega (arith, number_before place others a a_before, number_behind place others b b_behind))
+    | inr b_from ↦ (let b_behind : place < b = behind b b_other b_from in
+        omega (arith, number_before place others a a_before, number_behind place others b b_behind))
   ]
   | inr a_from ↦
       let a_behind : place < a = behind a a_other a_from in
@@ -199,7 +207,8 @@ pairs_tail : (x : ℕ × ℕ) (xs : List (ℕ × ℕ)) → AllPairs Rises (x ∷
 pairs_tail x xs pairs i j d before j_in = pairs (suc i) (suc j) d (omega arith) (omega (arith, j_in))
 
 -- the others rise by their new numbers
-others_rise : (place others : ℕ) (parts : List (ℕ × ℕ)) → All (λ part. part.0 ≢ place) parts → AllPairs Rises parts → AllPairs Rises (map (renumbered_part (moved_number place others)) parts)
+others_rise : (place others : ℕ) (parts : List (ℕ × ℕ)) → All (λ part. part.0 ≢ place) parts → AllPairs Rises parts →
+    AllPairs Rises (map (renumbered_part (moved_number place others)) parts)
 others_rise place others [] other pairs = λ i j d before j_in. absurd (omega (arith, j_in))
 others_rise place others (part ∷ parts) other pairs =
     let new : ℕ × ℕ → ℕ × ℕ = renumbered_part (moved_number place others) in
@@ -227,15 +236,18 @@ own_is : (place : ℕ) (parts : List (ℕ × ℕ)) → All (λ part. part.0 ≡ 
 own_is place parts k d k_in = eqb-true (slice_index_or (picked true place parts) k d).0 place (filter_passes (is_picked true place) parts k d k_in)
 
 -- with one own part, or none, all rise by their new numbers
-rise_with : (place others : ℕ) (first own : List (ℕ × ℕ)) → place ≤ others → All (λ part. part.0 ≢ place) first → All (λ part. part.0 ≤ others) first → AllPairs Rises first → All (λ part. part.0 ≡ place) own → AllPairs Rises own →
+rise_with : (place others : ℕ) (first own : List (ℕ × ℕ)) → place ≤ others → All (λ part. part.0 ≢ place) first →
+    All (λ part. part.0 ≤ others) first → AllPairs Rises first → All (λ part. part.0 ≡ place) own → AllPairs Rises own →
     AllPairs Rises (map (renumbered_part (moved_number place others)) (first ++ own))
 rise_with place others first [] within other known pairs own_are own_pairs =
-    subst (λ (ps : List (ℕ × ℕ)). AllPairs Rises (map (renumbered_part (moved_number place others)) ps)) (sym (append-nil first)) (others_rise place others first other pairs)
+    subst (λ (ps : List (ℕ × ℕ)). AllPairs Rises (map (renumbered_part (moved_number place others)) ps))
+    (sym (append-nil first)) (others_rise place others first other pairs)
 rise_with place others first (part ∷ []) within other known pairs own_are own_pairs =
     let new : ℕ × ℕ → ℕ × ℕ = renumbered_part (moved_number place others) in
     let own_here = All-head (λ (q : ℕ × ℕ). q.0 ≡ place) part [] own_are in
     let below : All (λ q. Rises q (new part)) (map new first) = All-map (λ q. Rises q (new part)) new first
-    (λ k d k_in. (let low = number_low place others (slice_index_or first k d).0 (other k d k_in) within (known k d k_in) in omega (arith, low, number_own place others part.0 own_here))) in
+    (λ k d k_in. (let low = number_low place others (slice_index_or first k d).0 (other k d k_in) within
+    (known k d k_in) in omega (arith, low, number_own place others part.0 own_here))) in
     subst (λ (ps : List (ℕ × ℕ)). AllPairs Rises ps) (sym (map-append new first (part ∷ [])))
     (all_pairs_push Rises (map new first) (new part) (others_rise place others first other pairs) below)
 rise_with place others first (part ∷ next ∷ own) within other known pairs own_are own_pairs =
@@ -245,28 +257,35 @@ rise_with place others first (part ∷ next ∷ own) within other known pairs ow
     absurd (omega (arith, one, two, less))
 
 -- the parts rise again
-pub rising_last : (place others : ℕ) (parts : List (ℕ × ℕ)) → place ≤ others → All (λ part. part.0 ≤ others) parts → AllPairs (λ a b. a.0 < b.0) parts → AllPairs (λ a b. a.0 < b.0) (map (renumbered_part (moved_number place others)) (put_last place parts))
+pub rising_last : (place others : ℕ) (parts : List (ℕ × ℕ)) → place ≤ others → All (λ part. part.0 ≤ others) parts →
+    AllPairs (λ a b. a.0 < b.0) parts →
+    AllPairs (λ a b. a.0 < b.0) (map (renumbered_part (moved_number place others)) (put_last place parts))
 rising_last place others parts within known rising =
-    rise_with place others (picked false place parts) (picked true place parts) within (others_differ place parts) (All-filter (is_picked false place) (λ part. part.0 ≤ others) parts known)
+    rise_with place others (picked false place parts) (picked true place parts) within (others_differ place parts)
+    (All-filter (is_picked false place) (λ part. part.0 ≤ others) parts known)
     (AllPairs-filter Rises (is_picked false place) parts rising) (own_is place parts) (AllPairs-filter Rises (is_picked true place) parts rising)
 
 -- One part more.
 
-pub picked_more : (own : Bool) (place : ℕ) (parts : List (ℕ × ℕ)) (part : ℕ × ℕ) → picked own place (parts ++ part ∷ []) ≡ picked own place parts ++ cond (is_picked own place part) (part ∷ []) []
-picked_more own place parts part = filter-append (is_picked own place) parts (part ∷ [])
-
-pub positive_last : (place others : ℕ) (parts : List (ℕ × ℕ)) → All (λ part. 0 < part.1) parts → All (λ part. 0 < part.1) (map (renumbered_part (moved_number place others)) (put_last place parts))
+pub positive_last : (place others : ℕ) (parts : List (ℕ × ℕ)) → All (λ part. 0 < part.1) parts →
+    All (λ part. 0 < part.1) (map (renumbered_part (moved_number place others)) (put_last place parts))
 positive_last place others parts positive =
-    All-map (λ (part : ℕ × ℕ). 0 < part.1) (renumbered_part (moved_number place others)) (put_last place parts) (all_last (λ (part : ℕ × ℕ). 0 < part.1) place parts positive)
+    All-map (λ (part : ℕ × ℕ). 0 < part.1) (renumbered_part (moved_number place others)) (put_last place parts)
+    (all_last (λ (part : ℕ × ℕ). 0 < part.1) place parts positive)
 
 -- parts by their new numbers
 abbrev pub new_parts : ℕ → ℕ → List (ℕ × ℕ) → List (ℕ × ℕ)
 new_parts place others parts = map (renumbered_part (moved_number place others)) parts
 
 -- pairs that were put one after another
-pub pairs_are : (place others : ℕ) (parts seen again first middle last : List (ℕ × ℕ)) → seen ≡ parts → again ≡ parts → first ≡ [] → middle ≡ first ++ new_parts place others (picked false place seen) → last ≡ middle ++ new_parts place others (picked true place again) → last ≡ new_parts place others (put_last place parts)
+pub pairs_are : (place others : ℕ) (parts seen again first middle last : List (ℕ × ℕ)) → seen ≡ parts → again ≡ parts →
+    first ≡ [] → middle ≡ first ++ new_parts place others (picked false place seen) →
+    last ≡ middle ++ new_parts place others (picked true place again) →
+    last ≡ new_parts place others (put_last place parts)
 pairs_are place others parts seen again first middle last seen_is again_is none middle_is last_is =
-    let others_are : middle ≡ new_parts place others (picked false place parts) = middle_is ∙ ap (λ (ps : List (ℕ × ℕ)). ps ++ new_parts place others (picked false place seen)) none ∙ ap (λ (ps : List (ℕ × ℕ)). new_parts place others (picked false place ps)) seen_is in
+    let others_are : middle ≡ new_parts place others (picked false place parts) = middle_is
+    ∙ ap (λ (ps : List (ℕ × ℕ)). ps ++ new_parts place others (picked false place seen)) none
+    ∙ ap (λ (ps : List (ℕ × ℕ)). new_parts place others (picked false place ps)) seen_is in
     last_is
     ∙ ap (λ (ps : List (ℕ × ℕ)). ps ++ new_parts place others (picked true place again)) others_are
     ∙ ap (λ (ps : List (ℕ × ℕ)). new_parts place others (picked false place parts) ++ new_parts place others (picked true place ps)) again_is

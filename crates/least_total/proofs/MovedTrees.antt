@@ -28,7 +28,8 @@ sound_last forms place box (Halve var value wide) sound = sound
 sound_last forms place box (Refute parts) sound = refutes_last forms place parts box sound
 sound_last forms place box Undone sound = tt
 
-earnest_last : (accepts : Point → Type 0) (top : ℕ) (forms : List Form) (place : ℕ) (here : Place) (entry : Entry) → EarnestAt accepts top forms here entry → EarnestAt accepts top forms here (with_last place entry)
+earnest_last : (accepts : Point → Type 0) (top : ℕ) (forms : List Form) (place : ℕ) (here : Place) (entry : Entry) →
+    EarnestAt accepts top forms here entry → EarnestAt accepts top forms here (with_last place entry)
 earnest_last accepts top forms place here (Tighten var side value row) earnest = earnest
 earnest_last accepts top forms place here (Split var value) earnest = earnest
 earnest_last accepts top forms place here (Halve var value wide) earnest = earnest
@@ -42,7 +43,9 @@ same_places place here (Halve var value wide) = refl
 same_places place here (Refute parts) = refl
 same_places place here Undone = refl
 
-tree_last : (accepts : Point → Type 0) (top : ℕ) (forms : List Form) (place : ℕ) (places : List Place) (entries : List Entry) → Earnest accepts top forms places entries → Earnest accepts top forms places (map (with_last place) entries)
+tree_last : (accepts : Point → Type 0) (top : ℕ) (forms : List Form) (place : ℕ) (places : List Place)
+    (entries : List Entry) → Earnest accepts top forms places entries →
+    Earnest accepts top forms places (map (with_last place) entries)
 tree_last accepts top forms place [] [] earnest = tt
 tree_last accepts top forms place (p ∷ places) [] earnest = absurd earnest
 tree_last accepts top forms place [] (e ∷ entries) earnest = absurd earnest
@@ -76,7 +79,8 @@ get_own fs f zero within = refl
 get_own [] f (suc place) within = absurd (omega arith)
 get_own (g ∷ fs) f (suc place) within = get_own fs f place (omega arith)
 
-get_behind : (fs : List Form) (f : Form) (place row : ℕ) → place ≤ length fs → place ≤ row → form_at (take place fs ++ f ∷ drop place fs) (suc row) ≡ form_at fs row
+get_behind : (fs : List Form) (f : Form) (place row : ℕ) → place ≤ length fs → place ≤ row →
+    form_at (take place fs ++ f ∷ drop place fs) (suc row) ≡ form_at fs row
 get_behind fs f zero row within behind = refl
 get_behind [] f (suc place) row within behind = absurd (omega arith)
 get_behind (g ∷ fs) f (suc place) zero within behind = absurd (omega arith)
@@ -87,7 +91,9 @@ with_count fs f zero within = omega arith
 with_count [] f (suc place) within = absurd (omega arith)
 with_count (g ∷ fs) f (suc place) within = let rest = with_count fs f place (omega arith) in omega arith
 
-move_kept : (fs : List Form) (f : Form) (place row : ℕ) → place ≤ length fs → row < length fs + 1 → (moved_number place (length fs) row < length fs + 1) × (form_at (fs ++ f ∷ []) (moved_number place (length fs) row) ≡ form_at (take place fs ++ f ∷ drop place fs) row)
+move_kept : (fs : List Form) (f : Form) (place row : ℕ) → place ≤ length fs → row < length fs + 1 →
+    (moved_number place (length fs) row < length fs + 1)
+    × (form_at (fs ++ f ∷ []) (moved_number place (length fs) row) ≡ form_at (take place fs ++ f ∷ drop place fs) row)
 move_kept fs f place row within known = elim (cases_lt row place) [
   | inl before ↦
       let number = number_before place (length fs) row before in
@@ -95,25 +101,39 @@ move_kept fs f place row within known = elim (cases_lt row place) [
   | inr from ↦ by_from (cases_lt place row) from
 ]
   where
-    at_behind : (r : ℕ) → row ≡ suc r → place ≤ r → (moved_number place (length fs) row < length fs + 1) × (form_at (fs ++ f ∷ []) (moved_number place (length fs) row) ≡ form_at (take place fs ++ f ∷ drop place fs) row)
+    at_behind : (r : ℕ) → row ≡ suc r → place ≤ r → (moved_number place (length fs) row < length fs + 1)
+        × (form_at (fs ++ f ∷ []) (moved_number place (length fs) row)
+        ≡ form_at (take place fs ++ f ∷ drop place fs) row)
     at_behind r same behind =
-        let number : moved_number place (length fs) row ≡ r = number_behind place (length fs) row (omega arith) ∙ omega arith in
-        (omega (arith, number), ap (form_at (fs ++ f ∷ [])) number ∙ get_first fs (f ∷ []) r (omega arith) ∙ sym (get_behind fs f place r within behind) ∙ ap (form_at (take place fs ++ f ∷ drop place fs)) (sym same))
+        let number : moved_number place (length fs) row ≡ r = number_behind place (length fs) row (omega arith) ∙ omega arith in (
+          omega (arith, number),
+          ap (form_at (fs ++ f ∷ [])) number ∙ get_first fs (f ∷ []) r (omega arith)
+              ∙ sym (get_behind fs f place r within behind)
+              ∙ ap (form_at (take place fs ++ f ∷ drop place fs)) (sym same),
+        )
 
-    by_from : (place < row) ⊎ (row ≤ place) → place ≤ row → (moved_number place (length fs) row < length fs + 1) × (form_at (fs ++ f ∷ []) (moved_number place (length fs) row) ≡ form_at (take place fs ++ f ∷ drop place fs) row)
+    by_from : (place < row) ⊎ (row ≤ place) → place ≤ row → (moved_number place (length fs) row < length fs + 1)
+        × (form_at (fs ++ f ∷ []) (moved_number place (length fs) row)
+        ≡ form_at (take place fs ++ f ∷ drop place fs) row)
     by_from (inl behind) from = at_behind (row - 1) (omega arith) (omega arith)
     by_from (inr not_behind) from =
         let same : row ≡ place = omega arith in
-        let number = number_own place (length fs) row same in
-        (omega (arith, number), ap (form_at (fs ++ f ∷ [])) number ∙ get_last fs f ∙ sym (get_own fs f place within) ∙ ap (form_at (take place fs ++ f ∷ drop place fs)) (sym same))
+        let number = number_own place (length fs) row same in (
+          omega (arith, number),
+          ap (form_at (fs ++ f ∷ [])) number ∙ get_last fs f ∙ sym (get_own fs f place within)
+              ∙ ap (form_at (take place fs ++ f ∷ drop place fs)) (sym same),
+        )
 
-keeps_moved : (fs : List Form) (f : Form) (place : ℕ) → place ≤ length fs → KeepsForms (moved_number place (length fs)) (take place fs ++ f ∷ drop place fs) (fs ++ f ∷ [])
+keeps_moved : (fs : List Form) (f : Form) (place : ℕ) → place ≤ length fs →
+    KeepsForms (moved_number place (length fs)) (take place fs ++ f ∷ drop place fs) (fs ++ f ∷ [])
 keeps_moved fs f place within = record {
-  known = λ row row_in. let here = (move_kept fs f place row within (omega (arith, with_count fs f place within))).0 in omega (arith, length-append fs (f ∷ []));
+  known = λ row row_in. let here = (move_kept fs f place row within (omega (arith, with_count fs f place within))).0 in
+      omega (arith, length-append fs (f ∷ []));
   same = λ row row_in. (move_kept fs f place row within (omega (arith, with_count fs f place within))).1;
 }
 
-moved_twice : (place others : ℕ) (entries : List Entry) → map (renumbered (moved_number place others)) (map (with_last place) entries) ≡ map (moved place others) entries
+moved_twice : (place others : ℕ) (entries : List Entry) →
+    map (renumbered (moved_number place others)) (map (with_last place) entries) ≡ map (moved place others) entries
 moved_twice place others [] = refl
 moved_twice place others (e ∷ entries) = ap (λ (es : List Entry). moved place others e ∷ es) (moved_twice place others entries)
 
@@ -135,8 +155,11 @@ moved_closed place others [] closed = tt
 moved_closed place others (e ∷ tree) closed = (same_undone place others e ∙ closed.0, moved_closed place others tree closed.1)
 
 pub moved_undone : (place others : ℕ) (tree : List Entry) → Contains tree Undone → Contains (map (moved place others) tree) Undone
-moved_undone place others tree has =
-    (has.0, omega (arith, length-map tree (moved place others), has.1), get_or-map (moved place others) tree has.0 Undone Undone has.1 ∙ ap (moved place others) has.2)
+moved_undone place others tree has = (
+  has.0,
+  omega (arith, length-map tree (moved place others), has.1),
+  get_or-map (moved place others) tree has.0 Undone Undone has.1 ∙ ap (moved place others) has.2,
+)
 
 undones_moved : (place others n : ℕ) → map (moved place others) (undones n) ≡ undones n
 undones_moved place others zero = refl
@@ -177,16 +200,21 @@ moved_short place others n (Refute parts) short =
 moved_short place others n Undone short = short
 
 -- a search's tree over the forms with one at a place is one over these forms with that one behind them
-pub moved_tree : (accepts : Point → Type 0) (top : ℕ) (fs : List Form) (f : Form) (place : ℕ) (box : CostBox) (tree : List Entry) → place ≤ length fs → IsSearchTree accepts top (take place fs ++ f ∷ drop place fs) box tree → IsSearchTree accepts top (fs ++ f ∷ []) box (map (moved place (length fs)) tree)
+pub moved_tree : (accepts : Point → Type 0) (top : ℕ) (fs : List Form) (f : Form) (place : ℕ) (box : CostBox)
+    (tree : List Entry) → place ≤ length fs → IsSearchTree accepts top (take place fs ++ f ∷ drop place fs) box tree →
+    IsSearchTree accepts top (fs ++ f ∷ []) box (map (moved place (length fs)) tree)
 moved_tree accepts top fs f place box tree within holds =
     let old = take place fs ++ f ∷ drop place fs in
     let places : List Place = record { box = box; since = [] } ∷ [] in
     record {
       earnest =
           subst (λ (es : List Entry). Earnest accepts top (fs ++ f ∷ []) places es) (moved_twice place (length fs) tree)
-          (renumbered_tree (moved_number place (length fs)) old (fs ++ f ∷ []) accepts top places (map (with_last place) tree) (keeps_moved fs f place within) (tree_last accepts top old place places tree holds.earnest));
+          (renumbered_tree (moved_number place (length fs)) old (fs ++ f ∷ []) accepts top places
+          (map (with_last place) tree) (keeps_moved fs f place within)
+          (tree_last accepts top old place places tree holds.earnest));
       last = moved_last place (length fs) tree holds.last;
-      short = All-map (IsShort (length box.low)) (moved place (length fs)) tree (λ k d k_in. moved_short place (length fs) (length box.low) (slice_index_or tree k d) (holds.short k d k_in));
+      short = All-map (IsShort (length box.low)) (moved place (length fs)) tree
+          (λ k d k_in. moved_short place (length fs) (length box.low) (slice_index_or tree k d) (holds.short k d k_in));
     }
 
 same_subtrees : (place others : ℕ) (entry : Entry) → subtree_count (moved place others entry) ≡ subtree_count entry
@@ -202,4 +230,5 @@ moved_whole place others zero [] whole = tt
 moved_whole place others (suc n) [] whole = absurd whole
 moved_whole place others zero (e ∷ entries) whole = absurd whole
 moved_whole place others (suc n) (e ∷ entries) whole =
-    subst (λ (k : ℕ). WholeTrees (k + n) (map (moved place others) entries)) (sym (same_subtrees place others e)) (moved_whole place others (subtree_count e + n) entries whole)
+    subst (λ (k : ℕ). WholeTrees (k + n) (map (moved place others) entries)) (sym (same_subtrees place others e))
+    (moved_whole place others (subtree_count e + n) entries whole)

@@ -1,20 +1,21 @@
 -- The answer with other costs is valid again, and its text is in the grammar.
-use Rattle.std.proofs.Common.{◌≡◌, ℕ, ◌+◌, ◌<◌, ◌≤◌, refl, sym, ◌∙◌, ap, subst, List, [], ◌∷◌, ◌++◌, map, length, arith}
+use Rattle.std.proofs.Common.{◌≡◌, ℕ, ◌+◌, ◌≤◌, refl, sym, ◌∙◌, ap, subst, List, [], ◌∷◌, ◌++◌, map, length, arith}
 use Rattle.std.specs.Prelude.{All, Option, None, Some, codes, replicate}
 use Rattle.std.specs.List.{AllZip}
-use Rattle.std.proofs.lemmas.List.Elements.{All-nil, All-cons, All-append, All-head, All-tail, All-from_get_or}
+use Rattle.std.proofs.lemmas.List.Elements.{All-append}
 use Rattle.cost_base.specs.Decimal.{decimal}
+use Rattle.cost_base.proofs.ListLemmas.{All-left, All-right}
 use Rattle.path_rows.specs.declared.problem.VarName.{VarName}
 use Rattle.path_rows.specs.declared.answer.CapTree.{CapTree}
 use Rattle.path_rows.specs.declared.answer.CostLine.{CostLine}
 use Rattle.path_rows.specs.declared.answer.Costs.{Costs}
 use Rattle.path_rows.specs.declared.answer.Floor.{Floor}
 use Rattle.path_rows.specs.declared.answer.Verdict.{Verdict}
-use Rattle.path_rows.specs.declared.answer.Verdict.TheVariants.{Optimal, Impossible, Budget}
+use Rattle.path_rows.specs.declared.answer.Verdict.TheVariants.{Optimal}
 use Rattle.path_rows.specs.declared.form.Row.{Row}
 use Rattle.path_rows.specs.Problems.{DesignProblem, IsProblem}
-use Rattle.path_rows.specs.Rows.{IsBest, IsFit, greatest_cost}
-use Rattle.path_rows.specs.Answers.{AnswerParts, ClaimHolds, GivesCosts, IsValid, Names, ShowsLeast}
+use Rattle.path_rows.specs.Rows.{IsBest, greatest_cost}
+use Rattle.path_rows.specs.Answers.{AnswerParts, ClaimHolds, GivesCosts, IsValid, lines_in}
 use Rattle.path_rows.specs.ProblemLaws.{GivesBest, IsTrueVerdict}
 use Rattle.path_rows.proofs.ProblemTrees.{valid_holds}
 use Rattle.evidence_checker.specs.Tests.{costs_given, written}
@@ -22,7 +23,7 @@ use Rattle.evidence_checker.proofs.CostLaws.{names_written}
 use Rattle.path_rows.specs.Text.{IsAnswer, costs_lines, floor_word, row_line, spaced, tree_lines, verdict_words}
 use Rattle.printed_rows.specs.PrintedCosts.{ArePrintedCosts}
 use Rattle.printed_rows.proofs.AnswerLines.{costs_fit, costs_short}
-use Rattle.least_total.specs.Given.{AreGiven, lines_in}
+use Rattle.least_total.specs.Given.{AreGiven}
 use Rattle.least_total.specs.Rounds.{IsFitWithin}
 use Rattle.least_total.specs.Results.{IsRecosted}
 
@@ -37,24 +38,30 @@ zip_length R (x ∷ xs) [] zip = absurd zip
 zip_length R (x ∷ xs) (y ∷ ys) zip = let rest = zip_length R xs ys zip.1 in omega arith
 
 -- as many lines as free interfaces
-pub lines_counted : (p : DesignProblem) (a : AnswerParts) (k : ℕ) → IsProblem p → IsValid p a → a.verdict ≡ Optimal k → length p.vars ≡ length (lines_in a.costs)
+pub lines_counted : (p : DesignProblem) (a : AnswerParts) (k : ℕ) → IsProblem p → IsValid p a → a.verdict ≡ Optimal k →
+    length p.vars ≡ length (lines_in a.costs)
 lines_counted p a k problem valid is =
     let gives = gives_best p a k problem valid is in
     zip_length _ p.vars gives.costs.lines gives.names ∙ ap (λ (o : Option Costs). length (lines_in o)) (sym gives.is_printed)
 
 -- costs that are written by the lines of a problem's interfaces
-pub given_by : (p : DesignProblem) (lows : List ℕ) (names : List VarName) (lines others : List CostLine) → lows ≡ p.low → names ≡ p.vars → lines ≡ others → written (replicate (length lows) 0) names lines ≡ costs_given p others
+pub given_by : (p : DesignProblem) (lows : List ℕ) (names : List VarName) (lines others : List CostLine) →
+    lows ≡ p.low → names ≡ p.vars → lines ≡ others →
+    written (replicate (length lows) 0) names lines ≡ costs_given p others
 given_by p lows names lines others lows_are names_are lines_are =
     ap (λ (ls : List ℕ). written (replicate (length ls) 0) names lines) lows_are
     ∙ ap (λ (ns : List VarName). written (replicate (length p.low) 0) ns lines) names_are
     ∙ ap (λ (ls : List CostLine). written (replicate (length p.low) 0) p.vars ls) lines_are
 
 -- the costs that the lines give are best
-pub given_are : (p : DesignProblem) (a : AnswerParts) (k : ℕ) (w : List ℕ) → IsProblem p → IsValid p a → a.verdict ≡ Optimal k → w ≡ costs_given p (lines_in a.costs) → AreGiven p a w
+pub given_are : (p : DesignProblem) (a : AnswerParts) (k : ℕ) (w : List ℕ) → IsProblem p → IsValid p a →
+    a.verdict ≡ Optimal k → w ≡ costs_given p (lines_in a.costs) → AreGiven p a w
 given_are p a k w problem valid is given =
     let gives = gives_best p a k problem valid is in
     let same : w ≡ gives.values =
-    given ∙ ap (λ (o : Option Costs). costs_given p (lines_in o)) gives.is_printed ∙ names_written p gives.costs.lines gives.values problem.each_named gives.best.fit.within.low_count gives.names in
+    given ∙ ap (λ (o : Option Costs). costs_given p (lines_in o)) gives.is_printed
+    ∙ names_written p gives.costs.lines gives.values problem.each_named gives.best.fit.within.low_count
+    gives.names in
     record {
       best = subst (IsBest p) (sym same) gives.best;
       verdict = is ∙ ap Optimal (sym gives.greatest ∙ ap greatest_cost (sym same));
@@ -73,21 +80,37 @@ fit_best p k costs w gives fit =
     )
 
 -- a claim with other costs
-claim_again : (p : DesignProblem) (rows : List Row) (v : Verdict) (k : ℕ) (costs : Option Costs) (floor : Floor) (proof : Option CapTree) (new : Costs) → v ≡ Optimal k → GivesCosts p k new → ClaimHolds p rows v costs floor proof → ClaimHolds p rows v (Some new) floor proof
+claim_again : (p : DesignProblem) (rows : List Row) (v : Verdict) (k : ℕ) (costs : Option Costs) (floor : Floor)
+    (proof : Option CapTree) (new : Costs) → v ≡ Optimal k → GivesCosts p k new →
+    ClaimHolds p rows v costs floor proof → ClaimHolds p rows v (Some new) floor proof
 claim_again p rows v k costs floor proof new is gives claim =
-    subst (λ (u : Verdict). ClaimHolds p rows u (Some new) floor proof) (sym is) (by_costs costs (subst (λ (u : Verdict). ClaimHolds p rows u costs floor proof) is claim))
+    subst (λ (u : Verdict). ClaimHolds p rows u (Some new) floor proof) (sym is)
+    (by_costs costs (subst (λ (u : Verdict). ClaimHolds p rows u costs floor proof) is claim))
   where
     by_costs : (c : Option Costs) → ClaimHolds p rows (Optimal k) c floor proof → ClaimHolds p rows (Optimal k) (Some new) floor proof
     by_costs (Some old) holds = (gives, holds.1)
     by_costs None holds = absurd holds
 
-pub recosted_is : (p : DesignProblem) (a : AnswerParts) (k : ℕ) (w : List ℕ) (new : Costs) → IsProblem p → IsValid p a → a.verdict ≡ Optimal k → IsFitWithin p k w → ArePrintedCosts p w new → IsRecosted p a (record { verdict = a.verdict; costs = Some new; floor = a.floor; rows = a.rows; proof = a.proof; unfinished = a.unfinished }) w
+pub recosted_is : (p : DesignProblem) (a : AnswerParts) (k : ℕ) (w : List ℕ) (new : Costs) → IsProblem p → IsValid p a →
+    a.verdict ≡ Optimal k → IsFitWithin p k w → ArePrintedCosts p w new →
+    IsRecosted p a (record {
+      verdict = a.verdict;
+      costs = Some new;
+      floor = a.floor;
+      rows = a.rows;
+      proof = a.proof;
+      unfinished = a.unfinished;
+    }) w
 recosted_is p a k w new problem valid is fit printed =
     let gives = gives_best p a k problem valid is in
     let both = fit_best p k a.costs w gives fit in
     let given : GivesCosts p k new = record { values = w; names = printed.names; fit = fit.0; greatest = both.0; printed = printed.greatest ∙ both.0 } in
     record {
-      valid = record { rows = valid.rows; finished = valid.finished; claim = claim_again p a.rows a.verdict k a.costs a.floor a.proof new is given valid.claim };
+      valid = record {
+        rows = valid.rows;
+        finished = valid.finished;
+        claim = claim_again p a.rows a.verdict k a.costs a.floor a.proof new is given valid.claim;
+      };
       best = both.1;
       costs = new;
       printed = refl;
@@ -99,46 +122,40 @@ recosted_is p a k w new problem valid is fit printed =
       proof = refl;
     }
 
--- fit costs are from 1 on, one for each variable
-pub costs_positive : (p : DesignProblem) (w : List ℕ) → IsProblem p → IsFit p w → All (λ cost. 1 ≤ cost) w
-costs_positive p w problem fit =
-    All-from_get_or (λ cost. 1 ≤ cost) w 0
-    (λ k k_in.
-    let above = fit.within.above k k_in in
-    let low = (problem.ordered k (omega (arith, fit.within.low_count))).0 in
-    omega arith)
-
 -- The text of the answer with other costs.
 
 abbrev IsShort : List ℕ → Type 0
 IsShort line = length line ≤ 65536
 
-all_left : {X : Type 0} (P : X → Type 0) (xs ys : List X) → All P (xs ++ ys) → All P xs
-all_left P [] ys all = All-nil P
-all_left P (x ∷ xs) ys all = All-cons P x xs (All-head P x (xs ++ ys) all) (all_left P xs ys (All-tail P x (xs ++ ys) all))
-
-all_right : {X : Type 0} (P : X → Type 0) (xs ys : List X) → All P (xs ++ ys) → All P ys
-all_right P [] ys all = all
-all_right P (x ∷ xs) ys all = all_right P xs ys (All-tail P x (xs ++ ys) all)
-
 -- lines between others that are changed for short ones
-lines_between : (first second third fourth fifth last other : List (List ℕ)) → All IsShort (first ++ second ++ third ++ fourth ++ fifth ++ last) → All IsShort other → All IsShort (first ++ other ++ third ++ fourth ++ fifth ++ last)
+lines_between : (first second third fourth fifth last other : List (List ℕ)) →
+    All IsShort (first ++ second ++ third ++ fourth ++ fifth ++ last) → All IsShort other →
+    All IsShort (first ++ other ++ third ++ fourth ++ fifth ++ last)
 lines_between first second third fourth fifth last other all short =
-    let a = all_left IsShort (first ++ second ++ third ++ fourth ++ fifth) last all in
-    let b = all_left IsShort (first ++ second ++ third ++ fourth) fifth a in
-    let c = all_left IsShort (first ++ second ++ third) fourth b in
-    let d = all_left IsShort (first ++ second) third c in
+    let a = All-left IsShort (first ++ second ++ third ++ fourth ++ fifth) last all in
+    let b = All-left IsShort (first ++ second ++ third ++ fourth) fifth a in
+    let c = All-left IsShort (first ++ second ++ third) fourth b in
+    let d = All-left IsShort (first ++ second) third c in
     All-append IsShort (first ++ other ++ third ++ fourth ++ fifth) last
     (All-append IsShort (first ++ other ++ third ++ fourth) fifth
     (All-append IsShort (first ++ other ++ third) fourth
     (All-append IsShort (first ++ other) third
-    (All-append IsShort first other (all_left IsShort first second d) short)
-    (all_right IsShort (first ++ second) third c))
-    (all_right IsShort (first ++ second ++ third) fourth b))
-    (all_right IsShort (first ++ second ++ third ++ fourth) fifth a))
-    (all_right IsShort (first ++ second ++ third ++ fourth ++ fifth) last all)
+    (All-append IsShort first other (All-left IsShort first second d) short)
+    (All-right IsShort (first ++ second) third c))
+    (All-right IsShort (first ++ second ++ third) fourth b))
+    (All-right IsShort (first ++ second ++ third ++ fourth) fifth a))
+    (All-right IsShort (first ++ second ++ third ++ fourth ++ fifth) last all)
 
-pub recosted_kept : (p : DesignProblem) (a : AnswerParts) (w : List ℕ) (new : Costs) → IsAnswer a → ArePrintedCosts p w new → IsAnswer (record { verdict = a.verdict; costs = Some new; floor = a.floor; rows = a.rows; proof = a.proof; unfinished = a.unfinished })
+pub recosted_kept : (p : DesignProblem) (a : AnswerParts) (w : List ℕ) (new : Costs) → IsAnswer a →
+    ArePrintedCosts p w new → IsAnswer
+    (record {
+      verdict = a.verdict;
+      costs = Some new;
+      floor = a.floor;
+      rows = a.rows;
+      proof = a.proof;
+      unfinished = a.unfinished;
+    })
 recosted_kept p a w new kept printed = record {
   costs = costs_fit (Some new) (printed.named, printed.small);
   proof = kept.proof;

@@ -14,7 +14,9 @@ value_below most scale s d same over = let product : (pos most *ℤ pos scale) �
 value_from : (most scale s : ℕ) (d : ℤ) → (d +ℤ pos s) ≡ pos 0 → s ≤ most * scale → pos 0 ≤ℤ ((pos most *ℤ pos scale) +ℤ d)
 value_from most scale s d same within = let product : (pos most *ℤ pos scale) ≡ pos (most * scale) = refl in omega (arith, ints, product)
 
-pub over_tells : (point : Point) (most wide sum : ℕ) → wide ≡ most → sum ≡ total point.values → MatchBool (nat_lt (wide * point.scale) sum) (value_at (total_form (length point.values) most) point <ℤ pos 0) (pos 0 ≤ℤ value_at (total_form (length point.values) most) point)
+pub over_tells : (point : Point) (most wide sum : ℕ) → wide ≡ most → sum ≡ total point.values →
+    MatchBool (nat_lt (wide * point.scale) sum) (value_at (total_form (length point.values) most) point <ℤ pos 0)
+    (pos 0 ≤ℤ value_at (total_form (length point.values) most) point)
 over_tells point most wide sum same sum_is =
     let n = length point.values in
     let d = dot (replicate n (negsuc 0)) point.values in

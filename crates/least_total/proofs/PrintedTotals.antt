@@ -8,20 +8,17 @@ use Rattle.area_graph.specs.declared.Point.{Point}
 use Rattle.path_rows.specs.declared.form.CostBox.{CostBox}
 use Rattle.path_rows.specs.declared.form.Row.{Row}
 use Rattle.path_rows.specs.declared.tree.Entry.{Entry}
-use Rattle.path_rows.specs.declared.tree.Entry.TheVariants.{Tighten, Split, Halve, Refute, Undone}
-use Rattle.path_rows.specs.declared.tree.Member.{Member}
-use Rattle.path_rows.specs.declared.tree.Member.TheVariants.{Low, High, Row as ByRow}
+use Rattle.path_rows.specs.declared.tree.Entry.TheVariants.{Undone}
 use Rattle.path_rows.specs.Problems.{DesignProblem}
 use Rattle.path_rows.specs.Forms.{Form, form_at, no_form}
 use Rattle.path_rows.specs.Boxes.{capped}
 use Rattle.path_rows.specs.Rows.{IsRow, box_of, form_of_row, forms_of_rows}
 use Rattle.path_rows.specs.Trees.{IsClosed, Sound, SoundAt, entry_count, subboxes}
 use Rattle.path_rows.specs.Text.{row_line, spaced}
-use Rattle.path_rows.specs.Earnest.{Earnest, Place, subplaces}
-use Rattle.path_rows.specs.OpenPlaces.{Opens}
-use Rattle.path_rows.specs.Renumbering.{KeepsForms, renumbered, renumbered_member, renumbered_part}
-use Rattle.path_rows.proofs.OpenPlaces.{opens_ends}
-use Rattle.path_rows.proofs.Renumbering.{forms_kept, opens_kept, renumbered_sound, renumbered_tree}
+use Rattle.path_rows.specs.Earnest.{Earnest, Place}
+use Rattle.path_rows.specs.Renumbering.{KeepsForms, renumbered}
+use Rattle.path_rows.proofs.OpenPlaces.{opens_ends, earnest_opens}
+use Rattle.path_rows.proofs.Renumbering.{forms_kept, opens_kept, renumbered_sound, renumbered_tree, same_entry, same_entries}
 use Rattle.form_search.specs.Finds.{IsSearchTree}
 use Rattle.cost_branching.specs.Rivals.{IsKept}
 use Rattle.printed_rows.specs.NamedRows.{NamesBelow, is_named}
@@ -47,32 +44,36 @@ use Rattle.least_total.proofs.MovedTrees.{moved_closed, moved_count, moved_tree,
 
 -- A search's tree, once the form of the total has been moved.
 
-earnest_opens : (accepts : Point → Type 0) (top : ℕ) (forms : List Form) (places : List Place) (entries : List Entry) → Earnest accepts top forms places entries → Opens accepts top forms places entries []
-earnest_opens accepts top forms [] [] earnest = refl
-earnest_opens accepts top forms (p ∷ places) [] earnest = absurd earnest
-earnest_opens accepts top forms [] (e ∷ entries) earnest = absurd earnest
-earnest_opens accepts top forms (p ∷ places) (e ∷ entries) earnest = (earnest.0, earnest.1, earnest_opens accepts top forms (subplaces p e ++ places) entries earnest.2)
-
 -- more forms leave a search's tree as it is
-search_more : (accepts : Point → Type 0) (top : ℕ) (forms more : List Form) (box : CostBox) (tree : List Entry) → IsSearchTree accepts top forms box tree → IsSearchTree accepts top (forms ++ more) box tree
+search_more : (accepts : Point → Type 0) (top : ℕ) (forms more : List Form) (box : CostBox) (tree : List Entry) →
+    IsSearchTree accepts top forms box tree → IsSearchTree accepts top (forms ++ more) box tree
 search_more accepts top forms more box tree holds =
     let places : List Place = record { box = box; since = [] } ∷ [] in
     record {
-      earnest = opens_ends accepts top (forms ++ more) places tree (opens_kept accepts top forms more places tree [] (earnest_opens accepts top forms places tree holds.earnest));
+      earnest = opens_ends accepts top (forms ++ more) places tree
+          (opens_kept accepts top forms more places tree []
+          (earnest_opens accepts top forms places tree holds.earnest));
       last = holds.last;
       short = holds.short;
     }
 
-search_moved : (accepts : Point → Type 0) (top : ℕ) (fs : List Form) (f : Form) (before : Option ℕ) (others : ℕ) (box : CostBox) (tree : List Entry) → others ≡ length fs → IsPlaceIn others before → IsSearchTree accepts top (with_form before f fs) box tree → IsSearchTree accepts top (fs ++ f ∷ []) box (moved_from before others tree)
+search_moved : (accepts : Point → Type 0) (top : ℕ) (fs : List Form) (f : Form) (before : Option ℕ) (others : ℕ)
+    (box : CostBox) (tree : List Entry) → others ≡ length fs → IsPlaceIn others before →
+    IsSearchTree accepts top (with_form before f fs) box tree →
+    IsSearchTree accepts top (fs ++ f ∷ []) box (moved_from before others tree)
 search_moved accepts top fs f None others box tree count place holds = search_more accepts top fs (f ∷ []) box tree holds
 search_moved accepts top fs f (Some k) others box tree count place holds =
     subst (λ (n : ℕ). IsSearchTree accepts top (fs ++ f ∷ []) box (moved_from (Some k) n tree)) (sym count)
     (moved_tree accepts top fs f k box tree (omega arith) holds)
 
 -- the tree that is printed, over the rows' forms and that of the total
-pub moved_within : (p : DesignProblem) (top cap most : ℕ) (t : TotalTree) → IsTreeWithin p top cap most t → IsSearchTree (LeadsWithin p most) top (forms_within p most t.rows.items) (capped (box_of p) cap) (moved_from t.before (length t.rows.items) t.tree)
+pub moved_within : (p : DesignProblem) (top cap most : ℕ) (t : TotalTree) → IsTreeWithin p top cap most t →
+    IsSearchTree (LeadsWithin p most) top (forms_within p most t.rows.items) (capped (box_of p) cap)
+    (moved_from t.before (length t.rows.items) t.tree)
 moved_within p top cap most t holds =
-    search_moved (LeadsWithin p most) top (forms_of_rows p t.rows.items) (form_of_total p most) t.before (length t.rows.items) (capped (box_of p) cap) t.tree (sym (length-map t.rows.items (form_of_row p))) holds.placed.place holds.tree
+    search_moved (LeadsWithin p most) top (forms_of_rows p t.rows.items) (form_of_total p most) t.before
+    (length t.rows.items) (capped (box_of p) cap) t.tree (sym (length-map t.rows.items (form_of_row p)))
+    holds.placed.place holds.tree
 
 -- Forms with that of the total last.
 
@@ -88,7 +89,8 @@ pub length_last : (rows : List Row) → length (with_total_last rows) ≡ length
 length_last rows = length-append (map OfRow rows) (OfTotal ∷ []) ∙ ap (λ (n : ℕ). n + 1) (length-map rows OfRow)
 
 -- each is a true form
-pub forms_true : (p : DesignProblem) (most : ℕ) (rows : List Row) → All (IsRow p) rows → All (λ form. IsFormWithin p most (form_in p most form)) (with_total_last rows)
+pub forms_true : (p : DesignProblem) (most : ℕ) (rows : List Row) → All (IsRow p) rows →
+    All (λ form. IsFormWithin p most (form_in p most form)) (with_total_last rows)
 forms_true p most rows true_rows =
     let Is : PoolForm → Type 0 = λ form. IsFormWithin p most (form_in p most form) in
     All-append Is (map OfRow rows) (OfTotal ∷ [])
@@ -108,7 +110,9 @@ forms_of_problem p rows true_rows =
 
 pub rows_of_problem : (p : DesignProblem) (forms : List PoolForm) → All (IsOfProblem p) forms → All (IsRow p) (rows_in forms)
 rows_of_problem p [] all = All-nil (IsRow p)
-rows_of_problem p (OfRow row ∷ forms) all = All-cons (IsRow p) row (rows_in forms) (All-head (IsOfProblem p) (OfRow row) forms all) (rows_of_problem p forms (All-tail (IsOfProblem p) (OfRow row) forms all))
+rows_of_problem p (OfRow row ∷ forms) all =
+    All-cons (IsRow p) row (rows_in forms) (All-head (IsOfProblem p) (OfRow row) forms all)
+    (rows_of_problem p forms (All-tail (IsOfProblem p) (OfRow row) forms all))
 rows_of_problem p (OfTotal ∷ forms) all = rows_of_problem p forms (All-tail (IsOfProblem p) OfTotal forms all)
 
 -- What is kept: rows, and behind them the form of the total or nothing.
@@ -128,7 +132,9 @@ kept_last named first [] = by_total (named first)
     by_total false = inr refl
 kept_last named first (row ∷ rows) = by_row (named first) (kept_last named (suc first) rows)
   where
-    by_row : (is : Bool) → IsRowsLast (kept_from named (suc first) (with_total_last rows)) → IsRowsLast (if is then OfRow row ∷ kept_from named (suc first) (with_total_last rows) else kept_from named (suc first) (with_total_last rows))
+    by_row : (is : Bool) → IsRowsLast (kept_from named (suc first) (with_total_last rows)) →
+        IsRowsLast (if is then OfRow row ∷ kept_from named (suc first) (with_total_last rows) else
+        kept_from named (suc first) (with_total_last rows))
     by_row true rest = row_before row (kept_from named (suc first) (with_total_last rows)) rest
     by_row false rest = rest
 
@@ -161,30 +167,6 @@ shifted_keeps fs more f = record {
   same = λ row below. shifted_same fs more f row;
 }
 
-same_member : (member : Member) → renumbered_member (λ row. row) member ≡ member
-same_member (Low var bound) = refl
-same_member (High var bound) = refl
-same_member (ByRow row) = refl
-
-same_members : (basis : List Member) → map (renumbered_member (λ row. row)) basis ≡ basis
-same_members [] = refl
-same_members (member ∷ basis) = cc (same_member member, same_members basis)
-
-same_parts : (parts : List (ℕ × ℕ)) → map (renumbered_part (λ row. row)) parts ≡ parts
-same_parts [] = refl
-same_parts (part ∷ parts) = ap (λ (ps : List (ℕ × ℕ)). part ∷ ps) (same_parts parts)
-
-same_entry : (entry : Entry) → renumbered (λ row. row) entry ≡ entry
-same_entry (Tighten var side value row) = refl
-same_entry (Split var value) = refl
-same_entry (Halve var value wide) = λ i. Halve var value (record { step = wide.step; left = wide.left; right = wide.right; basis = same_members wide.basis i })
-same_entry (Refute parts) = ap Refute (same_parts parts)
-same_entry Undone = refl
-
-same_entries : (entries : List Entry) → map (renumbered (λ row. row)) entries ≡ entries
-same_entries [] = refl
-same_entries (entry ∷ entries) = cc (same_entry entry, same_entries entries)
-
 sound_more : (forms more : List Form) (boxes : List CostBox) (entries : List Entry) → Sound forms boxes entries → Sound (forms ++ more) boxes entries
 sound_more forms more [] [] sound = tt
 sound_more forms more (box ∷ boxes) [] sound = absurd sound
@@ -195,7 +177,10 @@ sound_more forms more (box ∷ boxes) (e ∷ entries) sound = (
 )
 
 -- a printed tree is one with a form more behind its own
-pub over_more : (accepts : Point → Type 0) (IsTrueForm : Form → Type 0) (top nodes : ℕ) (forms : List Form) (f : Form) (box : CostBox) (tree : List Entry) → All (NamesBelow (length forms)) tree → IsPrintedOver accepts IsTrueForm top nodes forms box tree → IsPrintedOver accepts IsTrueForm top nodes (forms ++ f ∷ []) box tree
+pub over_more : (accepts : Point → Type 0) (IsTrueForm : Form → Type 0) (top nodes : ℕ) (forms : List Form) (f : Form)
+    (box : CostBox) (tree : List Entry) → All (NamesBelow (length forms)) tree →
+    IsPrintedOver accepts IsTrueForm top nodes forms box tree →
+    IsPrintedOver accepts IsTrueForm top nodes (forms ++ f ∷ []) box tree
 over_more accepts IsTrueForm top nodes forms f box tree named printed =
     let more = printed.earnest.more in
     let places : List Place = record { box = box; since = [] } ∷ [] in
@@ -216,7 +201,10 @@ over_more accepts IsTrueForm top nodes forms f box tree named printed =
     }
 
 -- what is printed over the kept forms is printed over those of the rows and that of the total
-pub printed_last : (p : DesignProblem) (top nodes cap most : ℕ) (kept : List PoolForm) (tree : List Entry) → IsRowsLast kept → All (NamesBelow (length kept)) tree → IsPrintedOver (LeadsWithin p most) (IsFormWithin p most) top nodes (map (form_in p most) kept) (capped (box_of p) cap) tree →
+pub printed_last : (p : DesignProblem) (top nodes cap most : ℕ) (kept : List PoolForm) (tree : List Entry) →
+    IsRowsLast kept → All (NamesBelow (length kept)) tree →
+    IsPrintedOver (LeadsWithin p most) (IsFormWithin p most) top nodes (map (form_in p most) kept)
+    (capped (box_of p) cap) tree →
     IsPrintedOver (LeadsWithin p most) (IsFormWithin p most) top nodes (forms_within p most (rows_in kept)) (capped (box_of p) cap) tree
 printed_last p top nodes cap most kept tree (inl last) named printed =
     subst (λ (fs : List Form). IsPrintedOver (LeadsWithin p most) (IsFormWithin p most) top nodes fs (capped (box_of p) cap) tree)
@@ -242,11 +230,13 @@ moved_from_undone None others tree undone = undone
 moved_from_undone (Some k) others tree undone = moved_undone k others tree undone
 
 -- the tree names none but the forms that it stands over
-pub names_last : (p : DesignProblem) (top cap most : ℕ) (t : TotalTree) → IsTreeWithin p top cap most t → All (NamesBelow (length (with_total_last t.rows.items))) (moved_from t.before (length t.rows.items) t.tree)
+pub names_last : (p : DesignProblem) (top cap most : ℕ) (t : TotalTree) → IsTreeWithin p top cap most t →
+    All (NamesBelow (length (with_total_last t.rows.items))) (moved_from t.before (length t.rows.items) t.tree)
 names_last p top cap most t holds =
     let old = moved_from t.before (length t.rows.items) t.tree in
     search_names (LeadsWithin p most) top (form_in p most) (with_total_last t.rows.items) (capped (box_of p) cap) old
-    (subst (λ (fs : List Form). IsSearchTree (LeadsWithin p most) top fs (capped (box_of p) cap) old) (sym (forms_last p most t.rows.items)) (moved_within p top cap most t holds))
+    (subst (λ (fs : List Form). IsSearchTree (LeadsWithin p most) top fs (capped (box_of p) cap) old)
+    (sym (forms_last p most t.rows.items)) (moved_within p top cap most t holds))
 
 with_form_count : (before : Option ℕ) (f : Form) (fs : List Form) → IsPlaceIn (length fs) before → length (with_form before f fs) ≤ length fs + 1
 with_form_count None f fs place = omega arith
@@ -258,9 +248,11 @@ names_placed p top cap most t holds =
     let fs = forms_of_rows p t.rows.items in
     let count : length fs ≡ length t.rows.items = length-map t.rows.items (form_of_row p) in
     let most_forms = with_form_count t.before (form_of_total p most) fs (subst (λ (n : ℕ). IsPlaceIn n t.before) (sym count) holds.placed.place) in
-    let named = earnest_names (LeadsWithin p most) top (forms_with_total p most t.rows.items t.before) (record { box = capped (box_of p) cap; since = [] } ∷ []) t.tree holds.tree.earnest in
+    let named = earnest_names (LeadsWithin p most) top (forms_with_total p most t.rows.items t.before)
+    (record { box = capped (box_of p) cap; since = [] } ∷ []) t.tree holds.tree.earnest in
     All-weaker (NamesBelow (length (forms_with_total p most t.rows.items t.before))) (NamesBelow (length t.rows.items + 1))
-    (λ e is. named_weaker (λ row. row < length (forms_with_total p most t.rows.items t.before)) (λ row. row < length t.rows.items + 1) e (λ row below. omega (arith, most_forms, count)) is) t.tree named
+    (λ e is. named_weaker (λ row. row < length (forms_with_total p most t.rows.items t.before))
+    (λ row. row < length t.rows.items + 1) e (λ row below. omega (arith, most_forms, count)) is) t.tree named
 
 -- What is printed of a round's tree.
 
@@ -270,8 +262,11 @@ pub record IsShown (p : DesignProblem) (top nodes cap most : ℕ) (rows : List R
   pub fits : FitText cap rows tree
 
 -- the tree and the kept forms as a copy of the search's tree
-printed_copies : (p : DesignProblem) (top cap most : ℕ) (t : TotalTree) (kept : List PoolForm) (tree : List Entry) → IsTreeWithin p top cap most t → IsPrinted (with_total_last t.rows.items) (moved_from t.before (length t.rows.items) t.tree) kept tree →
-    IsCopy (is_named (moved_from t.before (length t.rows.items) t.tree)) (with_total_last t.rows.items) kept (moved_from t.before (length t.rows.items) t.tree) tree
+printed_copies : (p : DesignProblem) (top cap most : ℕ) (t : TotalTree) (kept : List PoolForm) (tree : List Entry) →
+    IsTreeWithin p top cap most t →
+    IsPrinted (with_total_last t.rows.items) (moved_from t.before (length t.rows.items) t.tree) kept tree →
+    IsCopy (is_named (moved_from t.before (length t.rows.items) t.tree)) (with_total_last t.rows.items) kept
+    (moved_from t.before (length t.rows.items) t.tree) tree
 printed_copies p top cap most t kept tree holds printed =
     printed_copy (with_total_last t.rows.items) kept (moved_from t.before (length t.rows.items) t.tree) tree printed (names_last p top cap most t holds)
 
@@ -283,16 +278,20 @@ rows_fewer [] = omega arith
 rows_fewer (OfRow row ∷ forms) = let rest = rows_fewer forms in omega arith
 rows_fewer (OfTotal ∷ forms) = let rest = rows_fewer forms in omega arith
 
-fit_text : (p : DesignProblem) (cap : ℕ) (rows : List Row) (tree : List Entry) → IsKept p → length rows < 2 ^ 64 → All (IsRow p) rows → IsPrintable (record { cap = cap; tree = tree }) → FitText cap rows tree
+fit_text : (p : DesignProblem) (cap : ℕ) (rows : List Row) (tree : List Entry) → IsKept p → length rows < 2 ^ 64 →
+    All (IsRow p) rows → IsPrintable (record { cap = cap; tree = tree }) → FitText cap rows tree
 fit_text p cap rows tree kept few are_rows printable = record {
   rows_fit =
-      All-cons IsLine (spaced (codes "rows" ∷ decimal (length rows) ∷ [])) (map row_line rows) (two_words (codes "rows") (decimal (length rows)) (omega arith) (omega (arith, row_digits (length rows) few)))
+      All-cons IsLine (spaced (codes "rows" ∷ decimal (length rows) ∷ [])) (map row_line rows)
+      (two_words (codes "rows") (decimal (length rows)) (omega arith) (omega (arith, row_digits (length rows) few)))
       (All-map IsLine row_line rows (rows_short p rows kept.problem kept.graph are_rows));
   proof_fits = trees_short (codes "proof") (Some (record { cap = cap; tree = tree })) (omega arith) printable;
   open_fits = trees_short (codes "open") (Some (record { cap = cap; tree = tree })) (omega arith) printable;
 }
 
-pub shown_is : (p : DesignProblem) (top nodes cap most : ℕ) (t : TotalTree) (printed : PrintedTotal) → CanPrint p nodes cap → IsTreeWithin p top cap most t → entry_count t.tree ≤ nodes → IsPrintedLast t printed → IsShown p top nodes cap most printed.rows.items printed.tree
+pub shown_is : (p : DesignProblem) (top nodes cap most : ℕ) (t : TotalTree) (printed : PrintedTotal) →
+    CanPrint p nodes cap → IsTreeWithin p top cap most t → entry_count t.tree ≤ nodes → IsPrintedLast t printed →
+    IsShown p top nodes cap most printed.rows.items printed.tree
 shown_is p top nodes cap most t printed can holds few last =
     let lines = with_total_last t.rows.items in
     let old = moved_from t.before (length t.rows.items) t.tree in
@@ -302,28 +301,41 @@ shown_is p top nodes cap most t printed can holds few last =
     subst (λ (fs : List Form). IsSearchTree (LeadsWithin p most) top fs box old) (sym (forms_last p most t.rows.items)) (moved_within p top cap most t holds) in
     let count : entry_count old ≤ nodes = subst (λ (n : ℕ). n ≤ nodes) (sym (moved_counted t.before (length t.rows.items) t.tree)) few in
     let copy = printed_copies p top cap most t last.kept printed.tree holds last.is_printed in
-    let over = copy_printed (LeadsWithin p most) (IsFormWithin p most) top nodes (form_in p most) box named lines last.kept old printed.tree copy (forms_true p most t.rows.items holds.placed.are_rows) search count in
+    let over = copy_printed (LeadsWithin p most) (IsFormWithin p most) top nodes (form_in p most) box named lines
+    last.kept old printed.tree copy (forms_true p most t.rows.items holds.placed.are_rows) search count in
     let names = copy_names named lines last.kept old printed.tree copy in
-    let are : All (IsRow p) (rows_in last.kept) = rows_of_problem p last.kept (all_printed (IsOfProblem p) named lines last.kept copy.kept (forms_of_problem p t.rows.items holds.placed.are_rows)) in
-    let printable = copy_printable (LeadsWithin p most) top nodes cap (form_in p most) box named lines last.kept old printed.tree copy (cost_bounds p cap can.kept.problem can.from_lows can.small) can.small can.budget search count in
+    let are : All (IsRow p) (rows_in last.kept) =
+    rows_of_problem p last.kept
+    (all_printed (IsOfProblem p) named lines last.kept copy.kept
+    (forms_of_problem p t.rows.items holds.placed.are_rows)) in
+    let printable = copy_printable (LeadsWithin p most) top nodes cap (form_in p most) box named lines last.kept old
+    printed.tree copy (cost_bounds p cap can.kept.problem can.from_lows can.small) can.small can.budget
+    search count in
     let Shown : List Row → Type 0 = λ rows. IsShown p top nodes cap most rows printed.tree in
     subst Shown (sym last.rows)
     (record {
       are_rows = are;
       printed = printed_last p top nodes cap most last.kept printed.tree (total_kept named t.rows.items last.kept copy.kept.same) names over;
-      fits = fit_text p cap (rows_in last.kept) printed.tree can.kept (let fewer = rows_fewer last.kept in let small = copy.kept.few in omega arith) are printable;
+      fits = fit_text p cap (rows_in last.kept) printed.tree can.kept (let fewer = rows_fewer last.kept in let small =
+          copy.kept.few in omega arith) are printable;
     })
 
-pub shown_closed : (p : DesignProblem) (top cap most : ℕ) (t : TotalTree) (printed : PrintedTotal) → IsTreeWithin p top cap most t → IsClosed t.tree → IsPrintedLast t printed → IsClosed printed.tree
+pub shown_closed : (p : DesignProblem) (top cap most : ℕ) (t : TotalTree) (printed : PrintedTotal) →
+    IsTreeWithin p top cap most t → IsClosed t.tree → IsPrintedLast t printed → IsClosed printed.tree
 shown_closed p top cap most t printed holds closed last =
     let old = moved_from t.before (length t.rows.items) t.tree in
-    copy_closed (is_named old) (with_total_last t.rows.items) last.kept old printed.tree (printed_copies p top cap most t last.kept printed.tree holds last.is_printed) (moved_from_closed t.before (length t.rows.items) t.tree closed)
+    copy_closed (is_named old) (with_total_last t.rows.items) last.kept old printed.tree
+    (printed_copies p top cap most t last.kept printed.tree holds last.is_printed)
+    (moved_from_closed t.before (length t.rows.items) t.tree closed)
 
-pub shown_spent : (p : DesignProblem) (top nodes cap most : ℕ) (t : TotalTree) (printed : PrintedTotal) → IsTreeWithin p top cap most t → Contains t.tree Undone → entry_count t.tree ≡ nodes → IsPrintedLast t printed → Contains printed.tree Undone × (entry_count printed.tree ≡ nodes)
+pub shown_spent : (p : DesignProblem) (top nodes cap most : ℕ) (t : TotalTree) (printed : PrintedTotal) →
+    IsTreeWithin p top cap most t → Contains t.tree Undone → entry_count t.tree ≡ nodes → IsPrintedLast t printed →
+    Contains printed.tree Undone × (entry_count printed.tree ≡ nodes)
 shown_spent p top nodes cap most t printed holds undone spent last =
     let old = moved_from t.before (length t.rows.items) t.tree in
     let copy = printed_copies p top cap most t last.kept printed.tree holds last.is_printed in
     let number = new_number (is_named old) in (
-      subst (λ (es : List Entry). Contains es Undone) (sym copy.copied) (undone_kept number old (moved_from_undone t.before (length t.rows.items) t.tree undone)),
+      subst (λ (es : List Entry). Contains es Undone) (sym copy.copied)
+          (undone_kept number old (moved_from_undone t.before (length t.rows.items) t.tree undone)),
       ap entry_count copy.copied ∙ count_kept number old ∙ moved_counted t.before (length t.rows.items) t.tree ∙ spent,
     )

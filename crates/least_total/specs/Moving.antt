@@ -1,4 +1,5 @@
--- The form of the total is moved behind those of the rows: new numbers of forms, and entries with these numbers.
+-- The form of the total is moved behind those of the rows: new numbers of forms, and entries with these numbers. No
+-- public clause cites it.
 use Rattle.std.specs.Prelude.{ℕ, ◌-◌, ◌==◌, List, ◌++◌, Bool, true, false, not, if◌then◌else◌, map, length, ltb}
 use Rattle.std.specs.List.{filter}
 use Rattle.path_rows.specs.declared.tree.Entry.{Entry}

@@ -1,4 +1,5 @@
--- What is printed: the form of the total is moved behind those of the rows, and then unused rows are left out.
+-- What is printed: the form of the total is moved behind those of the rows, and then unused rows are left out. No
+-- public clause cites it.
 use Rattle.std.specs.Prelude.{◌≡◌, ℕ, List, [], ◌∷◌, ◌++◌, map, length, Option, None, Some}
 use Rattle.path_rows.specs.Forms.{Form}
 use Rattle.path_rows.specs.declared.form.Row.{Row}

@@ -1,4 +1,5 @@
 -- What a round finds: a search over the box at a cap, with a bound of the total; and what is known of the least total.
+-- No public clause cites it.
 use Rattle.std.specs.Prelude.{◌≡◌, ℕ, ◌+◌, ◌^◌, ◌<◌, ◌≤◌, List, length, All, Contains, Option, None, Some}
 use Rattle.path_rows.specs.declared.form.CostBox.{CostBox}
 use Rattle.path_rows.specs.declared.form.Row.{Row}

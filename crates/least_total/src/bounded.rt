@@ -1,5 +1,6 @@
 //! The rivals of a problem's wanted paths and a bound of the total, as the source of a search.
-ghost use Rattle.std.specs.Prelude.{◌≡◌, ◌^◌, ◌<◌, ◌++◌, ◌∷◌, [], length, IfOk, OnErr, OnOk, MatchBool, pos, ◌<ℤ◌, ◌≤ℤ◌, None, Some};
+ghost use Rattle.std.specs.Prelude.{◌≡◌, ◌^◌, ◌<◌, ◌++◌, ◌∷◌, [], length, IfOk, OnErr, OnOk, MatchBool, None, Some};
+ghost use Rattle.std.specs.Prelude.{pos, ◌<ℤ◌, ◌≤ℤ◌};
 ghost use Rattle.path_rows.specs.Forms.{value_at};
 ghost use Rattle.rival_separation.specs.Askers.{IsAskerFor};
 ghost use Rattle.form_search.specs.Sources.{IsCostPoint};

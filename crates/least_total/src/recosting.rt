@@ -2,10 +2,10 @@
 ghost use Rattle.std.specs.Prelude.{◌≡◌, ℕ, length, IfOk};
 ghost use Rattle.path_rows.specs.declared.answer.Verdict.TheVariants.{Optimal};
 ghost use Rattle.path_rows.specs.Rows.{greatest_cost};
-ghost use Rattle.path_rows.specs.Answers.{IsValid};
+ghost use Rattle.path_rows.specs.Answers.{IsValid, lines_in};
 ghost use Rattle.least_total.specs.Rounds.{IsFitWithin};
 ghost use Rattle.least_total.specs.Results.{IsRecosted};
-ghost use Rattle.least_total.specs.Given.{AreGiven, lines_in};
+ghost use Rattle.least_total.specs.Given.{AreGiven};
 
 use cost_base::OutOfMemory;
 use cost_branching::keeps_conditions;

@@ -48,7 +48,9 @@ cost_short cost most = let words = spaced-le (codes " ip" ∷ codes "ospf" ∷ c
 verdict_short : (verdict : Verdict) → FitsVerdict verdict → IsLine (spaced (codes "verdict" ∷ verdict_words verdict))
 verdict_short (Optimal k) fits = let words = spaced-le (codes "verdict" ∷ codes "optimal" ∷ decimal k ∷ []) in omega (arith, cost_digits k fits)
 verdict_short Impossible fits = omega arith
-verdict_short (Budget cap) fits = let words = spaced-le (codes "verdict" ∷ codes "undecided" ∷ codes "budget" ∷ decimal cap ∷ []) in omega (arith, cost_digits cap fits)
+verdict_short (Budget cap) fits = let words =
+    spaced-le (codes "verdict" ∷ codes "undecided" ∷ codes "budget" ∷ decimal cap ∷ []) in
+    omega (arith, cost_digits cap fits)
 
 floor_short : (floor : Floor) → FitsFloor floor → IsLine (spaced (codes "floor" ∷ floor_word floor ∷ []))
 floor_short Absent fits = omega arith
@@ -80,7 +82,9 @@ cost_lines_short before (line ∷ lines) named =
 pub costs_short : (costs : Option Costs) → CanPrintCosts costs → All IsLine (costs_lines costs)
 costs_short None can = All-cons IsLine (codes "costs none") [] (omega arith) (All-nil IsLine)
 costs_short (Some costs) can =
-    All-cons IsLine (spaced (codes "costs" ∷ decimal costs.greatest ∷ [])) (cost_lines None costs.lines) (two_words (codes "costs") (decimal costs.greatest) (omega arith) (omega (arith, cost_digits costs.greatest can.1)))
+    All-cons IsLine (spaced (codes "costs" ∷ decimal costs.greatest ∷ [])) (cost_lines None costs.lines)
+    (two_words (codes "costs") (decimal costs.greatest) (omega arith)
+    (omega (arith, cost_digits costs.greatest can.1)))
     (cost_lines_short None costs.lines can.0)
 
 -- such costs are in the grammar
@@ -92,7 +96,8 @@ pub trees_short : (word : List ℕ) (t : Option CapTree) → length word ≤ 20 
 trees_short word None small can = All-cons IsLine (spaced (word ∷ codes "none" ∷ [])) [] (two_words word (codes "none") small (omega arith)) (All-nil IsLine)
 trees_short word (Some t) small can =
     let words = spaced-le (word ∷ decimal t.cap ∷ decimal (length t.tree) ∷ []) in
-    All-cons IsLine (spaced (word ∷ decimal t.cap ∷ decimal (length t.tree) ∷ [])) (map entry_line t.tree) (omega (arith, cost_digits t.cap can.cap, thing_digits (length t.tree) can.count))
+    All-cons IsLine (spaced (word ∷ decimal t.cap ∷ decimal (length t.tree) ∷ [])) (map entry_line t.tree)
+    (omega (arith, cost_digits t.cap can.cap, thing_digits (length t.tree) can.count))
     (All-map IsLine entry_line t.tree can.lines)
 
 pub tree_fits : (t : Option CapTree) → CanPrintTree t → FitsTree t
@@ -100,18 +105,23 @@ tree_fits None can = tt
 tree_fits (Some t) can = record { count = can.count; entries = can.entries }
 
 -- the lines of the rows
-pub rows_lines_short : (rows : List Row) → length rows < 2 ^ 64 → All (λ row. IsLine (row_line row)) rows → All IsLine (spaced (codes "rows" ∷ decimal (length rows) ∷ []) ∷ map row_line rows)
+pub rows_lines_short : (rows : List Row) → length rows < 2 ^ 64 → All (λ row. IsLine (row_line row)) rows →
+    All IsLine (spaced (codes "rows" ∷ decimal (length rows) ∷ []) ∷ map row_line rows)
 rows_lines_short rows few short =
-    All-cons IsLine (spaced (codes "rows" ∷ decimal (length rows) ∷ [])) (map row_line rows) (two_words (codes "rows") (decimal (length rows)) (omega arith) (omega (arith, row_digits (length rows) few)))
+    All-cons IsLine (spaced (codes "rows" ∷ decimal (length rows) ∷ [])) (map row_line rows)
+    (two_words (codes "rows") (decimal (length rows)) (omega arith) (omega (arith, row_digits (length rows) few)))
     (All-map IsLine row_line rows short)
 
 pub rows_part : (floor : Floor) (rows : List Row) → FitsFloor floor → length rows < 2 ^ 64 → All (λ row. IsLine (row_line row)) rows →
     All IsLine (spaced (codes "floor" ∷ floor_word floor ∷ []) ∷ spaced (codes "rows" ∷ decimal (length rows) ∷ []) ∷ map row_line rows)
 rows_part floor rows fits few short =
-    All-cons IsLine (spaced (codes "floor" ∷ floor_word floor ∷ [])) (spaced (codes "rows" ∷ decimal (length rows) ∷ []) ∷ map row_line rows) (floor_short floor fits)
+    All-cons IsLine (spaced (codes "floor" ∷ floor_word floor ∷ []))
+    (spaced (codes "rows" ∷ decimal (length rows) ∷ []) ∷ map row_line rows) (floor_short floor fits)
     (rows_lines_short rows few short)
 
-lines_short : (a : AnswerParts) → FitsVerdict a.verdict → CanPrintCosts a.costs → FitsFloor a.floor → length a.rows < 2 ^ 64 → All (λ row. IsLine (row_line row)) a.rows → CanPrintTree a.proof → CanPrintTree a.unfinished → All IsLine (answer_lines a)
+lines_short : (a : AnswerParts) → FitsVerdict a.verdict → CanPrintCosts a.costs → FitsFloor a.floor →
+    length a.rows < 2 ^ 64 → All (λ row. IsLine (row_line row)) a.rows → CanPrintTree a.proof →
+    CanPrintTree a.unfinished → All IsLine (answer_lines a)
 lines_short a verdict costs floor few rows proof unfinished =
     let first = codes "ospfcost answer 1" ∷ spaced (codes "verdict" ∷ verdict_words a.verdict) ∷ [] in
     let second = costs_lines a.costs in
@@ -133,7 +143,9 @@ lines_short a verdict costs floor few rows proof unfinished =
     (All-cons IsLine (codes "wide none") (codes "end" ∷ []) (omega arith) (All-cons IsLine (codes "end") [] (omega arith) (All-nil IsLine)))
 
 -- an answer of parts that can be printed keeps what every answer keeps
-pub answer_kept : (a : AnswerParts) → FitsVerdict a.verdict → CanPrintCosts a.costs → FitsFloor a.floor → length a.rows < 2 ^ 64 → All (λ row. IsLine (row_line row)) a.rows → CanPrintTree a.proof → CanPrintTree a.unfinished → IsAnswer a
+pub answer_kept : (a : AnswerParts) → FitsVerdict a.verdict → CanPrintCosts a.costs → FitsFloor a.floor →
+    length a.rows < 2 ^ 64 → All (λ row. IsLine (row_line row)) a.rows → CanPrintTree a.proof →
+    CanPrintTree a.unfinished → IsAnswer a
 answer_kept a verdict costs floor few rows proof unfinished = record {
   costs = costs_fit a.costs costs;
   proof = tree_fits a.proof proof;

@@ -1,12 +1,13 @@
 -- The box of a problem at a cap.
-use Rattle.std.proofs.Common.{ℕ, ◌≤◌, refl, sym, ◌∙◌, List, length, min, arith}
+use Rattle.std.proofs.Common.{ℕ, ◌≤◌, refl, sym, ◌∙◌, List, length, min, arith, ◌<◌}
 use Rattle.std.specs.Prelude.{All}
 use Rattle.std.proofs.lemmas.List.{length-map, get_or-map, get_or_default}
 use Rattle.path_rows.specs.Problems.{DesignProblem, IsProblem}
-use Rattle.path_rows.specs.Boxes.{IsBox, capped}
+use Rattle.path_rows.specs.Boxes.{IsBox, capped, IsInBox}
 use Rattle.path_rows.specs.Rows.{box_of, greatest_cost}
 use Rattle.path_rows.specs.Answers.{greatest_bound}
 use Rattle.path_rows.proofs.ProblemTrees.{le_greatest}
+use Rattle.path_rows.specs.declared.form.CostBox.{CostBox}
 use Rattle.printed_rows.proofs.CostLaws.{greatest-le}
 use Rattle.printed_rows.proofs.TreeLines.{IsCostBounds}
 
@@ -49,3 +50,11 @@ cost_bounds p cap kept from small = record {
       let cut = get_or-map (λ h. min h cap) p.high k 0 0 (omega (arith, length-map p.high (λ h. min h cap))) in
       omega arith;
 }
+
+-- costs of the box at a cap have a greatest cost within it
+pub within_cap : (box : CostBox) (cap : ℕ) (w : List ℕ) → IsInBox (capped box cap) w → greatest_cost w ≤ cap
+within_cap box cap w inside = greatest-le w cap (λ k k_in.
+    let known : k < length box.high = omega (arith, inside.high_count, length-map box.high (λ h. min h cap)) in
+    let cut = get_or-map (λ h. min h cap) box.high k 0 0 known in
+    let below = inside.below k k_in in
+    omega arith)

@@ -1,15 +1,16 @@
 -- The greatest of some costs, and the lines that give costs to free interfaces.
 use Rattle.std.proofs.Common.{◌≡◌, ℕ, suc, ◌+◌, ◌<◌, ◌≤◌, refl, sym, ◌∙◌, ap, subst, List, [], ◌∷◌, ◌++◌, length, fold, max, get_or, take, inl, inr, arith}
 use Rattle.std.specs.Prelude.{All, slice_index, ◌⊎◌}
-use Rattle.std.specs.List.{AllZip}
 use Rattle.std.proofs.lemmas.Bool.{cases_lt}
 use Rattle.std.proofs.lemmas.List.{get_or_default, take_more}
 use Rattle.std.proofs.lemmas.List.Elements.{All-nil, All-cons, All-head, All-tail}
 use Rattle.cost_base.specs.Words.{IsWord}
+use Rattle.cost_base.proofs.ListLemmas.{zip_push}
 use Rattle.path_rows.specs.declared.problem.VarName.{VarName}
 use Rattle.path_rows.specs.declared.answer.CostLine.{CostLine}
 use Rattle.path_rows.specs.Problems.{DesignProblem, IsProblem}
-use Rattle.path_rows.specs.Rows.{IsFit, greatest_cost}
+use Rattle.path_rows.specs.Boxes.{IsInBox}
+use Rattle.path_rows.specs.Rows.{IsFit, box_of, greatest_cost}
 use Rattle.path_rows.specs.Answers.{Names}
 use Rattle.printed_rows.specs.PrintedCosts.{ArePrintedCosts, CostLinesOf, IsNamedCost}
 
@@ -37,7 +38,8 @@ greatest-reached_from a (x ∷ w) = elim (greatest-reached_from (max a x) w) [
       | inr above ↦ inl (omega arith)
     ]
 
-    by_first : (max a x ≡ a) ⊎ (max a x ≡ x) → fold max (max a x) w ≡ max a x → (fold max a (x ∷ w) ≡ a) ⊎ ((k : ℕ) × (k < length (x ∷ w)) × (slice_index (x ∷ w) k ≡ fold max a (x ∷ w)))
+    by_first : (max a x ≡ a) ⊎ (max a x ≡ x) → fold max (max a x) w ≡ max a x → (fold max a (x ∷ w) ≡ a)
+        ⊎ ((k : ℕ) × (k < length (x ∷ w)) × (slice_index (x ∷ w) k ≡ fold max a (x ∷ w)))
     by_first (inl first) same = inl (same ∙ first)
     by_first (inr second) same = inr (0, omega arith, sym second ∙ sym same)
 
@@ -49,16 +51,10 @@ greatest-none (x ∷ w) none = elim (greatest-reached_from (max 0 x) w) [
   | inr found ↦ absurd (none (suc found.0) (omega arith) found.2)
 ]
 
--- a line more for a name more
-zip_push : {A B : Type 0} (R : A → B → Type 0) (xs : List A) (ys : List B) (x : A) (y : B) → AllZip R xs ys → R x y → AllZip R (xs ++ x ∷ []) (ys ++ y ∷ [])
-zip_push R [] [] x y zip here = (here, tt)
-zip_push R [] (w ∷ ys) x y zip here = absurd zip
-zip_push R (z ∷ xs) [] x y zip here = absurd zip
-zip_push R (z ∷ xs) (w ∷ ys) x y zip here = (zip.0, zip_push R xs ys x y zip.1 here)
-
 -- the line of the next name
 pub line_of_name : (costs : List ℕ) (names : List VarName) (i : ℕ) (name : VarName) (lines : List CostLine) (line : CostLine) →
-    i < length names → name ≡ get_or names i name → CostLinesOf costs (take i names) lines → line ≡ record { router = name.router; interface = name.interface; cost = slice_index costs name.var } →
+    i < length names → name ≡ get_or names i name → CostLinesOf costs (take i names) lines →
+    line ≡ record { router = name.router; interface = name.interface; cost = slice_index costs name.var } →
     (more : List CostLine) → more ≡ lines ++ line ∷ [] → CostLinesOf costs (take (i + 1) names) more
 line_of_name costs names i name lines line below is zip same more pushed =
     let R : VarName → CostLine → Type 0 = λ n l. (l.router ≡ n.router) × (l.interface ≡ n.interface) × (l.cost ≡ slice_index costs n.var) in
@@ -81,12 +77,19 @@ lines_named costs (name ∷ names) (line ∷ lines) words within bounds zipped =
     let below : name.var < length costs = All-head (λ (n : VarName). n.var < length costs) name names within in
     let bound = bounds name.var below in
     let same = zipped.0 in
-    All-cons IsNamedCost line lines
-    (subst (λ (w : List ℕ). IsWord w) (sym same.0) named.0, subst (λ (w : List ℕ). IsWord w) (sym same.1) named.1, omega (arith, same.2, bound.0), omega (arith, same.2, bound.1))
+    All-cons IsNamedCost line lines (
+      subst (λ (w : List ℕ). IsWord w) (sym same.0) named.0,
+      subst (λ (w : List ℕ). IsWord w) (sym same.1) named.1,
+      omega (arith, same.2, bound.0),
+      omega (arith, same.2, bound.1),
+    )
     (lines_named costs names lines (All-tail IsNamed name names words) (All-tail (λ (n : VarName). n.var < length costs) name names within) bounds zipped.1)
 
 -- costs of the variables as they are printed
-pub costs_printed : (p : DesignProblem) (w : List ℕ) (greatest : ℕ) (printed : List CostLine) (names : List VarName) (lines : List CostLine) → IsProblem p → length w ≡ length p.low → All (λ cost. 1 ≤ cost) w → ((k : ℕ) → k < length w → slice_index w k ≤ 65535) → CostLinesOf w names lines → names ≡ p.vars → greatest ≡ greatest_cost w → printed ≡ lines →
+pub costs_printed : (p : DesignProblem) (w : List ℕ) (greatest : ℕ) (printed : List CostLine) (names : List VarName)
+    (lines : List CostLine) → IsProblem p → length w ≡ length p.low → All (λ cost. 1 ≤ cost) w →
+    ((k : ℕ) → k < length w → slice_index w k ≤ 65535) → CostLinesOf w names lines → names ≡ p.vars →
+    greatest ≡ greatest_cost w → printed ≡ lines →
     ArePrintedCosts p w (record { greatest = greatest; lines = printed })
 costs_printed p w greatest printed names lines problem counted positive most zipped names_is is same =
     let small = greatest-le w 65535 most in
@@ -101,17 +104,23 @@ costs_printed p w greatest printed names lines problem counted positive most zip
     }
 
 -- the named variables have costs
-pub names_known : (p : DesignProblem) (w : List ℕ) (names : List VarName) → IsProblem p → length w ≡ length p.low → names ≡ p.vars → All (λ name. name.var < length w) names
+pub names_known : (p : DesignProblem) (w : List ℕ) (names : List VarName) → IsProblem p → length w ≡ length p.low →
+    names ≡ p.vars → All (λ name. name.var < length w) names
 names_known p w names problem counted is =
-    subst (λ (n : ℕ). All (λ (name : VarName). name.var < n) names) (sym counted) (subst (λ (ns : List VarName). All (λ (name : VarName). name.var < length p.low) ns) (sym is) problem.named)
+    subst (λ (n : ℕ). All (λ (name : VarName). name.var < n) names) (sym counted)
+    (subst (λ (ns : List VarName). All (λ (name : VarName). name.var < length p.low) ns) (sym is) problem.named)
 
 -- fit costs are such costs
 pub fit_counted : (p : DesignProblem) (w : List ℕ) → IsFit p w → length w ≡ length p.low
 fit_counted p w fit = sym fit.within.low_count
 
-pub fit_positive : (p : DesignProblem) (w : List ℕ) → IsProblem p → IsFit p w → All (λ cost. 1 ≤ cost) w
-fit_positive p w problem fit k d k_in =
-    let low = (problem.ordered k (omega (arith, fit.within.low_count))).0 in
-    let above = fit.within.above k k_in in
+-- costs of the box are from 1
+pub box_positive : (p : DesignProblem) (w : List ℕ) → IsProblem p → IsInBox (box_of p) w → All (λ cost. 1 ≤ cost) w
+box_positive p w problem within k d k_in =
+    let low = (problem.ordered k (omega (arith, within.low_count))).0 in
+    let above = within.above k k_in in
     let same = get_or_default w k d 0 k_in in
     omega (arith, low, above, same)
+
+pub fit_positive : (p : DesignProblem) (w : List ℕ) → IsProblem p → IsFit p w → All (λ cost. 1 ≤ cost) w
+fit_positive p w problem fit = box_positive p w problem fit.within

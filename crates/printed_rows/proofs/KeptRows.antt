@@ -19,7 +19,8 @@ kept_all {R} P named first (row ∷ rows) all =
     let rest = kept_all P named (suc first) rows (All-tail P row rows all) in
     by_test (named first) rest
   where
-    by_test : (is : Bool) → All P (kept_from named (suc first) rows) → All P (if is then row ∷ kept_from named (suc first) rows else kept_from named (suc first) rows)
+    by_test : (is : Bool) → All P (kept_from named (suc first) rows) →
+        All P (if is then row ∷ kept_from named (suc first) rows else kept_from named (suc first) rows)
     by_test true rest = All-cons P row (kept_from named (suc first) rows) (All-head P row rows all) rest
     by_test false rest = rest
 
@@ -47,7 +48,8 @@ number_left named zero is = let none : 0 + (if named 0 then 1 else 0) ≡ 0 + 0 
 number_left named (suc row) is = let rest = number_left named row is in omega (arith, rest)
 
 -- a row that is kept stands at its new number
-pub kept_at : {R : Type 0} (named : ℕ → Bool) (rows : List R) (row : ℕ) → row < length rows → named row ≡ true → slice_get (kept_rows named rows) (new_number named row) ≡ slice_get rows row
+pub kept_at : {R : Type 0} (named : ℕ → Bool) (rows : List R) (row : ℕ) → row < length rows → named row ≡ true →
+    slice_get (kept_rows named rows) (new_number named row) ≡ slice_get rows row
 unfolding shifted
 kept_at named [] row within is = absurd (omega arith)
 kept_at {R} named (x ∷ rows) zero within is = ap (λ (b : Bool). slice_get (if b then x ∷ kept_from named (suc 0) rows else kept_from named (suc 0) rows) 0) is
@@ -80,7 +82,8 @@ length-kept_rows {R} named (x ∷ rows) =
       | inr first ↦ ap P first ∙ same ∙ rest ∙ sym (number_left named (length rows) first)
     ]
 
-pub number_known : {R : Type 0} (named : ℕ → Bool) (rows : List R) (row : ℕ) → row < length rows → named row ≡ true → new_number named row < length (kept_rows named rows)
+pub number_known : {R : Type 0} (named : ℕ → Bool) (rows : List R) (row : ℕ) → row < length rows → named row ≡ true →
+    new_number named row < length (kept_rows named rows)
 number_known named rows row within is = let rise = numbers_rise named row (length rows) within is in omega (arith, rise, length-kept_rows named rows)
 
 -- no more rows are kept than there are
@@ -107,7 +110,8 @@ pub number_of_kept : (named : ℕ → Bool) (count row : ℕ) → named row ≡ 
 unfolding number_of
 number_of_kept named count row is = ap (λ (b : Bool). cond b (new_number named row) (count + row)) is
 
-pub rows_kept : {R : Type 0} (named : ℕ → Bool) (rows : List R) → KeepsRows (number_of named (length (kept_rows named rows))) rows (kept_rows named rows ++ rows)
+pub rows_kept : {R : Type 0} (named : ℕ → Bool) (rows : List R) →
+    KeepsRows (number_of named (length (kept_rows named rows))) rows (kept_rows named rows ++ rows)
 unfolding number_of
 rows_kept {R} named rows =
     let kept = kept_rows named rows in
@@ -128,7 +132,8 @@ rows_kept {R} named rows =
     itself xs k d k_in = (k, k_in, get_or_default xs k (get_or xs k d) d k_in)
 
 -- the forms of the rows are kept
-pub keeps_forms : {R : Type 0} (form : R → Form) (number : ℕ → ℕ) (old new : List R) → KeepsRows number old new → KeepsForms number (map form old) (map form new)
+pub keeps_forms : {R : Type 0} (form : R → Form) (number : ℕ → ℕ) (old new : List R) → KeepsRows number old new →
+    KeepsForms number (map form old) (map form new)
 keeps_forms form number old new keeps = record {
   known = λ k k_in. let here = keeps.known k (omega (arith, length-map old form)) in omega (arith, length-map new form);
   same = λ k k_in.

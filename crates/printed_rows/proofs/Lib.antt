@@ -3,6 +3,7 @@ pub mod CapBoxes
 pub mod CostLaws
 pub mod KeptRows
 pub mod MarkLaws
+pub mod MetForms
 pub mod NamedLaws
 pub mod NumberLaws
 pub mod PrintLaws

@@ -1,14 +1,10 @@
 -- Marks of the rows that trees name.
-use Rattle.std.proofs.Common.{◌≡◌, ℕ, ◌+◌, ◌<◌, ◌≤◌, refl, sym, ◌∙◌, ap, subst, List, length, get_or, take, Bool, false, ◌||◌}
+use Rattle.std.proofs.Common.{◌≡◌, ℕ, ◌+◌, ◌<◌, ◌≤◌, sym, ◌∙◌, ap, subst, List, length, get_or, take, Bool, ◌||◌}
 use Rattle.std.specs.List.{list_any}
-use Rattle.std.proofs.Math.Bool.{or_assoc, or-false}
+use Rattle.std.proofs.Math.Bool.{or_assoc}
 use Rattle.std.proofs.lemmas.List.{take_all}
 use Rattle.std.proofs.lemmas.List.Folds.{list_any_more}
 use Rattle.printed_rows.specs.NewNumbers.{AreMarked, is_marked}
-
--- nothing is marked yet
-pub marked_none : (old : List Bool) → AreMarked (λ k. false) old old
-marked_none old = record { counted = refl; marked = λ k. sym (or-false (is_marked old k)) }
 
 -- marks of one test, and then of another one
 pub marked_then : (f g h : ℕ → Bool) (a b c : List Bool) → ((k : ℕ) → h k ≡ (f k || g k)) → AreMarked f a b → AreMarked g b c → AreMarked h a c
@@ -29,5 +25,6 @@ marked_more p first old new xs i x within is so_far here =
     (λ k. list_any_more (p k) xs i x within ∙ ap (λ (y : _). list_any (p k) (take i xs) || p k y) (sym is)) so_far here
 
 -- at the end of such a loop
-pub all_marked : {X : Type 0} (p : ℕ → X → Bool) (first now : List Bool) (xs : List X) (i : ℕ) → length xs ≤ i → AreMarked (λ k. list_any (p k) (take i xs)) first now → AreMarked (λ k. list_any (p k) xs) first now
+pub all_marked : {X : Type 0} (p : ℕ → X → Bool) (first now : List Bool) (xs : List X) (i : ℕ) → length xs ≤ i →
+    AreMarked (λ k. list_any (p k) (take i xs)) first now → AreMarked (λ k. list_any (p k) xs) first now
 all_marked {X} p first now xs i past so_far = subst (λ (ys : List X). AreMarked (λ k. list_any (p k) ys) first now) (take_all i xs past) so_far

@@ -1,16 +1,15 @@
 -- What holds of the rows that entries name.
 use Rattle.std.proofs.Common.{◌≡◌, ℕ, ◌<◌, refl, ◌∙◌, ap, List, [], ◌∷◌, map, Bool, true}
-use Rattle.std.specs.Prelude.{All, Option, None, Some, slice_index_or}
+use Rattle.std.specs.Prelude.{All, slice_index_or}
 use Rattle.std.proofs.lemmas.Bool.{eq-eqb}
 use Rattle.std.proofs.lemmas.List.Folds.{list_any_at}
 use Rattle.std.proofs.lemmas.List.Elements.{All-head, All-tail, All-map, All-weaker}
-use Rattle.path_rows.specs.declared.answer.CapTree.{CapTree}
 use Rattle.path_rows.specs.declared.tree.Member.{Member}
 use Rattle.path_rows.specs.declared.tree.Member.TheVariants.{Low as ByLow, High as ByHigh, Row as ByRow}
 use Rattle.path_rows.specs.declared.tree.Entry.{Entry}
 use Rattle.path_rows.specs.declared.tree.Entry.TheVariants.{Tighten, Split, Halve, Refute, Undone}
 use Rattle.path_rows.specs.Renumbering.{renumbered, renumbered_member, renumbered_part}
-use Rattle.printed_rows.specs.NamedRows.{EachMember, EachNamed, NamesBelow, NamesKnown, TreeNamesBelow, TreeNamesKnown, entries_in, is_named, member_names, names, part_names}
+use Rattle.printed_rows.specs.NamedRows.{EachMember, EachNamed, NamesBelow, NamesKnown, is_named, member_names, names, part_names}
 
 -- what holds of each row that the entry names by the test
 member_each : (P : ℕ → Type 0) (member : Member) → ((row : ℕ) → member_names row member ≡ true → P row) → EachMember P member
@@ -53,18 +52,17 @@ named_both P Q (Refute parts) p q = λ k d k_in. (p k d k_in, q k d k_in)
 named_both P Q Undone p q = tt
 
 -- the rows that the entries name pass each test that these rows pass
-pub names_known : (test : ℕ → Bool) (n : ℕ) (entries : List Entry) → ((row : ℕ) → is_named entries row ≡ true → test row ≡ true) → All (NamesBelow n) entries → All (NamesKnown test n) entries
+pub names_known : (test : ℕ → Bool) (n : ℕ) (entries : List Entry) →
+    ((row : ℕ) → is_named entries row ≡ true → test row ≡ true) → All (NamesBelow n) entries →
+    All (NamesKnown test n) entries
 names_known test n entries passes below k d k_in =
     let entry = slice_index_or entries k d in
     named_both (λ row. row < n) (λ row. test row ≡ true) entry (below k d k_in)
     (each_named (λ row. test row ≡ true) entry (λ row is. passes row (list_any_at (names row) entries k d k_in is)))
 
-pub tree_names_known : (test : ℕ → Bool) (n : ℕ) (tree : Option CapTree) → ((row : ℕ) → is_named (entries_in tree) row ≡ true → test row ≡ true) → TreeNamesBelow n tree → TreeNamesKnown test n tree
-tree_names_known test n None passes below = tt
-tree_names_known test n (Some t) passes below = names_known test n t.tree passes below
-
 -- numbers that agree at the named rows give the same trees
-members_agree : (f g : ℕ → ℕ) (P : ℕ → Type 0) (basis : List Member) → ((k : ℕ) → P k → f k ≡ g k) → All (EachMember P) basis → map (renumbered_member f) basis ≡ map (renumbered_member g) basis
+members_agree : (f g : ℕ → ℕ) (P : ℕ → Type 0) (basis : List Member) → ((k : ℕ) → P k → f k ≡ g k) →
+    All (EachMember P) basis → map (renumbered_member f) basis ≡ map (renumbered_member g) basis
 members_agree f g P [] agree names = refl
 members_agree f g P (member ∷ basis) agree names =
     cc (one member (All-head (EachMember P) member basis names), members_agree f g P basis agree (All-tail (EachMember P) member basis names))
@@ -74,7 +72,8 @@ members_agree f g P (member ∷ basis) agree names =
     one (ByHigh var value) is = refl
     one (ByRow row) is = ap ByRow (agree row is)
 
-parts_agree : (f g : ℕ → ℕ) (P : ℕ → Type 0) (parts : List (ℕ × ℕ)) → ((k : ℕ) → P k → f k ≡ g k) → All (λ part. P part.0) parts → map (renumbered_part f) parts ≡ map (renumbered_part g) parts
+parts_agree : (f g : ℕ → ℕ) (P : ℕ → Type 0) (parts : List (ℕ × ℕ)) → ((k : ℕ) → P k → f k ≡ g k) →
+    All (λ part. P part.0) parts → map (renumbered_part f) parts ≡ map (renumbered_part g) parts
 parts_agree f g P [] agree names = refl
 parts_agree f g P (part ∷ parts) agree names =
     let Q : ℕ × ℕ → Type 0 = λ part. P part.0 in
@@ -86,11 +85,14 @@ entry_agrees : (f g : ℕ → ℕ) (P : ℕ → Type 0) (entry : Entry) → ((k 
 entry_agrees f g P (Tighten var side value row) agree names = ap (λ (k : ℕ). Tighten var side value k) (agree row names)
 entry_agrees f g P (Split var value) agree names = refl
 entry_agrees f g P (Halve var value wide) agree names =
-    ap (λ (ms : List Member). Halve var value (record { step = wide.step; left = wide.left; right = wide.right; basis = ms })) (members_agree f g P wide.basis agree names)
+    ap (λ (ms : List Member). Halve var value
+    (record { step = wide.step; left = wide.left; right = wide.right; basis = ms }))
+    (members_agree f g P wide.basis agree names)
 entry_agrees f g P (Refute parts) agree names = ap Refute (parts_agree f g P parts agree names)
 entry_agrees f g P Undone agree names = refl
 
-pub entries_agree : (f g : ℕ → ℕ) (P : ℕ → Type 0) (entries : List Entry) → ((k : ℕ) → P k → f k ≡ g k) → All (EachNamed P) entries → map (renumbered f) entries ≡ map (renumbered g) entries
+pub entries_agree : (f g : ℕ → ℕ) (P : ℕ → Type 0) (entries : List Entry) → ((k : ℕ) → P k → f k ≡ g k) →
+    All (EachNamed P) entries → map (renumbered f) entries ≡ map (renumbered g) entries
 entries_agree f g P [] agree names = refl
 entries_agree f g P (e ∷ entries) agree names =
     let here = entry_agrees f g P e agree (All-head (EachNamed P) e entries names) in
@@ -102,12 +104,15 @@ pub entry_below : (f : ℕ → ℕ) (P : ℕ → Type 0) (n : ℕ) (entry : Entr
 entry_below f P n (Tighten var side value row) below names = below row names
 entry_below f P n (Split var value) below names = tt
 entry_below f P n (Halve var value wide) below names =
-    All-map (EachMember (λ row. row < n)) (renumbered_member f) wide.basis (All-weaker (EachMember P) (λ member. EachMember (λ row. row < n) (renumbered_member f member)) one wide.basis names)
+    All-map (EachMember (λ row. row < n)) (renumbered_member f) wide.basis
+    (All-weaker (EachMember P) (λ member. EachMember (λ row. row < n) (renumbered_member f member)) one
+    wide.basis names)
   where
     one : (m : Member) → EachMember P m → EachMember (λ row. row < n) (renumbered_member f m)
     one (ByLow v w) is = tt
     one (ByHigh v w) is = tt
     one (ByRow row) is = below row is
 entry_below f P n (Refute parts) below names =
-    All-map (λ (part : ℕ × ℕ). part.0 < n) (renumbered_part f) parts (All-weaker (λ part. P part.0) (λ part. f part.0 < n) (λ part is. below part.0 is) parts names)
+    All-map (λ (part : ℕ × ℕ). part.0 < n) (renumbered_part f) parts
+    (All-weaker (λ part. P part.0) (λ part. f part.0 < n) (λ part is. below part.0 is) parts names)
 entry_below f P n Undone below names = tt

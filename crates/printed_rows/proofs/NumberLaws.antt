@@ -66,7 +66,9 @@ number_at named n numbers row are within =
     ap (λ (ns : List ℕ). get_or ns row 0) are ∙ get_or-map-numbers_from (new_number named) 0 n row 0 within ∙ ap (new_number named) (first row)
 
 -- the step of the loop that numbers the rows
-pub numbered_more : (named : ℕ → Bool) (numbers more : List ℕ) (i next after : ℕ) (is : Bool) → next ≡ new_number named i → AreNumbers named i numbers → more ≡ numbers ++ next ∷ [] → is ≡ named i → after ≡ (if is then next + 1 else next)
+pub numbered_more : (named : ℕ → Bool) (numbers more : List ℕ) (i next after : ℕ) (is : Bool) →
+    next ≡ new_number named i → AreNumbers named i numbers → more ≡ numbers ++ next ∷ [] → is ≡ named i →
+    after ≡ (if is then next + 1 else next)
     → (after ≡ new_number named (i + 1)) × (AreNumbers named (i + 1) more)
 numbered_more named numbers more i next after is next_is are more_is is_named after_is = (
   after_number is is_named after_is,
@@ -84,7 +86,8 @@ pub parts_known : (named : ℕ → Bool) (n : ℕ) (parts : List (ℕ × ℕ)) �
 parts_known named n parts = All-weaker (PartKnown named n) (λ part. part.0 < n) (λ part is. is.0) parts
 
 -- the rows of a Refute rise again
-pub parts_rise : (named : ℕ → Bool) (n : ℕ) (numbers : List ℕ) (parts : List (ℕ × ℕ)) → AreNumbers named n numbers → All (PartKnown named n) parts → AllPairs (λ a b. a.0 < b.0) parts
+pub parts_rise : (named : ℕ → Bool) (n : ℕ) (numbers : List ℕ) (parts : List (ℕ × ℕ)) → AreNumbers named n numbers →
+    All (PartKnown named n) parts → AllPairs (λ a b. a.0 < b.0) parts
     → AllPairs (λ a b. a.0 < b.0) (map (renumbered_part (number_in numbers)) parts)
 parts_rise named n numbers parts are names rising i j d before j_in =
     let f = number_in numbers in
@@ -96,7 +99,8 @@ parts_rise named n numbers parts are names rising i j d before j_in =
     let a_is = names i d i_known in
     let b_is = names j d j_known in
     let rise = numbers_rise named a.0 b.0 (rising i j d before j_known) a_is.1 in
-    let less : number_in numbers a.0 < number_in numbers b.0 = omega (arith, rise, number_at named n numbers a.0 are a_is.0, number_at named n numbers b.0 are b_is.0) in
+    let less : number_in numbers a.0 < number_in numbers b.0 =
+    omega (arith, rise, number_at named n numbers a.0 are a_is.0, number_at named n numbers b.0 are b_is.0) in
     rw (get_or-map (renumbered_part f) parts i d d i_known, get_or-map (renumbered_part f) parts j d d j_known) less
 
 pub parts_positive : (number : ℕ → ℕ) (parts : List (ℕ × ℕ)) → All (λ part. 0 < part.1) parts → All (λ part. 0 < part.1) (map (renumbered_part number) parts)

@@ -11,21 +11,26 @@ use Rattle.printed_rows.proofs.NamedLaws.{entries_agree, names_known}
 use Rattle.printed_rows.proofs.NumberLaws.{number_at, numbers_counted}
 
 -- the marks of a test, where nothing was marked before
-pub marks_are : (test : ℕ → Bool) (none marks : List Bool) → ((row : ℕ) → is_marked none row ≡ false) → AreMarked test none marks → is_marked marks ≡ test
+marks_are : (test : ℕ → Bool) (none marks : List Bool) → ((row : ℕ) → is_marked none row ≡ false) → AreMarked test none marks → is_marked marks ≡ test
 marks_are test none marks empty are = λ i row. (are.marked row ∙ ap (λ (x : Bool). x || test row) (empty row)) i
 
 -- and of one test after the other
-pub both_marks_are : (first second : ℕ → Bool) (none middle marks : List Bool) → ((row : ℕ) → is_marked none row ≡ false) → AreMarked first none middle → AreMarked second middle marks → is_marked marks ≡ (λ row. first row || second row)
+both_marks_are : (first second : ℕ → Bool) (none middle marks : List Bool) → ((row : ℕ) → is_marked none row ≡ false) →
+    AreMarked first none middle → AreMarked second middle marks → is_marked marks ≡ (λ row. first row || second row)
 both_marks_are first second none middle marks empty one two =
     λ i row. (two.marked row ∙ ap (λ (x : Bool). x || second row) (one.marked row ∙ ap (λ (x : Bool). x || first row) (empty row))) i
 
 -- the numbers of a list are the new numbers
-pub numbers_agree : (test named : ℕ → Bool) (n : ℕ) (numbers : List ℕ) (entries : List Entry) → test ≡ named → AreNumbers test n numbers → All (NamesKnown test n) entries → map (renumbered (number_in numbers)) entries ≡ with_new_numbers named entries
+pub numbers_agree : (test named : ℕ → Bool) (n : ℕ) (numbers : List ℕ) (entries : List Entry) → test ≡ named →
+    AreNumbers test n numbers → All (NamesKnown test n) entries →
+    map (renumbered (number_in numbers)) entries ≡ with_new_numbers named entries
 numbers_agree test named n numbers entries same are known =
     entries_agree (number_in numbers) (new_number test) (IsKnown test n) entries (λ row is. number_at test n numbers row are is.0) known
     ∙ ap (λ (t : ℕ → Bool). with_new_numbers t entries) same
 
-pub tree_agrees : (test named : ℕ → Bool) (n : ℕ) (numbers : List ℕ) (tree new : Option CapTree) → test ≡ named → AreNumbers test n numbers → TreeNamesKnown test n tree → HasNumbers (number_in numbers) tree new → HasNumbers (new_number named) tree new
+pub tree_agrees : (test named : ℕ → Bool) (n : ℕ) (numbers : List ℕ) (tree new : Option CapTree) → test ≡ named →
+    AreNumbers test n numbers → TreeNamesKnown test n tree → HasNumbers (number_in numbers) tree new →
+    HasNumbers (new_number named) tree new
 tree_agrees test named n numbers None None same are known has = tt
 tree_agrees test named n numbers None (Some u) same are known has = absurd has
 tree_agrees test named n numbers (Some t) None same are known has = absurd has
@@ -37,7 +42,9 @@ pub record AreNumbered (test : ℕ → Bool) (n : ℕ) (marks : List Bool) (numb
   pub counted : length numbers ≡ n
   pub are : AreNumbers (is_marked marks) (length numbers) numbers
 
-pub are_numbered : (test : ℕ → Bool) (n : ℕ) (made marks : List Bool) (all numbers : List ℕ) → is_marked made ≡ test → length made ≡ n → marks ≡ made → AreNumbers (is_marked marks) (length marks) all → numbers ≡ all → AreNumbered test n marks numbers
+are_numbered : (test : ℕ → Bool) (n : ℕ) (made marks : List Bool) (all numbers : List ℕ) → is_marked made ≡ test →
+    length made ≡ n → marks ≡ made → AreNumbers (is_marked marks) (length marks) all → numbers ≡ all →
+    AreNumbered test n marks numbers
 are_numbered test n made marks all numbers same made_count marks_is are numbers_is =
     let counted : length numbers ≡ length marks = ap length numbers_is ∙ numbers_counted (is_marked marks) (length marks) all are in
     record {
@@ -46,12 +53,36 @@ are_numbered test n made marks all numbers same made_count marks_is are numbers_
       are = numbers_is ∙ are ∙ ap (λ (k : ℕ). map (new_number (is_marked marks)) (numbers_from 0 k)) (sym counted);
     }
 
--- what a tree names is known to the numbers
-pub tree_known : (test : ℕ → Bool) (n : ℕ) (marks : List Bool) (numbers : List ℕ) (tree : List Entry) → AreNumbered test n marks numbers → ((row : ℕ) → is_named tree row ≡ true → test row ≡ true) → All (NamesBelow n) tree → All (NamesKnown (is_marked marks) (length numbers)) tree
-tree_known test n marks numbers tree are passes below =
-    names_known (is_marked marks) (length numbers) tree (λ row is. ap (λ (t : ℕ → Bool). t row) are.same ∙ passes row is) (subst (λ (k : ℕ). All (NamesBelow k) tree) (sym are.counted) below)
+-- where a tree was marked
+pub tree_numbered : (tree : List Entry) (n : ℕ) (none made marks : List Bool) (all numbers : List ℕ) →
+    ((row : ℕ) → is_marked none row ≡ false) → AreMarked (is_named tree) none made → length made ≡ n → marks ≡ made →
+    AreNumbers (is_marked marks) (length marks) all → numbers ≡ all →
+    AreNumbered (is_named tree) n marks numbers
+tree_numbered tree n none made marks all numbers empty marked =
+    are_numbered (is_named tree) n made marks all numbers (marks_are (is_named tree) none made empty marked)
 
-pub if_any_known : (test : ℕ → Bool) (n : ℕ) (marks : List Bool) (numbers : List ℕ) (tree : Option CapTree) → AreNumbered test n marks numbers → ((row : ℕ) → is_named (entries_in tree) row ≡ true → test row ≡ true) → TreeNamesBelow n tree → TreeNamesKnown (is_marked marks) (length numbers) tree
+-- and where two were, one after the other
+pub both_numbered : (proof unfinished : Option CapTree) (n : ℕ) (none middle made marks : List Bool)
+    (all numbers : List ℕ) → ((row : ℕ) → is_marked none row ≡ false) →
+    AreMarked (is_named (entries_in proof)) none middle → AreMarked (is_named (entries_in unfinished)) middle made →
+    length made ≡ n → marks ≡ made →
+    AreNumbers (is_marked marks) (length marks) all → numbers ≡ all → AreNumbered (named_in proof unfinished) n marks numbers
+both_numbered proof unfinished n none middle made marks all numbers empty first second =
+    are_numbered (named_in proof unfinished) n made marks all numbers
+    (both_marks_are (is_named (entries_in proof)) (is_named (entries_in unfinished)) none middle made empty
+    first second)
+
+-- what a tree names is known to the numbers
+pub tree_known : (test : ℕ → Bool) (n : ℕ) (marks : List Bool) (numbers : List ℕ) (tree : List Entry) →
+    AreNumbered test n marks numbers → ((row : ℕ) → is_named tree row ≡ true → test row ≡ true) →
+    All (NamesBelow n) tree → All (NamesKnown (is_marked marks) (length numbers)) tree
+tree_known test n marks numbers tree are passes below =
+    names_known (is_marked marks) (length numbers) tree (λ row is. ap (λ (t : ℕ → Bool). t row) are.same
+    ∙ passes row is) (subst (λ (k : ℕ). All (NamesBelow k) tree) (sym are.counted) below)
+
+pub if_any_known : (test : ℕ → Bool) (n : ℕ) (marks : List Bool) (numbers : List ℕ) (tree : Option CapTree) →
+    AreNumbered test n marks numbers → ((row : ℕ) → is_named (entries_in tree) row ≡ true → test row ≡ true) →
+    TreeNamesBelow n tree → TreeNamesKnown (is_marked marks) (length numbers) tree
 if_any_known test n marks numbers None are passes below = tt
 if_any_known test n marks numbers (Some t) are passes below = tree_known test n marks numbers t.tree are passes below
 

@@ -23,16 +23,21 @@ use Rattle.printed_rows.specs.NamedRows.{MemberBelow, NamesBelow}
 use Rattle.printed_rows.specs.NewNumbers.{KeepsRows}
 use Rattle.printed_rows.proofs.KeptRows.{keeps_forms}
 
-weighted_first : (forms more : List Form) (parts : List (ℕ × ℕ)) → All (λ part. part.0 < length forms) parts → weighted (forms ++ more) parts ≡ weighted forms parts
+weighted_first : (forms more : List Form) (parts : List (ℕ × ℕ)) → All (λ part. part.0 < length forms) parts →
+    weighted (forms ++ more) parts ≡ weighted forms parts
 weighted_first forms more [] names = refl
 weighted_first forms more (part ∷ parts) names =
     let rest = weighted_first forms more parts (λ k d k_in. names (suc k) d (omega (arith, k_in))) in
     let here = get_or_append_left forms more no_form part.0 (names 0 part (omega arith)) in
-    let P : Form → Form → Form = λ f r. record { constant = (pos part.1 *ℤ f.constant) +ℤ r.constant; coefficients = added (map (λ c. pos part.1 *ℤ c) f.coefficients) r.coefficients } in
+    let P : Form → Form → Form = λ f r. record {
+      constant = (pos part.1 *ℤ f.constant) +ℤ r.constant;
+      coefficients = added (map (λ c. pos part.1 *ℤ c) f.coefficients) r.coefficients;
+    } in
     ap (λ (f : Form). P f (weighted (forms ++ more) parts)) here ∙ ap (P (form_at forms part.0)) rest
 
 -- an entry that names none but the first forms is sound over these
-sound_first : (forms more : List Form) (box : CostBox) (entry : Entry) → NamesBelow (length forms) entry → SoundAt (forms ++ more) box entry → SoundAt forms box entry
+sound_first : (forms more : List Form) (box : CostBox) (entry : Entry) → NamesBelow (length forms) entry →
+    SoundAt (forms ++ more) box entry → SoundAt forms box entry
 sound_first forms more box (Tighten var side value row) names sound = record {
   var_known = sound.var_known;
   smaller = sound.smaller;
@@ -49,7 +54,8 @@ sound_first forms more box (Refute parts) names sound = record {
 }
 sound_first forms more box Undone names sound = tt
 
-pub sound_over_first : (forms more : List Form) (boxes : List CostBox) (entries : List Entry) → All (NamesBelow (length forms)) entries → Sound (forms ++ more) boxes entries → Sound forms boxes entries
+pub sound_over_first : (forms more : List Form) (boxes : List CostBox) (entries : List Entry) →
+    All (NamesBelow (length forms)) entries → Sound (forms ++ more) boxes entries → Sound forms boxes entries
 sound_over_first forms more [] [] names sound = tt
 sound_over_first forms more (box ∷ boxes) [] names sound = absurd sound
 sound_over_first forms more [] (e ∷ entries) names sound = absurd sound
@@ -59,12 +65,15 @@ sound_over_first forms more (box ∷ boxes) (e ∷ entries) names sound = (
 )
 
 -- the tree over the rows that are kept, with all rows behind them
-pub tree_over_both : {R : Type 0} (accepts : Point → Type 0) (top : ℕ) (form : R → Form) (box : CostBox) (number : ℕ → ℕ) (old kept more : List R) (tree new_tree : List Entry) → KeepsRows number old (kept ++ more) → new_tree ≡ map (renumbered number) tree → IsEarnestTree accepts top (map form old) box tree →
+pub tree_over_both : {R : Type 0} (accepts : Point → Type 0) (top : ℕ) (form : R → Form) (box : CostBox) (number : ℕ →
+    ℕ) (old kept more : List R) (tree new_tree : List Entry) → KeepsRows number old (kept ++ more) →
+    new_tree ≡ map (renumbered number) tree → IsEarnestTree accepts top (map form old) box tree →
     IsEarnestTree accepts top (map form kept ++ map form more) box new_tree
 tree_over_both accepts top form box number old kept more tree new_tree keeps same earnest =
     subst (λ (es : List Entry). IsEarnestTree accepts top (map form kept ++ map form more) box es) (sym same)
     (subst (λ (fs : List Form). IsEarnestTree accepts top fs box (map (renumbered number) tree)) (map-append form kept more)
-    (renumbered_tree number (map form old) (map form (kept ++ more)) accepts top (record { box = box; since = [] } ∷ []) tree (keeps_forms form number old (kept ++ more) keeps) earnest))
+    (renumbered_tree number (map form old) (map form (kept ++ more)) accepts top (record { box = box; since = [] } ∷ [])
+    tree (keeps_forms form number old (kept ++ more) keeps) earnest))
 
 same_undone : (number : ℕ → ℕ) (entry : Entry) → is_undone (renumbered number entry) ≡ is_undone entry
 same_undone number (Tighten var side value row) = refl
@@ -85,8 +94,11 @@ closed_kept number (e ∷ tree) closed = (same_undone number e ∙ closed.0, clo
 
 -- and none is lost
 pub undone_kept : (number : ℕ → ℕ) (tree : List Entry) → Contains tree Undone → Contains (map (renumbered number) tree) Undone
-undone_kept number tree has =
-    (has.0, omega (arith, length-map tree (renumbered number), has.1), get_or-map (renumbered number) tree has.0 Undone Undone has.1 ∙ ap (renumbered number) has.2)
+undone_kept number tree has = (
+  has.0,
+  omega (arith, length-map tree (renumbered number), has.1),
+  get_or-map (renumbered number) tree has.0 Undone Undone has.1 ∙ ap (renumbered number) has.2,
+)
 
 undones_kept : (number : ℕ → ℕ) (n : ℕ) → map (renumbered number) (undones n) ≡ undones n
 undones_kept number zero = refl
@@ -127,7 +139,8 @@ member_below box forms (ByLow var value) is = tt
 member_below box forms (ByHigh var value) is = tt
 member_below box forms (ByRow row) is = is
 
-names_at : (accepts : Point → Type 0) (top : ℕ) (forms : List Form) (place : Place) (entry : Entry) → SoundAt forms place.box entry → EarnestAt accepts top forms place entry → NamesBelow (length forms) entry
+names_at : (accepts : Point → Type 0) (top : ℕ) (forms : List Form) (place : Place) (entry : Entry) →
+    SoundAt forms place.box entry → EarnestAt accepts top forms place entry → NamesBelow (length forms) entry
 names_at accepts top forms place (Tighten var side value row) sound earnest = sound.row_known
 names_at accepts top forms place (Split var value) sound earnest = tt
 names_at accepts top forms place (Halve var value wide) sound earnest =
@@ -136,7 +149,8 @@ names_at accepts top forms place (Refute parts) sound earnest = sound.rows
 names_at accepts top forms place Undone sound earnest = tt
 
 -- an earnest tree names none but the forms that it stands over
-pub earnest_names : (accepts : Point → Type 0) (top : ℕ) (forms : List Form) (places : List Place) (entries : List Entry) → Earnest accepts top forms places entries → All (NamesBelow (length forms)) entries
+pub earnest_names : (accepts : Point → Type 0) (top : ℕ) (forms : List Form) (places : List Place)
+    (entries : List Entry) → Earnest accepts top forms places entries → All (NamesBelow (length forms)) entries
 earnest_names accepts top forms [] [] earnest = All-nil (NamesBelow (length forms))
 earnest_names accepts top forms (p ∷ places) [] earnest = absurd earnest
 earnest_names accepts top forms [] (e ∷ entries) earnest = absurd earnest

@@ -33,8 +33,10 @@ no_extra n (Router m) fits = refl
 no_extra n (Subnet m) fits = absurd fits
 
 -- the first edge of a path and the rest of it
-step_edges : (g : Area) (vs : List Vertex) (s e : ℕ) (es : List ℕ) → FitsGraph g → length vs ≡ length g.vertices → get_or vs s (Router 0) ≡ vertex_at g s → e < length g.edges → (edge_at g e).from ≡ s →
-    length es ≤ 2 * count_by is_router vs + extra (vertex_at g (edge_at g e).to) → length es ≤ 2 * count_by is_router (set vs s (Subnet 0)) + extra (vertex_at g (edge_at g e).to) →
+step_edges : (g : Area) (vs : List Vertex) (s e : ℕ) (es : List ℕ) → FitsGraph g → length vs ≡ length g.vertices →
+    get_or vs s (Router 0) ≡ vertex_at g s → e < length g.edges → (edge_at g e).from ≡ s →
+    length es ≤ 2 * count_by is_router vs + extra (vertex_at g (edge_at g e).to) →
+    length es ≤ 2 * count_by is_router (set vs s (Subnet 0)) + extra (vertex_at g (edge_at g e).to) →
     length es + 1 ≤ 2 * count_by is_router vs + extra (vertex_at g s)
 step_edges g vs s e es graph same mark known from after_subnet after_router = by_source (vertex_at g s) refl
   where
@@ -50,20 +52,26 @@ step_edges g vs s e es graph same mark known from after_subnet after_router = by
         let last = extra_small (vertex_at g (edge_at g e).to) in
         omega arith
     by_source (Subnet n) is =
-        let target : FitsTarget (Subnet n) (vertex_at g (edge_at g e).to) = subst (λ (v : Vertex). FitsTarget v (vertex_at g (edge_at g e).to)) (ap (vertex_at g) from ∙ is) edge.target in
+        let target : FitsTarget (Subnet n) (vertex_at g (edge_at g e).to) =
+        subst (λ (v : Vertex). FitsTarget v (vertex_at g (edge_at g e).to)) (ap (vertex_at g) from
+        ∙ is) edge.target in
         let none = no_extra n (vertex_at g (edge_at g e).to) target in
         let one : extra (vertex_at g s) ≡ 1 = ap extra is in
         omega arith
 
 -- a path with no vertex twice has at most two edges for each router, and one more
-edges_le : (g : Area) (vs : List Vertex) (s : ℕ) (es : List ℕ) (t : ℕ) → FitsGraph g → length vs ≡ length g.vertices → Joins g s es t → NoneTwice (visited g s es) → ((v : ℕ) → Member (visited g s es) v → get_or vs v (Router 0) ≡ vertex_at g v) →
+edges_le : (g : Area) (vs : List Vertex) (s : ℕ) (es : List ℕ) (t : ℕ) → FitsGraph g → length vs ≡ length g.vertices →
+    Joins g s es t → NoneTwice (visited g s es) →
+    ((v : ℕ) → Member (visited g s es) v → get_or vs v (Router 0) ≡ vertex_at g v) →
     length es ≤ 2 * count_by is_router vs + extra (vertex_at g s)
 edges_le g vs s [] t graph same joins once marks = omega arith
 edges_le g vs s (e ∷ es) t graph same joins once marks =
     let step = step_edges g vs s e es graph same (marks s (inl refl)) joins.0 joins.1
     (edges_le g vs (edge_at g e).to es t graph same joins.2 once.1 (λ v has. marks v (inr has)))
     (edges_le g (set vs s (Subnet 0)) (edge_at g e).to es t graph (length-set vs s (Subnet 0) ∙ same) joins.2 once.1
-    (λ v has. get_or-set_other vs s v (Subnet 0) (Router 0) (λ back. lacks_not (visited g (edge_at g e).to es) s once.0 (subst (λ (x : ℕ). Member (visited g (edge_at g e).to es) x) back has)) ∙ marks v (inr has))) in
+    (λ v has. get_or-set_other vs s v (Subnet 0) (Router 0)
+    (λ back. lacks_not (visited g (edge_at g e).to es) s once.0
+    (subst (λ (x : ℕ). Member (visited g (edge_at g e).to es) x) back has)) ∙ marks v (inr has))) in
     omega arith
 
 path_edges-le : (g : Area) (ends : Ends) (es : List ℕ) → FitsGraph g → IsPathOf g ends es → length es ≤ 2001
@@ -79,7 +87,8 @@ edges_room (e ∷ es) small =
     let rest = edges_room es (All-tail (λ (e : ℕ). e < 2 ^ 32) e es small) in
     omega arith
 
-words_short : (request : ℕ) (es : List ℕ) → request < 2 ^ 32 → All (λ e. e < 2 ^ 32) es → length es ≤ 2001 → IsLine (spaced (codes "row" ∷ decimal request ∷ map decimal es))
+words_short : (request : ℕ) (es : List ℕ) → request < 2 ^ 32 → All (λ e. e < 2 ^ 32) es → length es ≤ 2001 →
+    IsLine (spaced (codes "row" ∷ decimal request ∷ map decimal es))
 words_short request es few small count =
     let words = spaced-le (codes "row" ∷ decimal request ∷ map decimal es) in
     omega (arith, thing_digits request few, edges_room es small)
@@ -96,7 +105,9 @@ row_short p row kept graph is_row =
     let found = request_of_route p.graph p.paths row.request no_request row.rival.edges (route p row is_row) in
     let ends = ends_of (get_or p.paths row.request no_request) in
     let known = path-known p.graph ends row.rival.edges found.path in
-    words_short row.request row.rival.edges (omega (arith, found.within, kept.path_count)) (λ k d k_in. let below = known k d k_in in omega (arith, graph.edge_count)) (path_edges-le p.graph ends row.rival.edges graph found.path)
+    words_short row.request row.rival.edges (omega (arith, found.within, kept.path_count)) (λ k d k_in. let below =
+    known k d k_in in omega (arith, graph.edge_count))
+    (path_edges-le p.graph ends row.rival.edges graph found.path)
 
 -- the lines of a problem's rows
 pub rows_short : (p : DesignProblem) (rows : List Row) → IsProblem p → FitsGraph p.graph → All (IsRow p) rows → All (λ row. IsLine (row_line row)) rows

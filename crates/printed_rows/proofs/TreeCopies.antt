@@ -26,11 +26,14 @@ use Rattle.printed_rows.proofs.RenumberedTrees.{closed_kept, count_kept, earnest
 use Rattle.printed_rows.proofs.TreeLines.{IsCostBounds, IsPrintable, tree_short}
 
 -- a tree over the forms of rows names none but these rows
-pub tree_names : {R : Type 0} (accepts : Point → Type 0) (top : ℕ) (form : R → Form) (rows : List R) (box : CostBox) (tree : List Entry) → IsEarnestTree accepts top (map form rows) box tree → All (NamesBelow (length rows)) tree
+pub tree_names : {R : Type 0} (accepts : Point → Type 0) (top : ℕ) (form : R → Form) (rows : List R) (box : CostBox)
+    (tree : List Entry) → IsEarnestTree accepts top (map form rows) box tree → All (NamesBelow (length rows)) tree
 tree_names accepts top form rows box tree earnest =
-    subst (λ (n : ℕ). All (NamesBelow n) tree) (length-map rows form) (earnest_names accepts top (map form rows) (record { box = box; since = [] } ∷ []) tree earnest)
+    subst (λ (n : ℕ). All (NamesBelow n) tree) (length-map rows form)
+    (earnest_names accepts top (map form rows) (record { box = box; since = [] } ∷ []) tree earnest)
 
-pub search_names : {R : Type 0} (accepts : Point → Type 0) (top : ℕ) (form : R → Form) (rows : List R) (box : CostBox) (tree : List Entry) → IsSearchTree accepts top (map form rows) box tree → All (NamesBelow (length rows)) tree
+pub search_names : {R : Type 0} (accepts : Point → Type 0) (top : ℕ) (form : R → Form) (rows : List R) (box : CostBox)
+    (tree : List Entry) → IsSearchTree accepts top (map form rows) box tree → All (NamesBelow (length rows)) tree
 search_names accepts top form rows box tree search = tree_names accepts top form rows box tree search.earnest
 
 -- the rows that pass a test, and a tree over all rows with the new numbers of these, which are all that it names
@@ -40,7 +43,8 @@ pub record IsCopy {R : Type 0} (named : ℕ → Bool) (old rows : List R) (tree 
   pub known : All (NamesKnown named (length old)) tree
 
 -- what is printed of one tree
-pub printed_copy : {R : Type 0} (old rows : List R) (tree new_tree : List Entry) → IsPrinted old tree rows new_tree → All (NamesBelow (length old)) tree → IsCopy (is_named tree) old rows tree new_tree
+pub printed_copy : {R : Type 0} (old rows : List R) (tree new_tree : List Entry) → IsPrinted old tree rows new_tree →
+    All (NamesBelow (length old)) tree → IsCopy (is_named tree) old rows tree new_tree
 printed_copy old rows tree new_tree printed below = record {
   kept = printed.kept;
   copied = printed.tree_is;
@@ -48,14 +52,18 @@ printed_copy old rows tree new_tree printed below = record {
 }
 
 -- and of two
-pub proof_copy : {R : Type 0} (old rows : List R) (t u : CapTree) (unfinished new_unfinished : Option CapTree) → ArePrinted old (Some t) unfinished rows (Some u) new_unfinished → All (NamesBelow (length old)) t.tree → IsCopy (named_in (Some t) unfinished) old rows t.tree u.tree
+pub proof_copy : {R : Type 0} (old rows : List R) (t u : CapTree) (unfinished new_unfinished : Option CapTree) →
+    ArePrinted old (Some t) unfinished rows (Some u) new_unfinished → All (NamesBelow (length old)) t.tree →
+    IsCopy (named_in (Some t) unfinished) old rows t.tree u.tree
 proof_copy old rows t u unfinished new_unfinished printed below = record {
   kept = printed.kept;
   copied = printed.proof_is.1;
   known = names_known (named_in (Some t) unfinished) (length old) t.tree (first_named (Some t) unfinished) below;
 }
 
-pub unfinished_copy : {R : Type 0} (old rows : List R) (t u : CapTree) (proof new_proof : Option CapTree) → ArePrinted old proof (Some t) rows new_proof (Some u) → All (NamesBelow (length old)) t.tree → IsCopy (named_in proof (Some t)) old rows t.tree u.tree
+pub unfinished_copy : {R : Type 0} (old rows : List R) (t u : CapTree) (proof new_proof : Option CapTree) →
+    ArePrinted old proof (Some t) rows new_proof (Some u) → All (NamesBelow (length old)) t.tree →
+    IsCopy (named_in proof (Some t)) old rows t.tree u.tree
 unfinished_copy old rows t u proof new_proof printed below = record {
   kept = printed.kept;
   copied = printed.unfinished_is.1;
@@ -67,36 +75,50 @@ pub all_printed : {R : Type 0} (P : R → Type 0) (named : ℕ → Bool) (old ro
 all_printed {R} P named old rows kept all = subst (λ (rs : List R). All P rs) (sym kept.same) (all_kept P named old all)
 
 -- the new tree names none but the printed rows
-pub copy_names : {R : Type 0} (named : ℕ → Bool) (old rows : List R) (tree new_tree : List Entry) → IsCopy named old rows tree new_tree → All (NamesBelow (length rows)) new_tree
+pub copy_names : {R : Type 0} (named : ℕ → Bool) (old rows : List R) (tree new_tree : List Entry) →
+    IsCopy named old rows tree new_tree → All (NamesBelow (length rows)) new_tree
 copy_names {R} named old rows tree new_tree copy =
     let n = length (kept_rows named old) in
     let f = new_number named in
     subst (λ (rs : List R). All (NamesBelow (length rs)) new_tree) (sym copy.kept.same)
     (subst (λ (es : List Entry). All (NamesBelow n) es) (sym copy.copied)
     (All-map (NamesBelow n) (renumbered f) tree
-    (All-weaker (NamesKnown named (length old)) (λ e. NamesBelow n (renumbered f e)) (λ e is. entry_below f (IsKnown named (length old)) n e (λ row known. number_known named old row known.0 known.1) is) tree copy.known)))
+    (All-weaker (NamesKnown named (length old)) (λ e. NamesBelow n (renumbered f e))
+    (λ e is. entry_below f (IsKnown named (length old)) n e
+    (λ row known. number_known named old row known.0 known.1) is) tree copy.known)))
 
 -- the new tree as the old one with numbers for all rows
-copy_is : {R : Type 0} (named : ℕ → Bool) (old rows : List R) (tree new_tree : List Entry) → IsCopy named old rows tree new_tree → new_tree ≡ map (renumbered (number_of named (length (kept_rows named old)))) tree
+copy_is : {R : Type 0} (named : ℕ → Bool) (old rows : List R) (tree new_tree : List Entry) →
+    IsCopy named old rows tree new_tree →
+    new_tree ≡ map (renumbered (number_of named (length (kept_rows named old)))) tree
 copy_is named old rows tree new_tree copy =
     let n = length (kept_rows named old) in
     copy.copied
     ∙ entries_agree (new_number named) (number_of named n) (IsKnown named (length old)) tree (λ row is. sym (number_of_kept named n row is.1)) copy.known
 
 -- the new tree is earnest over the printed rows with all rows behind them
-pub copy_earnest : {R : Type 0} (accepts : Point → Type 0) (top : ℕ) (form : R → Form) (box : CostBox) (named : ℕ → Bool) (old rows : List R) (tree new_tree : List Entry) → IsCopy named old rows tree new_tree → IsEarnestTree accepts top (map form old) box tree → IsEarnestTree accepts top (map form rows ++ map form old) box new_tree
+pub copy_earnest : {R : Type 0} (accepts : Point → Type 0) (top : ℕ) (form : R → Form) (box : CostBox) (named : ℕ →
+    Bool) (old rows : List R) (tree new_tree : List Entry) → IsCopy named old rows tree new_tree →
+    IsEarnestTree accepts top (map form old) box tree →
+    IsEarnestTree accepts top (map form rows ++ map form old) box new_tree
 copy_earnest {R} accepts top form box named old rows tree new_tree copy earnest =
     let kept = kept_rows named old in
     subst (λ (rs : List R). IsEarnestTree accepts top (map form rs ++ map form old) box new_tree) (sym copy.kept.same)
-    (tree_over_both accepts top form box (number_of named (length kept)) old kept old tree new_tree (rows_kept named old) (copy_is named old rows tree new_tree copy) earnest)
+    (tree_over_both accepts top form box (number_of named (length kept)) old kept old tree new_tree
+    (rows_kept named old) (copy_is named old rows tree new_tree copy) earnest)
 
 -- and over the printed rows alone, where all rows have true forms
-pub copy_over : {R : Type 0} (accepts : Point → Type 0) (IsTrueForm : Form → Type 0) (top : ℕ) (form : R → Form) (box : CostBox) (named : ℕ → Bool) (old rows : List R) (tree new_tree : List Entry) → IsCopy named old rows tree new_tree → All (λ row. IsTrueForm (form row)) old → IsEarnestTree accepts top (map form old) box tree →
+pub copy_over : {R : Type 0} (accepts : Point → Type 0) (IsTrueForm : Form → Type 0) (top : ℕ) (form : R → Form)
+    (box : CostBox) (named : ℕ → Bool) (old rows : List R) (tree new_tree : List Entry) →
+    IsCopy named old rows tree new_tree → All (λ row. IsTrueForm (form row)) old →
+    IsEarnestTree accepts top (map form old) box tree →
     IsEarnestOver accepts IsTrueForm top (map form rows) box new_tree
 copy_over {R} accepts IsTrueForm top form box named old rows tree new_tree copy true_rows earnest =
     let forms = map form rows in
     let whole : IsEarnestTree accepts top (forms ++ map form old) box new_tree = copy_earnest accepts top form box named old rows tree new_tree copy earnest in
-    let known : All (NamesBelow (length forms)) new_tree = subst (λ (n : ℕ). All (NamesBelow n) new_tree) (sym (length-map rows form)) (copy_names named old rows tree new_tree copy) in
+    let known : All (NamesBelow (length forms)) new_tree =
+    subst (λ (n : ℕ). All (NamesBelow n) new_tree) (sym (length-map rows form))
+    (copy_names named old rows tree new_tree copy) in
     record {
       sound = sound_over_first forms (map form old) (box ∷ []) new_tree known (earnest_tree_sound accepts top (forms ++ map form old) box new_tree whole);
       more = map form old;
@@ -105,7 +127,10 @@ copy_over {R} accepts IsTrueForm top form box named old rows tree new_tree copy 
     }
 
 -- a search's tree as it is printed
-pub copy_printed : {R : Type 0} (accepts : Point → Type 0) (IsTrueForm : Form → Type 0) (top nodes : ℕ) (form : R → Form) (box : CostBox) (named : ℕ → Bool) (old rows : List R) (tree new_tree : List Entry) → IsCopy named old rows tree new_tree → All (λ row. IsTrueForm (form row)) old → IsSearchTree accepts top (map form old) box tree → entry_count tree ≤ nodes →
+pub copy_printed : {R : Type 0} (accepts : Point → Type 0) (IsTrueForm : Form → Type 0) (top nodes : ℕ) (form : R →
+    Form) (box : CostBox) (named : ℕ → Bool) (old rows : List R) (tree new_tree : List Entry) →
+    IsCopy named old rows tree new_tree → All (λ row. IsTrueForm (form row)) old →
+    IsSearchTree accepts top (map form old) box tree → entry_count tree ≤ nodes →
     IsPrintedOver accepts IsTrueForm top nodes (map form rows) box new_tree
 copy_printed accepts IsTrueForm top nodes form box named old rows tree new_tree copy true_rows search few = record {
   earnest = copy_over accepts IsTrueForm top form box named old rows tree new_tree copy true_rows search.earnest;
@@ -114,7 +139,10 @@ copy_printed accepts IsTrueForm top nodes form box named old rows tree new_tree 
 }
 
 -- and a tree of spent budget
-pub copy_spent : {R : Type 0} (accepts : Point → Type 0) (IsTrueForm : Form → Type 0) (top nodes : ℕ) (form : R → Form) (box : CostBox) (named : ℕ → Bool) (old rows : List R) (tree new_tree : List Entry) → IsCopy named old rows tree new_tree → All (λ row. IsTrueForm (form row)) old → IsSearchTree accepts top (map form old) box tree → Contains tree Undone → entry_count tree ≡ nodes →
+pub copy_spent : {R : Type 0} (accepts : Point → Type 0) (IsTrueForm : Form → Type 0) (top nodes : ℕ) (form : R → Form)
+    (box : CostBox) (named : ℕ → Bool) (old rows : List R) (tree new_tree : List Entry) →
+    IsCopy named old rows tree new_tree → All (λ row. IsTrueForm (form row)) old →
+    IsSearchTree accepts top (map form old) box tree → Contains tree Undone → entry_count tree ≡ nodes →
     IsSpentOver accepts IsTrueForm top nodes (map form rows) box new_tree
 copy_spent accepts IsTrueForm top nodes form box named old rows tree new_tree copy true_rows search undone spent = record {
   printed = copy_printed accepts IsTrueForm top nodes form box named old rows tree new_tree copy true_rows search (omega (arith, spent));
@@ -123,12 +151,15 @@ copy_spent accepts IsTrueForm top nodes form box named old rows tree new_tree co
 }
 
 -- a closed tree stays closed
-pub copy_closed : {R : Type 0} (named : ℕ → Bool) (old rows : List R) (tree new_tree : List Entry) → IsCopy named old rows tree new_tree → IsClosed tree → IsClosed new_tree
+pub copy_closed : {R : Type 0} (named : ℕ → Bool) (old rows : List R) (tree new_tree : List Entry) →
+    IsCopy named old rows tree new_tree → IsClosed tree → IsClosed new_tree
 copy_closed named old rows tree new_tree copy closed = subst IsClosed (sym copy.copied) (closed_kept (new_number named) tree closed)
 
 -- the entries stay short
-pub copy_short : {R : Type 0} (n : ℕ) (named : ℕ → Bool) (old rows : List R) (tree new_tree : List Entry) → IsCopy named old rows tree new_tree → All (IsShort n) tree → All (IsShort n) new_tree
-copy_short n named old rows tree new_tree copy short = subst (λ (es : List Entry). All (IsShort n) es) (sym copy.copied) (short_kept (new_number named) n tree short)
+pub copy_short : {R : Type 0} (n : ℕ) (named : ℕ → Bool) (old rows : List R) (tree new_tree : List Entry) →
+    IsCopy named old rows tree new_tree → All (IsShort n) tree → All (IsShort n) new_tree
+copy_short n named old rows tree new_tree copy short =
+    subst (λ (es : List Entry). All (IsShort n) es) (sym copy.copied) (short_kept (new_number named) n tree short)
 
 -- whole trees have at most two entries and Undones for each entry, and one more for each tree
 pub whole_length : (n : ℕ) (entries : List Entry) → WholeTrees n entries → length entries ≤ n + 2 * entry_count entries
@@ -142,7 +173,10 @@ whole_length (suc n) (Refute parts ∷ entries) whole = let rest = whole_length 
 whole_length (suc n) (Undone ∷ entries) whole = let rest = whole_length (0 + n) entries whole in omega arith
 
 -- the new tree can be printed at a cap
-pub copy_printable : {R : Type 0} (accepts : Point → Type 0) (top nodes cap : ℕ) (form : R → Form) (box : CostBox) (named : ℕ → Bool) (old rows : List R) (tree new_tree : List Entry) → IsCopy named old rows tree new_tree → IsCostBounds (length box.low) box → cap ≤ 65535 → nodes ≤ 10000000 → IsSearchTree accepts top (map form old) box tree → entry_count tree ≤ nodes →
+pub copy_printable : {R : Type 0} (accepts : Point → Type 0) (top nodes cap : ℕ) (form : R → Form) (box : CostBox)
+    (named : ℕ → Bool) (old rows : List R) (tree new_tree : List Entry) → IsCopy named old rows tree new_tree →
+    IsCostBounds (length box.low) box → cap ≤ 65535 → nodes ≤ 10000000 →
+    IsSearchTree accepts top (map form old) box tree → entry_count tree ≤ nodes →
     IsPrintable (record { cap = cap; tree = new_tree })
 copy_printable accepts top nodes cap form box named old rows tree new_tree copy bounds small budget search few =
     let forms = map form rows ++ map form old in
@@ -154,5 +188,6 @@ copy_printable accepts top nodes cap form box named old rows tree new_tree copy 
       cap = small;
       count = omega (arith, whole, count);
       entries = λ k d k_in. (short k d k_in).0;
-      lines = tree_short accepts top (length box.low) (length rows) forms box new_tree bounds copy.kept.few earnest short (copy_names named old rows tree new_tree copy);
+      lines = tree_short accepts top (length box.low) (length rows) forms box new_tree bounds copy.kept.few earnest
+          short (copy_names named old rows tree new_tree copy);
     }

@@ -125,10 +125,21 @@ split_line var value few low =
     let words = spaced-le (codes "split" ∷ decimal var ∷ decimal value ∷ []) in
     omega (arith, thing_digits var few, cost_digits value low)
 
-halve_line : (var value : ℕ) (wide : WideAt) → var < 2 ^ 32 → value ≤ 65535 → IsPrinted wide.left → IsPrinted wide.right → All FitsMember wide.basis → length wide.basis ≤ 1000 → IsLine (entry_line (Halve var value wide))
+halve_line : (var value : ℕ) (wide : WideAt) → var < 2 ^ 32 → value ≤ 65535 → IsPrinted wide.left →
+    IsPrinted wide.right → All FitsMember wide.basis → length wide.basis ≤ 1000 →
+    IsLine (entry_line (Halve var value wide))
 halve_line var value wide few low left right members count =
-    let words = spaced-le (codes "halve" ∷ decimal var ∷ decimal value ∷ step_word wide.step ∷ ratio_word wide.left ∷ ratio_word wide.right ∷ members_words wide.basis) in
-    omega (arith, thing_digits var few, cost_digits value low, step_digits wide.step, ratio_digits wide.left left, ratio_digits wide.right right, members_room wide.basis members)
+    let words = spaced-le (codes "halve" ∷ decimal var ∷ decimal value ∷ step_word wide.step ∷ ratio_word wide.left
+    ∷ ratio_word wide.right ∷ members_words wide.basis) in
+    omega (
+      arith,
+      thing_digits var few,
+      cost_digits value low,
+      step_digits wide.step,
+      ratio_digits wide.left left,
+      ratio_digits wide.right right,
+      members_room wide.basis members,
+    )
 
 refute_line : (parts : List (ℕ × ℕ)) → All FitsPart parts → length parts ≤ 1001 → IsLine (entry_line (Refute parts))
 refute_line parts fits count =
@@ -151,7 +162,8 @@ high_cost n outer box var bounds kept known =
 var_few : (n : ℕ) (outer box : CostBox) (var : ℕ) → IsCostBounds n outer → IsBoxIn n outer box → var < length box.low → var < 2 ^ 32
 var_few n outer box var bounds kept known = omega (arith, bounds.few, kept.is_box.low_count)
 
-member_fits : (n rows : ℕ) (outer box : CostBox) (forms : List Form) (member : Member) → IsCostBounds n outer → IsBoxIn n outer box → rows < 2 ^ 64 → IsFormOf box forms member → MemberBelow rows member → FitsMember member
+member_fits : (n rows : ℕ) (outer box : CostBox) (forms : List Form) (member : Member) → IsCostBounds n outer →
+    IsBoxIn n outer box → rows < 2 ^ 64 → IsFormOf box forms member → MemberBelow rows member → FitsMember member
 member_fits n rows outer box forms (ByLow var value) bounds kept some is names =
     let high = high_cost n outer box var bounds kept is.0 in
     let ordered = kept.is_box.ordered var (omega (arith, kept.is_box.low_count, is.0)) in
@@ -162,7 +174,9 @@ member_fits n rows outer box forms (ByHigh var value) bounds kept some is names 
 member_fits n rows outer box forms (ByRow row) bounds kept some is names = omega (arith, names)
 
 -- the line of an entry
-entry_short : (accepts : Point → Type 0) (top n rows : ℕ) (forms : List Form) (outer : CostBox) (place : Place) (entry : Entry) → IsCostBounds n outer → rows < 2 ^ 64 → IsBoxIn n outer place.box → SoundAt forms place.box entry → EarnestAt accepts top forms place entry → IsShort n entry → NamesBelow rows entry → IsLine (entry_line entry)
+entry_short : (accepts : Point → Type 0) (top n rows : ℕ) (forms : List Form) (outer : CostBox) (place : Place)
+    (entry : Entry) → IsCostBounds n outer → rows < 2 ^ 64 → IsBoxIn n outer place.box → SoundAt forms place.box entry →
+    EarnestAt accepts top forms place entry → IsShort n entry → NamesBelow rows entry → IsLine (entry_line entry)
 entry_short accepts top n rows forms outer place (Tighten var LowSide value row) bounds some kept sound earnest short names =
     let high = high_cost n outer place.box var bounds kept sound.var_known in
     tighten_line var LowSide value row (var_few n outer place.box var bounds kept sound.var_known) (omega (arith, sound.smaller.1)) (omega (arith, names))
@@ -189,18 +203,27 @@ boxes_after place (Refute parts) places = refl
 boxes_after place Undone places = refl
 
 -- the lines of the entries
-entries_short : (accepts : Point → Type 0) (top n rows : ℕ) (forms : List Form) (outer : CostBox) (places : List Place) (entries : List Entry) → IsCostBounds n outer → rows < 2 ^ 64 → AllOf (IsBoxIn n outer) (boxes_of places) → Earnest accepts top forms places entries → All (IsShort n) entries → All (NamesBelow rows) entries → All (λ entry. IsLine (entry_line entry)) entries
+entries_short : (accepts : Point → Type 0) (top n rows : ℕ) (forms : List Form) (outer : CostBox) (places : List Place)
+    (entries : List Entry) → IsCostBounds n outer → rows < 2 ^ 64 → AllOf (IsBoxIn n outer) (boxes_of places) →
+    Earnest accepts top forms places entries → All (IsShort n) entries → All (NamesBelow rows) entries →
+    All (λ entry. IsLine (entry_line entry)) entries
 entries_short accepts top n rows forms outer [] [] bounds some kept earnest short names = All-nil (λ (entry : Entry). IsLine (entry_line entry))
 entries_short accepts top n rows forms outer (p ∷ places) [] bounds some kept earnest short names = absurd earnest
 entries_short accepts top n rows forms outer [] (e ∷ entries) bounds some kept earnest short names = absurd earnest
 entries_short accepts top n rows forms outer (p ∷ places) (e ∷ entries) bounds some kept earnest short names =
     All-cons (λ (entry : Entry). IsLine (entry_line entry)) e entries
-    (entry_short accepts top n rows forms outer p e bounds some kept.0 earnest.0 earnest.1 (All-head (IsShort n) e entries short) (All-head (NamesBelow rows) e entries names))
+    (entry_short accepts top n rows forms outer p e bounds some kept.0 earnest.0 earnest.1
+    (All-head (IsShort n) e entries short) (All-head (NamesBelow rows) e entries names))
     (entries_short accepts top n rows forms outer (subplaces p e ++ places) entries bounds some
-    (subst (AllOf (IsBoxIn n outer)) (sym (boxes_after p e places)) (all_of_more (IsBoxIn n outer) (subboxes p.box e) (boxes_of places) (subboxes_in n outer forms p.box e kept.0 earnest.0) kept.1))
+    (subst (AllOf (IsBoxIn n outer)) (sym (boxes_after p e places))
+    (all_of_more (IsBoxIn n outer) (subboxes p.box e) (boxes_of places)
+    (subboxes_in n outer forms p.box e kept.0 earnest.0) kept.1))
     earnest.2 (All-tail (IsShort n) e entries short) (All-tail (NamesBelow rows) e entries names))
 
 -- the lines of an earnest tree with short entries over a box of costs
-pub tree_short : (accepts : Point → Type 0) (top n rows : ℕ) (forms : List Form) (box : CostBox) (tree : List Entry) → IsCostBounds n box → rows < 2 ^ 64 → IsEarnestTree accepts top forms box tree → All (IsShort n) tree → All (NamesBelow rows) tree → All (λ entry. IsLine (entry_line entry)) tree
+pub tree_short : (accepts : Point → Type 0) (top n rows : ℕ) (forms : List Form) (box : CostBox) (tree : List Entry) →
+    IsCostBounds n box → rows < 2 ^ 64 → IsEarnestTree accepts top forms box tree → All (IsShort n) tree →
+    All (NamesBelow rows) tree → All (λ entry. IsLine (entry_line entry)) tree
 tree_short accepts top n rows forms box tree bounds some earnest short names =
-    entries_short accepts top n rows forms box (record { box = box; since = [] } ∷ []) tree bounds some (record { is_box = bounds.is_box; is_part = part_whole box }, tt) earnest short names
+    entries_short accepts top n rows forms box (record { box = box; since = [] } ∷ []) tree bounds some
+    (record { is_box = bounds.is_box; is_part = part_whole box }, tt) earnest short names

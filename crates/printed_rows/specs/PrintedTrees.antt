@@ -15,13 +15,15 @@ use Rattle.path_rows.specs.Earnest.{IsEarnestOver, IsFormOfRow}
 use Rattle.path_rows.specs.OpenPlaces.{UndoneLast}
 
 -- a tree that is printed: earnest over the box, no other entry after an Undone, and at most N entries
-pub record IsPrintedOver (accepts : Point → Type 0) (IsTrueForm : Form → Type 0) (top nodes : ℕ) (forms : List Form) (box : CostBox) (tree : List Entry) : Type 0 where
+pub record IsPrintedOver (accepts : Point → Type 0) (IsTrueForm : Form → Type 0) (top nodes : ℕ) (forms : List Form)
+    (box : CostBox) (tree : List Entry) : Type 0 where
   pub earnest : IsEarnestOver accepts IsTrueForm top forms box tree
   pub last : UndoneLast tree
   pub few : entry_count tree ≤ nodes
 
 -- a tree of spent budget: it has an Undone and exactly N entries
-pub record IsSpentOver (accepts : Point → Type 0) (IsTrueForm : Form → Type 0) (top nodes : ℕ) (forms : List Form) (box : CostBox) (tree : List Entry) : Type 0 where
+pub record IsSpentOver (accepts : Point → Type 0) (IsTrueForm : Form → Type 0) (top nodes : ℕ) (forms : List Form)
+    (box : CostBox) (tree : List Entry) : Type 0 where
   pub printed : IsPrintedOver accepts IsTrueForm top nodes forms box tree
   pub undone : Contains tree Undone
   pub spent : entry_count tree ≡ nodes

@@ -13,15 +13,20 @@ use std::alloc::Global;
 /// Rows, and a tree over them.
 #[derive(Drop)]
 pub struct PrintedTree<R> {
+    /// The rows that the tree names, in the order of their pool.
     pub rows: Vec<R>,
+    /// The tree, which names them by their places in `rows`.
     pub tree: Tree,
 }
 
 /// Rows, and the trees over them.
 #[derive(Drop)]
 pub struct PrintedTrees<R> {
+    /// The rows that one of the trees names, in the order of their pool.
     pub rows: Listed<R>,
+    /// The closed tree, where there is one.
     pub proof: Option<CapTree>,
+    /// The unfinished tree, where there is one.
     pub unfinished: Option<CapTree>,
 }
 

@@ -19,7 +19,8 @@ pub begin : (handed : List ℕ → Type 0) (f : ℕ) (total : List ℕ) → hand
 begin handed f total none = record { so_far = []; got = none; later = omega arith; same = refl }
 
 -- the next piece was put
-pub turn : {T E : Type 0} (Before Now Both : List ℕ → Type 0) (f0 f1 f2 : ℕ) (left total : List ℕ) (x : T) (piece rest : List ℕ) → ((xs ys : List ℕ) → Before xs → Now ys → Both (xs ++ ys)) → left ≡ piece ++ rest →
+pub turn : {T E : Type 0} (Before Now Both : List ℕ → Type 0) (f0 f1 f2 : ℕ) (left total : List ℕ) (x : T)
+    (piece rest : List ℕ) → ((xs ys : List ℕ) → Before xs → Now ys → Both (xs ++ ys)) → left ≡ piece ++ rest →
     IsUnderway Before f0 f1 left total → Now piece → HasCause {T = T} {E = E} f1 f2 (Ok x) → IsUnderway Both f0 f2 rest total
 turn {T} {E} Before Now Both f0 f1 f2 left total x piece rest more e u put cause =
     record {
@@ -44,7 +45,9 @@ prefix_of piece rest n =
     ]
 
 -- the sink refused the next piece
-pub stop_at : {T E F : Type 0} (Before Now Both : List ℕ → Type 0) (f0 f1 f2 : ℕ) (left total : List ℕ) (x : E) (result : Result T F) → IsErr result → (piece rest : List ℕ) → ((xs ys : List ℕ) → Before xs → Now ys → Both (xs ++ ys)) → left ≡ piece ++ rest →
+pub stop_at : {T E F : Type 0} (Before Now Both : List ℕ → Type 0) (f0 f1 f2 : ℕ) (left total : List ℕ) (x : E)
+    (result : Result T F) → IsErr result → (piece rest : List ℕ) →
+    ((xs ys : List ℕ) → Before xs → Now ys → Both (xs ++ ys)) → left ≡ piece ++ rest →
     IsUnderway Before f0 f1 left total → ((n : ℕ) × Now (take n piece)) → HasCause {T = T} {E = E} f1 f2 (Err x) → IsHanded Both f0 f2 total result
 stop_at {T} {E} {F} Before Now Both f0 f1 f2 left total x (Ok y) err piece rest more e u put cause = absurd (false≢true err)
 stop_at {T} {E} {F} Before Now Both f0 f1 f2 left total x (Err y) err piece rest more e u put cause =
@@ -58,7 +61,8 @@ stop_at {T} {E} {F} Before Now Both f0 f1 f2 left total x (Err y) err piece rest
     }
 
 -- every piece was put
-pub finish : {T E : Type 0} (handed : List ℕ → Type 0) (f0 f1 : ℕ) (total : List ℕ) (x : T) → IsUnderway handed f0 f1 [] total → IsHanded {T = T} {E = E} handed f0 f1 total (Ok x)
+pub finish : {T E : Type 0} (handed : List ℕ → Type 0) (f0 f1 : ℕ) (total : List ℕ) (x : T) →
+    IsUnderway handed f0 f1 [] total → IsHanded {T = T} {E = E} handed f0 f1 total (Ok x)
 finish {T} {E} handed f0 f1 total x u =
     record {
       bytes = subst handed (sym (append-nil u.so_far) ∙ u.same) u.got;

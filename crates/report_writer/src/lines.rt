@@ -6,7 +6,7 @@ use answer_commands::Rejection;
 use cost_base::OutOfMemory;
 use evidence_checker::Accepted;
 use std::alloc::Global;
-use text_parts::{push_bytes, push_number};
+use text_lines::{push_bytes, push_number};
 
 /// The line `refused NUMBER FILE LINE`.
 pub(crate) fn refused_line_of(
@@ -60,6 +60,10 @@ fn impossible_line_of(alloc: Global) -> Result<Vec<u8>, OutOfMemory>
 }
 
 /// The line that tells what was accepted.
+///
+/// # Errors
+///
+/// `OutOfMemory`.
 pub fn accepted_line_of(alloc: Global, accepted: Accepted) -> Result<Vec<u8>, OutOfMemory>
     ensures { IfOk result (λ text. text.items ≡ accepted_line accepted) }
 {
@@ -70,6 +74,10 @@ pub fn accepted_line_of(alloc: Global, accepted: Accepted) -> Result<Vec<u8>, Ou
 }
 
 /// The line `rejected NUMBER PLACE`.
+///
+/// # Errors
+///
+/// `OutOfMemory`.
 pub fn rejected_line_of(alloc: Global, rejection: Rejection) -> Result<Vec<u8>, OutOfMemory>
     ensures { IfOk result (λ text. text.items ≡ rejected_line rejection) }
 {

@@ -52,7 +52,9 @@ impl Text {
 /// The status that a run ends with where its whole text is written, and the text.
 #[derive(Drop)]
 pub struct Report {
+    /// The status where the whole text is written.
     pub status: Status,
+    /// What is to be written.
     pub text: Text,
 }
 
@@ -96,6 +98,10 @@ fn report_of_stop(alloc: Global, stop: Stop<'_>) -> Result<Report, OutOfMemory>
 }
 
 /// A command's report, or that of what stopped it.
+///
+/// # Errors
+///
+/// `OutOfMemory`.
 pub fn report_of(alloc: Global, made: Result<Report, Stop<'_>>) -> Result<Report, OutOfMemory>
     ensures { ReportsAny made.entry result }
 {

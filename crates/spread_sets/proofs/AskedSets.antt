@@ -8,10 +8,10 @@ use Rattle.std.proofs.lemmas.List.Elements.{All-contains, All-from_get_or, All-n
 use Rattle.area_graph.specs.declared.Point.{Point}
 use Rattle.area_graph.specs.declared.Path.{Path}
 use Rattle.area_graph.specs.Costs.{cost}
-use Rattle.path_rows.specs.Forms.{Form}
+use Rattle.path_rows.specs.Forms.{Form, AreMet}
 use Rattle.path_rows.specs.Forms.{value_at}
 use Rattle.path_rows.specs.Problems.{DesignProblem, IsProblem}
-use Rattle.form_search.specs.Sources.{AreMet, Grows, IsAnswered, SameSource}
+use Rattle.form_search.specs.Sources.{Grows, IsAnswered, SameSource}
 use Rattle.form_search.specs.declared.source.Asked.{Asked}
 use Rattle.form_search.specs.declared.source.Asked.TheVariants.{Nothing, Added}
 use Rattle.cost_branching.specs.Rivals.{IsKept}
@@ -35,7 +35,9 @@ none_asked point s forms in_step = record {
 }
 
 -- one set more, which shares
-answers_more : (old : KnownSets) (point : Point) (count : ℕ) (old_forms forms : List Form) (asked : Asked) → AnswersBelow old point count old_forms forms asked → Shares old.problem point (set_at old.sets count) → AnswersBelow old point (count + 1) old_forms forms asked
+answers_more : (old : KnownSets) (point : Point) (count : ℕ) (old_forms forms : List Form) (asked : Asked) →
+    AnswersBelow old point count old_forms forms asked → Shares old.problem point (set_at old.sets count) →
+    AnswersBelow old point (count + 1) old_forms forms asked
 answers_more old point count old_forms forms Nothing answer shares = (
   answer.0,
   λ k k_in. elim (cases_lt k count) [
@@ -46,11 +48,16 @@ answers_more old point count old_forms forms Nothing answer shares = (
 answers_more old point count old_forms forms Added answer shares = answer
 
 -- the problem and the sets under other names
-shares_as : (p q : DesignProblem) (sets others : List (List ℕ)) (point : Point) (place : ℕ) → q ≡ p → others ≡ sets → Shares q point (set_at others place) → Shares p point (set_at sets place)
+shares_as : (p q : DesignProblem) (sets others : List (List ℕ)) (point : Point) (place : ℕ) → q ≡ p → others ≡ sets →
+    Shares q point (set_at others place) → Shares p point (set_at sets place)
 shares_as p q sets others point place same_problem same_sets shares =
-    subst (λ (r : DesignProblem). Shares r point (set_at sets place)) same_problem (subst (λ (ss : List (List ℕ)). Shares q point (set_at ss place)) same_sets shares)
+    subst (λ (r : DesignProblem). Shares r point (set_at sets place)) same_problem
+    (subst (λ (ss : List (List ℕ)). Shares q point (set_at ss place)) same_sets shares)
 
-pub more_share : (point : Point) (count : ℕ) (old : KnownSets) (old_forms : List Form) (now : KnownSets) (forms : List Form) (new : KnownSets) (new_forms : List Form) (asked : Asked) → AreAsked point count old old_forms now forms asked → NoRow point count now forms new new_forms → AreAsked point (count + 1) old old_forms new new_forms asked
+pub more_share : (point : Point) (count : ℕ) (old : KnownSets) (old_forms : List Form) (now : KnownSets)
+    (forms : List Form) (new : KnownSets) (new_forms : List Form) (asked : Asked) →
+    AreAsked point count old old_forms now forms asked → NoRow point count now forms new new_forms →
+    AreAsked point (count + 1) old old_forms new new_forms asked
 more_share point count old old_forms now forms new new_forms asked are one =
     subst (λ (s : KnownSets). AreAsked point (count + 1) old old_forms s new_forms asked) (sym one.rows)
     (subst (λ (fs : List Form). AreAsked point (count + 1) old old_forms now fs asked) (sym one.forms)
@@ -59,7 +66,8 @@ more_share point count old old_forms now forms new new_forms asked are one =
       sets = are.sets;
       in_step = are.in_step;
       grows = are.grows;
-      answer = answers_more old point count old_forms forms asked are.answer (shares_as old.problem now.problem old.sets now.sets point count are.problem are.sets one.shares);
+      answer = answers_more old point count old_forms forms asked are.answer
+          (shares_as old.problem now.problem old.sets now.sets point count are.problem are.sets one.shares);
     }))
 
 -- one set more, of which a row came
@@ -70,21 +78,28 @@ below_zero rival wanted scale cheap = omega (arith, ints)
 not_both : (z : ℤ) → pos 0 ≤ℤ z → z <ℤ pos 0 → ⊥
 not_both z above below = omega (arith, ints)
 
-rival_negative : (p : DesignProblem) (point : Point) (set : List ℕ) (rival : Path) → IsProblem p → length point.values ≡ length p.low → IsTooCheap p point set rival.edges → value_at (form_of_set_row p (Rival (first_of set) rival)) point <ℤ pos 0
+rival_negative : (p : DesignProblem) (point : Point) (set : List ℕ) (rival : Path) → IsProblem p →
+    length point.values ≡ length p.low → IsTooCheap p point set rival.edges →
+    value_at (form_of_set_row p (Rival (first_of set) rival)) point <ℤ pos 0
 rival_negative p point set rival kept count cheap =
     subst (λ (z : ℤ). z <ℤ pos 0) (sym (value_between p point (edges_of p (first_of set)) rival.edges kept count))
     (below_zero (cost p.graph point rival.edges) (cost_in p point set) point.scale cheap.cheap)
 
 -- rows with one more
-pub in_step_more : (now : KnownSets) (forms : List Form) (row : SetRow) → AreInStep now forms → IsSetRow now.problem now.sets row → AreInStep (record now { rows = now.rows ++ row ∷ [] }) (forms ++ form_of_set_row now.problem row ∷ [])
+pub in_step_more : (now : KnownSets) (forms : List Form) (row : SetRow) → AreInStep now forms →
+    IsSetRow now.problem now.sets row →
+    AreInStep (record now { rows = now.rows ++ row ∷ [] }) (forms ++ form_of_set_row now.problem row ∷ [])
 in_step_more now forms row in_step is = record {
   true_rows = All-push (IsSetRow now.problem now.sets) now.rows row in_step.true_rows is;
   more = in_step.more ++ row ∷ [];
   begun = ap (λ (rs : List SetRow). rs ++ row ∷ []) in_step.begun ∙ append_assoc (tie_rows now.sets) in_step.more (row ∷ []);
-  forms = ap (λ (fs : List Form). fs ++ form_of_set_row now.problem row ∷ []) in_step.forms ∙ sym (map-append (form_of_set_row now.problem) now.rows (row ∷ []));
+  forms = ap (λ (fs : List Form). fs ++ form_of_set_row now.problem row ∷ []) in_step.forms
+      ∙ sym (map-append (form_of_set_row now.problem) now.rows (row ∷ []));
 }
 
-grows_more : (p : DesignProblem) (sets : List (List ℕ)) (old_forms forms : List Form) (form : Form) → Grows (IsTrueOfSets p sets) old_forms forms → IsTrueOfSets p sets form → Grows (IsTrueOfSets p sets) old_forms (forms ++ form ∷ [])
+grows_more : (p : DesignProblem) (sets : List (List ℕ)) (old_forms forms : List Form) (form : Form) →
+    Grows (IsTrueOfSets p sets) old_forms forms → IsTrueOfSets p sets form →
+    Grows (IsTrueOfSets p sets) old_forms (forms ++ form ∷ [])
 grows_more p sets old_forms forms form grows is = record {
   more = grows.more ++ form ∷ [];
   same = ap (λ (fs : List Form). fs ++ form ∷ []) grows.same ∙ append_assoc old_forms grows.more (form ∷ []);
@@ -94,9 +109,15 @@ grows_more p sets old_forms forms form grows is = record {
 pub too_cheap_not : (p : DesignProblem) (point : Point) (set es : List ℕ) → IsTooCheap p point set es → Shares p point set → ⊥
 too_cheap_not p point set es cheap shares = (let more = shares.dearer es cheap.rival in let less = cheap.cheap in absurd (omega arith))
 
-row_added : (point : Point) (count : ℕ) (p : DesignProblem) (sets : List (List ℕ)) (old_rows : List SetRow) (old_forms : List Form) (rows : List SetRow) (forms : List Form) (asked : Asked) (rival : Path) → AreAsked point count (record { problem = p; sets = sets; rows = old_rows }) old_forms (record { problem = p; sets = sets; rows = rows }) forms asked →
-    AreMet old_forms point → length point.values ≡ length p.low → IsKept p → AreMemberSets p sets → count < length sets → IsTooCheap p point (set_at sets count) rival.edges →
-    AreAsked point (count + 1) (record { problem = p; sets = sets; rows = old_rows }) old_forms (record { problem = p; sets = sets; rows = rows ++ Rival (first_of (set_at sets count)) rival ∷ [] }) (forms ++ form_of_set_row p (Rival (first_of (set_at sets count)) rival) ∷ []) Added
+row_added : (point : Point) (count : ℕ) (p : DesignProblem) (sets : List (List ℕ)) (old_rows : List SetRow)
+    (old_forms : List Form) (rows : List SetRow) (forms : List Form) (asked : Asked) (rival : Path) →
+    AreAsked point count (record { problem = p; sets = sets; rows = old_rows }) old_forms
+    (record { problem = p; sets = sets; rows = rows }) forms asked →
+    AreMet old_forms point → length point.values ≡ length p.low → IsKept p → AreMemberSets p sets →
+    count < length sets → IsTooCheap p point (set_at sets count) rival.edges →
+    AreAsked point (count + 1) (record { problem = p; sets = sets; rows = old_rows }) old_forms
+    (record { problem = p; sets = sets; rows = rows ++ Rival (first_of (set_at sets count)) rival ∷ [] })
+    (forms ++ form_of_set_row p (Rival (first_of (set_at sets count)) rival) ∷ []) Added
 row_added point count p sets old_rows old_forms rows forms asked rival are met length_is kept members inside cheap =
     let set = set_at sets count in
     let row : SetRow = Rival (first_of set) rival in
@@ -107,53 +128,94 @@ row_added point count p sets old_rows old_forms rows forms asked rival are met l
       problem = refl;
       sets = refl;
       in_step = in_step_more (record { problem = p; sets = sets; rows = rows }) forms row are.in_step is_row;
-      grows = grows_more p sets old_forms forms (form_of_set_row p row) are.grows (record { kept = kept; are = members; of_row = record { row = row; is_row = is_row; same = refl } });
+      grows = grows_more p sets old_forms forms (form_of_set_row p row) are.grows
+          (record { kept = kept; are = members; of_row = record { row = row; is_row = is_row; same = refl } });
       answer = (
         λ each. too_cheap_not p point set rival.edges cheap (All-contains (Shares p point) sets set each has),
         record {
           form = form_of_set_row p row;
           is_new = Contains-push forms (form_of_set_row p row);
-          not_old = λ has_form. not_both (value_at (form_of_set_row p row) point) (All-contains (λ f. pos 0 ≤ℤ value_at f point) old_forms (form_of_set_row p row) met has_form) negative;
+          not_old = λ has_form. not_both (value_at (form_of_set_row p row) point)
+              (All-contains (λ f. pos 0 ≤ℤ value_at f point) old_forms (form_of_set_row p row) met has_form) negative;
           negative = negative;
         },
       );
     }
 
-pub one_added : (point : Point) (count : ℕ) (old : KnownSets) (old_forms : List Form) (now : KnownSets) (forms : List Form) (new : KnownSets) (new_forms : List Form) (asked : Asked) → AreAsked point count old old_forms now forms asked → AreMet old_forms point → length point.values ≡ length old.problem.low → count < length old.sets → OneRow point count now forms new new_forms →
+pub one_added : (point : Point) (count : ℕ) (old : KnownSets) (old_forms : List Form) (now : KnownSets)
+    (forms : List Form) (new : KnownSets) (new_forms : List Form) (asked : Asked) →
+    AreAsked point count old old_forms now forms asked → AreMet old_forms point →
+    length point.values ≡ length old.problem.low → count < length old.sets →
+    OneRow point count now forms new new_forms →
     AreAsked point (count + 1) old old_forms new new_forms Added
 one_added point count old old_forms now forms new new_forms asked are met length_is inside one =
     subst (λ (s : KnownSets). AreAsked point (count + 1) old old_forms s new_forms Added) (sym one.rows)
-    (subst (λ (fs : List Form). AreAsked point (count + 1) old old_forms (record now { rows = now.rows ++ Rival (first_of (set_at now.sets count)) one.rival ∷ [] }) fs Added) (sym one.forms)
+    (subst (λ (fs : List Form). AreAsked point (count + 1) old old_forms
+    (record now { rows = now.rows ++ Rival (first_of (set_at now.sets count)) one.rival ∷ [] }) fs Added)
+    (sym one.forms)
     (by_names now.problem now.sets are.problem are.sets are one.kept one.are one.cheap))
   where
-    by_names : (q : DesignProblem) (others : List (List ℕ)) → q ≡ old.problem → others ≡ old.sets → AreAsked point count old old_forms (record { problem = q; sets = others; rows = now.rows }) forms asked → IsKept q → AreMemberSets q others → IsTooCheap q point (set_at others count) one.rival.edges →
-        AreAsked point (count + 1) old old_forms (record { problem = q; sets = others; rows = now.rows ++ Rival (first_of (set_at others count)) one.rival ∷ [] }) (forms ++ form_of_set_row q (Rival (first_of (set_at others count)) one.rival) ∷ []) Added
+    by_names : (q : DesignProblem) (others : List (List ℕ)) → q ≡ old.problem → others ≡ old.sets →
+        AreAsked point count old old_forms (record { problem = q; sets = others; rows = now.rows }) forms asked →
+        IsKept q → AreMemberSets q others → IsTooCheap q point (set_at others count) one.rival.edges →
+        AreAsked point (count + 1) old old_forms
+        (record {
+          problem = q;
+          sets = others;
+          rows = now.rows ++ Rival (first_of (set_at others count)) one.rival ∷ [];
+        })
+        (forms ++ form_of_set_row q (Rival (first_of (set_at others count)) one.rival) ∷ []) Added
     by_names q others same_problem same_sets =
-        subst (λ (r : DesignProblem). AreAsked point count old old_forms (record { problem = r; sets = others; rows = now.rows }) forms asked → IsKept r → AreMemberSets r others → IsTooCheap r point (set_at others count) one.rival.edges →
-        AreAsked point (count + 1) old old_forms (record { problem = r; sets = others; rows = now.rows ++ Rival (first_of (set_at others count)) one.rival ∷ [] }) (forms ++ form_of_set_row r (Rival (first_of (set_at others count)) one.rival) ∷ []) Added)
+        subst (λ (r : DesignProblem). AreAsked point count old old_forms
+        (record { problem = r; sets = others; rows = now.rows }) forms asked → IsKept r → AreMemberSets r others →
+        IsTooCheap r point (set_at others count) one.rival.edges →
+        AreAsked point (count + 1) old old_forms
+        (record {
+          problem = r;
+          sets = others;
+          rows = now.rows ++ Rival (first_of (set_at others count)) one.rival ∷ [];
+        })
+        (forms ++ form_of_set_row r (Rival (first_of (set_at others count)) one.rival) ∷ []) Added)
         (sym same_problem)
-        (subst (λ (ss : List (List ℕ)). AreAsked point count old old_forms (record { problem = old.problem; sets = ss; rows = now.rows }) forms asked → IsKept old.problem → AreMemberSets old.problem ss → IsTooCheap old.problem point (set_at ss count) one.rival.edges →
-        AreAsked point (count + 1) old old_forms (record { problem = old.problem; sets = ss; rows = now.rows ++ Rival (first_of (set_at ss count)) one.rival ∷ [] }) (forms ++ form_of_set_row old.problem (Rival (first_of (set_at ss count)) one.rival) ∷ []) Added)
+        (subst (λ (ss : List (List ℕ)).
+        AreAsked point count old old_forms (record { problem = old.problem; sets = ss; rows = now.rows }) forms
+        asked → IsKept old.problem → AreMemberSets old.problem ss →
+        IsTooCheap old.problem point (set_at ss count) one.rival.edges →
+        AreAsked point (count + 1) old old_forms
+        (record {
+          problem = old.problem;
+          sets = ss;
+          rows = now.rows ++ Rival (first_of (set_at ss count)) one.rival ∷ [];
+        })
+        (forms ++ form_of_set_row old.problem (Rival (first_of (set_at ss count)) one.rival) ∷ []) Added)
         (sym same_sets)
-        (λ here kept members cheap. row_added point count old.problem old.sets old.rows old_forms now.rows forms asked one.rival here met length_is kept members inside cheap))
+        (λ here kept members cheap. row_added point count old.problem old.sets old.rows old_forms now.rows forms asked
+        one.rival here met length_is kept members inside cheap))
 
 -- all sets were asked
-pub all_asked : (point : Point) (count : ℕ) (old : KnownSets) (old_forms : List Form) (new : KnownSets) (new_forms : List Form) (asked : Asked) → length old.sets ≤ count → AreAsked point count old old_forms new new_forms asked → AreAllAsked point old old_forms new new_forms asked
+pub all_asked : (point : Point) (count : ℕ) (old : KnownSets) (old_forms : List Form) (new : KnownSets)
+    (new_forms : List Form) (asked : Asked) → length old.sets ≤ count →
+    AreAsked point count old old_forms new new_forms asked → AreAllAsked point old old_forms new new_forms asked
 all_asked point count old old_forms new new_forms asked all are = record { in_step = are.in_step; answer = by_answer asked are.answer }
   where
-    by_answer : (asked : Asked) → AnswersBelow old point count old_forms new_forms asked → IsAnswered (SharesEach old.problem old.sets) point old_forms new_forms asked
+    by_answer : (asked : Asked) → AnswersBelow old point count old_forms new_forms asked →
+        IsAnswered (SharesEach old.problem old.sets) point old_forms new_forms asked
     by_answer Nothing answer = (All-from_get_or (Shares old.problem point) old.sets [] (λ k k_in. answer.1 k (omega arith)), answer.0)
     by_answer Added answer = answer
 
 -- where each set shares, they share together
-pub all_share : (p : DesignProblem) (sets : List (List ℕ)) (point : Point) (count : ℕ) → length sets ≤ count → ((k : ℕ) → k < count → Shares p point (set_at sets k)) → SharesEach p sets point
+pub all_share : (p : DesignProblem) (sets : List (List ℕ)) (point : Point) (count : ℕ) → length sets ≤ count →
+    ((k : ℕ) → k < count → Shares p point (set_at sets k)) → SharesEach p sets point
 all_share p sets point count all shares = All-from_get_or (Shares p point) sets [] (λ k k_in. shares k (omega arith))
 
-pub not_all_share : (p : DesignProblem) (sets : List (List ℕ)) (point : Point) (k : ℕ) → k < length sets → (Shares p point (set_at sets k) → ⊥) → SharesEach p sets point → ⊥
+pub not_all_share : (p : DesignProblem) (sets : List (List ℕ)) (point : Point) (k : ℕ) → k < length sets →
+    (Shares p point (set_at sets k) → ⊥) → SharesEach p sets point → ⊥
 not_all_share p sets point k inside not each = not (each k [] inside)
 
 -- the first sets share, and one more
-pub shares_more : (p : DesignProblem) (sets : List (List ℕ)) (point : Point) (count : ℕ) → ((k : ℕ) → k < count → Shares p point (set_at sets k)) → Shares p point (set_at sets count) → (k : ℕ) → k < count + 1 → Shares p point (set_at sets k)
+pub shares_more : (p : DesignProblem) (sets : List (List ℕ)) (point : Point) (count : ℕ) →
+    ((k : ℕ) → k < count → Shares p point (set_at sets k)) → Shares p point (set_at sets count) → (k : ℕ) →
+    k < count + 1 → Shares p point (set_at sets k)
 shares_more p sets point count before shares k k_in = elim (cases_lt k count) [
   | inl earlier ↦ before k earlier
   | inr last ↦ subst (λ (i : ℕ). Shares p point (set_at sets i)) (let e : count ≡ k = omega arith in e) shares
@@ -170,7 +232,9 @@ same_for P old new same_problem same_sets = (
   λ holds. subst (P old.problem) same_sets (subst (λ (p : DesignProblem). P p new.sets) same_problem holds),
 )
 
-pub same_source : (old new : KnownSets) → new.problem ≡ old.problem → new.sets ≡ old.sets → SameSource (λ s. length s.problem.low) (λ s. SharesEach s.problem s.sets) (λ s. IsTrueOfSets s.problem s.sets) (λ s. candidates_of s.problem) old new
+pub same_source : (old new : KnownSets) → new.problem ≡ old.problem → new.sets ≡ old.sets →
+    SameSource (λ s. length s.problem.low) (λ s. SharesEach s.problem s.sets) (λ s. IsTrueOfSets s.problem s.sets)
+    (λ s. candidates_of s.problem) old new
 same_source old new same_problem same_sets = record {
   same_count = ap (λ (p : DesignProblem). length p.low) same_problem;
   same_points = λ point. same_for (λ p sets. SharesEach p sets point) old new same_problem same_sets;

@@ -9,7 +9,7 @@ use Rattle.path_rows.specs.Forms.{Form}
 use Rattle.path_rows.specs.Problems.{DesignProblem, IsProblem}
 use Rattle.path_rows.specs.Rows.{box_of}
 use Rattle.path_rows.specs.Boxes.{capped}
-use Rattle.path_rows.specs.Answers.{greatest_bound}
+use Rattle.path_rows.specs.Answers.{greatest_bound, whole_box}
 use Rattle.form_search.specs.Finds.{IsFound}
 use Rattle.form_search.specs.declared.found.Found.{Found}
 use Rattle.form_search.specs.declared.found.Found.TheVariants.{Costs, Refuted, Spent}
@@ -21,21 +21,22 @@ use Rattle.spread_sets.specs.declared.finding.Sought.{Sought}
 use Rattle.spread_sets.specs.declared.member_sets.MemberSet.{MemberSet}
 use Rattle.spread_sets.specs.declared.spread.SetRow.{SetRow}
 use Rattle.spread_sets.specs.Spreads.{IsFormOfSetRow, IsSetRow, SharesEach, all_sets, form_of_set_row, forms_of_set_rows}
-use Rattle.spread_sets.specs.Answers.{whole_box}
 use Rattle.spread_sets.specs.MemberSets.{AreMemberSets, HasTree, IsMemberSet, sets_in}
 use Rattle.spread_sets.specs.Sources.{AreInStep, IsSought, IsTrueOfSets, KnownSets}
 use Rattle.spread_sets.proofs.MadeSets.{sets_below}
 use Rattle.spread_sets.proofs.SetLaws.{all_sets_are}
 
 -- the pool's forms are true
-pub pool_true : (s : KnownSets) (pool : List Form) → IsKept s.problem → AreMemberSets s.problem s.sets → AreInStep s pool → All (IsTrueOfSets s.problem s.sets) pool
+pub pool_true : (s : KnownSets) (pool : List Form) → IsKept s.problem → AreMemberSets s.problem s.sets →
+    AreInStep s pool → All (IsTrueOfSets s.problem s.sets) pool
 pool_true s pool kept are in_step =
     subst (All (IsTrueOfSets s.problem s.sets)) (sym in_step.forms)
     (All-map (IsTrueOfSets s.problem s.sets) (form_of_set_row s.problem) s.rows
     (λ k d k_in. record { kept = kept; are = are; of_row = record { row = get_or s.rows k d; is_row = in_step.true_rows k d k_in; same = refl } }))
 
 -- under other names
-pub pool_true_as : (s : KnownSets) (p : DesignProblem) (sets : List (List ℕ)) (pool : List Form) → s.problem ≡ p → s.sets ≡ sets → IsKept p → AreMemberSets p sets → AreInStep s pool → All (IsTrueOfSets s.problem s.sets) pool
+pub pool_true_as : (s : KnownSets) (p : DesignProblem) (sets : List (List ℕ)) (pool : List Form) → s.problem ≡ p →
+    s.sets ≡ sets → IsKept p → AreMemberSets p sets → AreInStep s pool → All (IsTrueOfSets s.problem s.sets) pool
 pool_true_as s p sets pool same_problem same_sets kept are in_step =
     pool_true s pool (subst IsKept (sym same_problem) kept)
     (subst (λ (q : DesignProblem). AreMemberSets q s.sets) (sym same_problem) (subst (AreMemberSets p) (sym same_sets) are)) in_step
@@ -44,12 +45,17 @@ pub trees_sets : (p : DesignProblem) (sets : List MemberSet) → All (HasTree p)
 trees_sets p sets trees = All-map (IsMemberSet p) (λ (s : MemberSet). s.members) sets (λ k d k_in. (trees k d k_in).is_set)
 
 -- what is accepted under other names
-pub found_as : (p q : DesignProblem) (sets others : List (List ℕ)) (top nodes : ℕ) (pool : List Form) (box : CostBox) (found : Found) → q ≡ p → others ≡ sets → IsFound (SharesEach q others) top nodes pool box found → IsFound (SharesEach p sets) top nodes pool box found
+pub found_as : (p q : DesignProblem) (sets others : List (List ℕ)) (top nodes : ℕ) (pool : List Form) (box : CostBox)
+    (found : Found) → q ≡ p → others ≡ sets → IsFound (SharesEach q others) top nodes pool box found →
+    IsFound (SharesEach p sets) top nodes pool box found
 found_as p q sets others top nodes pool box found same_problem same_sets is =
     subst (λ (r : DesignProblem). IsFound (SharesEach r sets) top nodes pool box found) same_problem
     (subst (λ (ss : List (List ℕ)). IsFound (SharesEach q ss) top nodes pool box found) same_sets is)
 
-pub sought_is : (p : DesignProblem) (sets : List (List ℕ)) (top nodes : ℕ) (box : CostBox) (source : KnownSets) (pool : List Form) (sought : Sought) → source.problem ≡ p → source.sets ≡ sets → AreInStep source pool → IsFound (SharesEach p sets) top nodes pool box sought.found → sought.rows.items ≡ source.rows → IsSought p sets top nodes box sought
+pub sought_is : (p : DesignProblem) (sets : List (List ℕ)) (top nodes : ℕ) (box : CostBox) (source : KnownSets)
+    (pool : List Form) (sought : Sought) → source.problem ≡ p → source.sets ≡ sets → AreInStep source pool →
+    IsFound (SharesEach p sets) top nodes pool box sought.found → sought.rows.items ≡ source.rows →
+    IsSought p sets top nodes box sought
 sought_is p sets top nodes box source pool sought same_problem same_sets in_step found same_rows = record {
   true_rows =
       subst (λ (q : DesignProblem). All (IsSetRow q sets) sought.rows.items) same_problem
@@ -57,11 +63,13 @@ sought_is p sets top nodes box source pool sought same_problem same_sets in_step
       (subst (All (IsSetRow source.problem source.sets)) (sym same_rows) in_step.true_rows));
   found =
       subst (λ (fs : List Form). IsFound (SharesEach p sets) top nodes fs box sought.found)
-      (in_step.forms ∙ ap (forms_of_set_rows source.problem) (sym same_rows) ∙ ap (λ (q : DesignProblem). forms_of_set_rows q sought.rows.items) same_problem) found;
+      (in_step.forms ∙ ap (forms_of_set_rows source.problem) (sym same_rows)
+      ∙ ap (λ (q : DesignProblem). forms_of_set_rows q sought.rows.items) same_problem) found;
 }
 
 -- the sets that are made are the problem's
-pub made_sets : (p : DesignProblem) (lines : List (List ℕ)) (sets : List (List ℕ)) (count : ℕ) → count ≡ length p.paths → sets ≡ sets_below lines count → sets ≡ all_sets p lines
+pub made_sets : (p : DesignProblem) (lines : List (List ℕ)) (sets : List (List ℕ)) (count : ℕ) →
+    count ≡ length p.paths → sets ≡ sets_below lines count → sets ≡ all_sets p lines
 made_sets p lines sets count all is = is ∙ ap (sets_below lines) all
 
 pub made_are : (p : DesignProblem) (lines sets : List (List ℕ)) → AreSetsOf p lines → sets ≡ all_sets p lines → AreMemberSets p sets
@@ -72,7 +80,9 @@ pub lows_within : (p : DesignProblem) (cap : ℕ) → IsProblem p → cap ≡ gr
 lows_within p cap kept same = subst (λ (k : ℕ). All (λ low. low ≤ k) p.low) (sym same) (no_low_above p.low (greatest_bound p) (floor_below_ceiling p kept))
 
 -- what was sought in the box that was made
-pub sought_whole : (p : DesignProblem) (sets others : List (List ℕ)) (top nodes cap : ℕ) (box : CostBox) (sought : Sought) → others ≡ sets → cap ≡ greatest_bound p → box ≡ capped (box_of p) cap → IsSought p others top nodes box sought → IsSought p sets top nodes (whole_box p) sought
+pub sought_whole : (p : DesignProblem) (sets others : List (List ℕ)) (top nodes cap : ℕ) (box : CostBox)
+    (sought : Sought) → others ≡ sets → cap ≡ greatest_bound p → box ≡ capped (box_of p) cap →
+    IsSought p others top nodes box sought → IsSought p sets top nodes (whole_box p) sought
 sought_whole p sets others top nodes cap box sought same_sets same_cap same_box is =
     subst (λ (ss : List (List ℕ)). IsSought p ss top nodes (whole_box p) sought) same_sets
     (subst (λ (b : CostBox). IsSought p others top nodes b sought) (same_box ∙ ap (capped (box_of p)) same_cap) is)

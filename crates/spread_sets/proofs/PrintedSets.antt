@@ -1,47 +1,40 @@
 -- The rows and the tree that are printed of a search over sets, and what they show.
-use Rattle.std.proofs.Common.{◌≡◌, ◌≢◌, ℕ, zero, suc, ◌+◌, ◌*◌, ◌^◌, ◌<◌, ◌≤◌, refl, sym, ◌∙◌, ap, subst, inl, inr, get_or, List, [], ◌∷◌, map, length, min, arith}
-use Rattle.std.specs.Prelude.{ℤ, pos, ◌≤ℤ◌, All, Contains, codes, slice_get, slice_index, Some}
-use Rattle.std.proofs.lemmas.Int.{ints}
-use Rattle.std.proofs.lemmas.Bool.{cases_lt}
-use Rattle.std.proofs.lemmas.List.{get_or-map, get_or_past, length-map}
+use Rattle.std.proofs.Common.{◌≡◌, ◌≢◌, ℕ, zero, suc, ◌^◌, ◌<◌, ◌≤◌, refl, ◌∙◌, subst, get_or, List, [], ◌∷◌, map, length, min, arith}
+use Rattle.std.specs.Prelude.{All, Contains, codes, slice_get, slice_index, Some}
+use Rattle.std.proofs.lemmas.List.{get_or-map, length-map}
 use Rattle.std.proofs.lemmas.List.Elements.{All-contains, All-cons, All-map, All-nil}
 use Rattle.cost_base.specs.Decimal.{decimal}
 use Rattle.area_graph.specs.Area.{Area}
-use Rattle.area_graph.specs.Paths.{Ends, IsPathOf}
-use Rattle.area_graph.specs.Costs.{at_costs}
+use Rattle.area_graph.specs.Paths.{IsPathOf}
 use Rattle.path_rows.specs.declared.problem.Request.{Request}
 use Rattle.path_rows.specs.declared.form.Row.{Row}
 use Rattle.path_rows.specs.declared.tree.Entry.{Entry}
 use Rattle.path_rows.specs.declared.tree.Entry.TheVariants.{Undone}
 use Rattle.path_rows.specs.Problems.{DesignProblem, IsProblem, ends_of, request_at}
-use Rattle.path_rows.specs.Forms.{Form, Meets, form_at, no_form, value}
 use Rattle.path_rows.specs.Boxes.{IsInBox}
 use Rattle.path_rows.specs.Rows.{IsRivalOf, IsRouteOf, IsRow, box_of}
 use Rattle.path_rows.specs.Trees.{IsClosed, IsSoundTree, entry_count}
-use Rattle.path_rows.specs.Answers.{greatest_bound}
-use Rattle.path_rows.specs.Text.{row_line, spaced}
+use Rattle.path_rows.specs.Answers.{greatest_bound, whole_box}
+use Rattle.path_rows.specs.Text.{spaced}
 use Rattle.path_rows.proofs.ProblemTrees.{le_greatest}
 use Rattle.path_rows.proofs.TreeLaws.{closed_tree_none}
 use Rattle.path_rows.proofs.TreeShapes.{few_entries}
-use Rattle.form_search.specs.Finds.{IsFound, IsSearchTree}
-use Rattle.form_search.specs.declared.found.Found.{Found}
-use Rattle.form_search.specs.declared.found.Found.TheVariants.{Costs, Refuted, Spent}
+use Rattle.form_search.specs.Finds.{IsSearchTree}
 use Rattle.cost_branching.specs.Rivals.{IsKept}
-use Rattle.cost_branching.proofs.Caps.{uncapped}
 use Rattle.printed_rows.specs.NamedRows.{NamesBelow, is_named}
 use Rattle.printed_rows.specs.NewNumbers.{IsPrinted}
 use Rattle.printed_rows.proofs.AnswerLines.{trees_short, two_words}
 use Rattle.printed_rows.proofs.CapBoxes.{bounds_box, cost_bounds, floor_below_ceiling}
+use Rattle.printed_rows.proofs.MetForms.{Met, meets_all}
 use Rattle.printed_rows.proofs.RowLines.{rows_short}
 use Rattle.printed_rows.proofs.TreeCopies.{IsCopy, all_printed, copy_closed, copy_printable, copy_printed, copy_spent, printed_copy, search_names}
 use Rattle.printed_rows.proofs.TreeLines.{IsPrintable, row_digits, spaced-le, thing_digits}
 use Rattle.set_separation.specs.Outsiders.{IsOutsider}
 use Rattle.spread_sets.specs.declared.spread.SetRow.{SetRow}
 use Rattle.spread_sets.specs.declared.spread.SetRow.TheVariants.{Rival, Same}
-use Rattle.spread_sets.specs.declared.spread.Spread.{Spread}
 use Rattle.spread_sets.specs.declared.spread.Spread.TheVariants.{Fit, Impossible, Unknown}
-use Rattle.spread_sets.specs.Spreads.{IsFormOfSetRow, IsSetRow, IsSpreadFit, SharesEach, edges_of, ends_in, first_of, form_of_set_row, forms_of_set_rows, paths_of}
-use Rattle.spread_sets.specs.Answers.{FitText, HasNoSpread, IsLine, IsSpentOfSets, IsTreeOfSets, set_row_line, whole_box}
+use Rattle.spread_sets.specs.Spreads.{IsFormOfSetRow, IsSetRow, SharesEach, edges_of, ends_in, first_of, form_of_set_row, forms_of_set_rows, paths_of}
+use Rattle.spread_sets.specs.Answers.{FitText, HasNoSpread, IsLine, IsSpentOfSets, IsTreeOfSets, set_row_line}
 use Rattle.spread_sets.specs.Laws.{LargeBudgetsSettle}
 use Rattle.spread_sets.specs.MemberSets.{AreMemberSets, IsMemberSet}
 use Rattle.spread_sets.specs.SourceLaws.{first_listed, member_known}
@@ -50,12 +43,15 @@ use Rattle.spread_sets.proofs.SpreadLaws.{fit_met}
 -- The lines of rows.
 
 -- a simple path of a request, other than its own
-pub rival_is : (g : Area) (paths : List Request) (k : ℕ) (es : List ℕ) → k < length paths → IsPathOf g (ends_of (request_at paths k)) es → es ≢ (request_at paths k).path.edges → IsRivalOf g (slice_get paths k) es
+pub rival_is : (g : Area) (paths : List Request) (k : ℕ) (es : List ℕ) → k < length paths →
+    IsPathOf g (ends_of (request_at paths k)) es → es ≢ (request_at paths k).path.edges →
+    IsRivalOf g (slice_get paths k) es
 rival_is g [] k es known path other = absurd (omega arith)
 rival_is g (r ∷ rs) zero es known path other = (path, other)
 rival_is g (r ∷ rs) (suc k) es known path other = rival_is g rs k es (omega arith) path other
 
-pub route_is : (g : Area) (paths : List Request) (k : ℕ) (es : List ℕ) → k < length paths → IsPathOf g (ends_of (request_at paths k)) es → IsRouteOf g (slice_get paths k) es
+pub route_is : (g : Area) (paths : List Request) (k : ℕ) (es : List ℕ) → k < length paths →
+    IsPathOf g (ends_of (request_at paths k)) es → IsRouteOf g (slice_get paths k) es
 route_is g [] k es known path = absurd (omega arith)
 route_is g (r ∷ rs) zero es known path = path
 route_is g (r ∷ rs) (suc k) es known path = route_is g rs k es (omega arith) path
@@ -65,9 +61,12 @@ first_other : (p : DesignProblem) (set es : List ℕ) → 0 < length set → All
 first_other p [] es some other = absurd (omega arith)
 first_other p (i ∷ more) es some other = other 0 [] (omega arith)
 
-rival_row : (p : DesignProblem) (set : List ℕ) (rival : List ℕ) → IsMemberSet p set → IsOutsider p.graph (ends_in p set) (paths_of p set) rival → IsRivalOf p.graph (slice_get p.paths (first_of set)) rival
+rival_row : (p : DesignProblem) (set : List ℕ) (rival : List ℕ) → IsMemberSet p set →
+    IsOutsider p.graph (ends_in p set) (paths_of p set) rival →
+    IsRivalOf p.graph (slice_get p.paths (first_of set)) rival
 rival_row p set rival is outsider =
-    rival_is p.graph p.paths (first_of set) rival (member_known p set (first_of set) is (first_listed set is.some)) outsider.path (first_other p set rival is.some outsider.other)
+    rival_is p.graph p.paths (first_of set) rival (member_known p set (first_of set) is (first_listed set is.some))
+    outsider.path (first_other p set rival is.some outsider.other)
 
 same_short : (name i j : ℕ) → name < 2 ^ 32 → i < 2 ^ 32 → j < 2 ^ 32 → IsLine (set_row_line (Same name i j))
 same_short name i j first second third =
@@ -84,15 +83,20 @@ set_row_short p sets (Same name i j) kept are is =
     let set = is.0 in
     let set_is = All-contains (IsMemberSet p) sets set are is.1.listed in
     let few = kept.problem.path_count in
-    let first : name < length p.paths = subst (λ (k : ℕ). k < length p.paths) is.1.first (member_known p set (first_of set) set_is (first_listed set set_is.some)) in
+    let first : name < length p.paths =
+    subst (λ (k : ℕ). k < length p.paths) is.1.first
+    (member_known p set (first_of set) set_is (first_listed set set_is.some)) in
     let second = member_known p set i set_is is.2 in
     let third = member_known p set j set_is is.3 in
     same_short name i j (omega arith) (omega arith) (omega arith)
 
-fit_text : (p : DesignProblem) (sets : List (List ℕ)) (cap : ℕ) (rows : List SetRow) (tree : List Entry) → IsKept p → AreMemberSets p sets → length rows < 2 ^ 64 → All (IsSetRow p sets) rows → IsPrintable (record { cap = cap; tree = tree }) → FitText cap rows tree
+fit_text : (p : DesignProblem) (sets : List (List ℕ)) (cap : ℕ) (rows : List SetRow) (tree : List Entry) → IsKept p →
+    AreMemberSets p sets → length rows < 2 ^ 64 → All (IsSetRow p sets) rows →
+    IsPrintable (record { cap = cap; tree = tree }) → FitText cap rows tree
 fit_text p sets cap rows tree kept are few true_rows printable = record {
   rows_fit =
-      All-cons IsLine (spaced (codes "rows" ∷ decimal (length rows) ∷ [])) (map set_row_line rows) (two_words (codes "rows") (decimal (length rows)) (omega arith) (omega (arith, row_digits (length rows) few)))
+      All-cons IsLine (spaced (codes "rows" ∷ decimal (length rows) ∷ [])) (map set_row_line rows)
+      (two_words (codes "rows") (decimal (length rows)) (omega arith) (omega (arith, row_digits (length rows) few)))
       (All-map IsLine set_row_line rows (λ k d k_in. set_row_short p sets (get_or rows k d) kept are (true_rows k d k_in)));
   proof_fits = trees_short (codes "proof") (Some (record { cap = cap; tree = tree })) (omega arith) printable;
   open_fits = trees_short (codes "open") (Some (record { cap = cap; tree = tree })) (omega arith) printable;
@@ -107,53 +111,59 @@ pub record CanPrintSets (p : DesignProblem) (sets : List (List ℕ)) (nodes : �
   pub small : greatest_bound p ≤ 65535
   pub budget : nodes ≤ 10000000
 
-pub tree_names : (p : DesignProblem) (sets : List (List ℕ)) (top : ℕ) (rows : List SetRow) (tree : List Entry) → IsSearchTree (SharesEach p sets) top (forms_of_set_rows p rows) (whole_box p) tree → All (NamesBelow (length rows)) tree
+pub tree_names : (p : DesignProblem) (sets : List (List ℕ)) (top : ℕ) (rows : List SetRow) (tree : List Entry) →
+    IsSearchTree (SharesEach p sets) top (forms_of_set_rows p rows) (whole_box p) tree →
+    All (NamesBelow (length rows)) tree
 tree_names p sets top rows tree search = search_names (SharesEach p sets) top (form_of_set_row p) rows (whole_box p) tree search
 
-copied : (p : DesignProblem) (sets : List (List ℕ)) (top : ℕ) (old rows : List SetRow) (tree new_tree : List Entry) → IsSearchTree (SharesEach p sets) top (forms_of_set_rows p old) (whole_box p) tree → IsPrinted old tree rows new_tree → IsCopy (is_named tree) old rows tree new_tree
+copied : (p : DesignProblem) (sets : List (List ℕ)) (top : ℕ) (old rows : List SetRow) (tree new_tree : List Entry) →
+    IsSearchTree (SharesEach p sets) top (forms_of_set_rows p old) (whole_box p) tree →
+    IsPrinted old tree rows new_tree → IsCopy (is_named tree) old rows tree new_tree
 copied p sets top old rows tree new_tree search printed = printed_copy old rows tree new_tree printed (tree_names p sets top old tree search)
 
-forms_true : (p : DesignProblem) (sets : List (List ℕ)) (rows : List SetRow) → All (IsSetRow p sets) rows → All (λ row. IsFormOfSetRow p sets (form_of_set_row p row)) rows
+forms_true : (p : DesignProblem) (sets : List (List ℕ)) (rows : List SetRow) → All (IsSetRow p sets) rows →
+    All (λ row. IsFormOfSetRow p sets (form_of_set_row p row)) rows
 forms_true p sets rows true_rows k d k_in = record { row = get_or rows k d; is_row = true_rows k d k_in; same = refl }
 
-text_fits : (p : DesignProblem) (sets : List (List ℕ)) (top nodes : ℕ) (old rows : List SetRow) (tree new_tree : List Entry) → CanPrintSets p sets nodes → All (IsSetRow p sets) old → IsSearchTree (SharesEach p sets) top (forms_of_set_rows p old) (whole_box p) tree → entry_count tree ≤ nodes →
+text_fits : (p : DesignProblem) (sets : List (List ℕ)) (top nodes : ℕ) (old rows : List SetRow)
+    (tree new_tree : List Entry) → CanPrintSets p sets nodes → All (IsSetRow p sets) old →
+    IsSearchTree (SharesEach p sets) top (forms_of_set_rows p old) (whole_box p) tree → entry_count tree ≤ nodes →
     IsPrinted old tree rows new_tree → FitText (greatest_bound p) rows new_tree
 text_fits p sets top nodes old rows tree new_tree can true_rows search few printed =
     let copy = copied p sets top old rows tree new_tree search printed in
     let bounds = cost_bounds p (greatest_bound p) can.kept.problem (floor_below_ceiling p can.kept.problem) can.small in
     fit_text p sets (greatest_bound p) rows new_tree can.kept can.are copy.kept.few (all_printed (IsSetRow p sets) (is_named tree) old rows copy.kept true_rows)
-    (copy_printable (SharesEach p sets) top nodes (greatest_bound p) (form_of_set_row p) (whole_box p) (is_named tree) old rows tree new_tree copy bounds can.small can.budget search few)
+    (copy_printable (SharesEach p sets) top nodes (greatest_bound p) (form_of_set_row p) (whole_box p)
+    (is_named tree) old rows tree new_tree copy bounds can.small can.budget search few)
 
-pub shown_tree : (p : DesignProblem) (sets : List (List ℕ)) (top nodes : ℕ) (old rows : List SetRow) (tree new_tree : List Entry) → CanPrintSets p sets nodes → All (IsSetRow p sets) old → IsSearchTree (SharesEach p sets) top (forms_of_set_rows p old) (whole_box p) tree → entry_count tree ≤ nodes →
+pub shown_tree : (p : DesignProblem) (sets : List (List ℕ)) (top nodes : ℕ) (old rows : List SetRow)
+    (tree new_tree : List Entry) → CanPrintSets p sets nodes → All (IsSetRow p sets) old →
+    IsSearchTree (SharesEach p sets) top (forms_of_set_rows p old) (whole_box p) tree → entry_count tree ≤ nodes →
     IsPrinted old tree rows new_tree → IsTreeOfSets p sets top nodes rows new_tree
 shown_tree p sets top nodes old rows tree new_tree can true_rows search few printed =
     let copy = copied p sets top old rows tree new_tree search printed in
     record {
       true_rows = all_printed (IsSetRow p sets) (is_named tree) old rows copy.kept true_rows;
-      printed = copy_printed (SharesEach p sets) (IsFormOfSetRow p sets) top nodes (form_of_set_row p) (whole_box p) (is_named tree) old rows tree new_tree copy (forms_true p sets old true_rows) search few;
+      printed = copy_printed (SharesEach p sets) (IsFormOfSetRow p sets) top nodes (form_of_set_row p) (whole_box p)
+          (is_named tree) old rows tree new_tree copy (forms_true p sets old true_rows) search few;
       fits = text_fits p sets top nodes old rows tree new_tree can true_rows search few printed;
     }
 
-pub shown_spent : (p : DesignProblem) (sets : List (List ℕ)) (top nodes : ℕ) (old rows : List SetRow) (tree new_tree : List Entry) → CanPrintSets p sets nodes → All (IsSetRow p sets) old → IsSearchTree (SharesEach p sets) top (forms_of_set_rows p old) (whole_box p) tree → Contains tree Undone → entry_count tree ≡ nodes →
+pub shown_spent : (p : DesignProblem) (sets : List (List ℕ)) (top nodes : ℕ) (old rows : List SetRow)
+    (tree new_tree : List Entry) → CanPrintSets p sets nodes → All (IsSetRow p sets) old →
+    IsSearchTree (SharesEach p sets) top (forms_of_set_rows p old) (whole_box p) tree → Contains tree Undone →
+    entry_count tree ≡ nodes →
     IsPrinted old tree rows new_tree → IsSpentOfSets p sets top nodes rows new_tree
 shown_spent p sets top nodes old rows tree new_tree can true_rows search undone spent printed =
     let copy = copied p sets top old rows tree new_tree search printed in
     record {
       true_rows = all_printed (IsSetRow p sets) (is_named tree) old rows copy.kept true_rows;
-      spent = copy_spent (SharesEach p sets) (IsFormOfSetRow p sets) top nodes (form_of_set_row p) (whole_box p) (is_named tree) old rows tree new_tree copy (forms_true p sets old true_rows) search undone spent;
+      spent = copy_spent (SharesEach p sets) (IsFormOfSetRow p sets) top nodes (form_of_set_row p) (whole_box p)
+          (is_named tree) old rows tree new_tree copy (forms_true p sets old true_rows) search undone spent;
       fits = text_fits p sets top nodes old rows tree new_tree can true_rows search (omega (arith, spent)) printed;
     }
 
 -- What a closed tree shows.
-
-abbrev Met : List ℕ → Form → Type 0
-Met w form = pos 0 ≤ℤ value form w
-
-meets_all : (forms : List Form) (w : List ℕ) → All (Met w) forms → Meets forms w
-meets_all forms w met row = elim (cases_lt row (length forms)) [
-  | inl row_in ↦ met row no_form row_in
-  | inr past ↦ subst (Met w) (sym (get_or_past forms row no_form past)) (omega (arith, ints))
-]
 
 -- costs within the bounds lie in the box at the greatest upper bound
 in_whole : (p : DesignProblem) (w : List ℕ) → IsInBox (box_of p) w → IsInBox (whole_box p) w
@@ -169,21 +179,24 @@ in_whole p w inside = record {
       omega (arith, cut);
 }
 
-pub no_spread : (p : DesignProblem) (sets : List (List ℕ)) (rows : List SetRow) (tree : List Entry) → IsProblem p → All (IsSetRow p sets) rows → IsSoundTree (forms_of_set_rows p rows) (whole_box p) tree → IsClosed tree → HasNoSpread p sets
+pub no_spread : (p : DesignProblem) (sets : List (List ℕ)) (rows : List SetRow) (tree : List Entry) → IsProblem p →
+    All (IsSetRow p sets) rows → IsSoundTree (forms_of_set_rows p rows) (whole_box p) tree → IsClosed tree →
+    HasNoSpread p sets
 no_spread p sets rows tree kept true_rows sound closed w fit =
     closed_tree_none (forms_of_set_rows p rows) (whole_box p) tree sound closed w (in_whole p w fit.within)
-    (meets_all (forms_of_set_rows p rows) w (All-map (Met w) (form_of_set_row p) rows (λ k d k_in. fit_met p sets w kept fit (get_or rows k d) (true_rows k d k_in))))
+    (meets_all (forms_of_set_rows p rows) w
+    (All-map (Met w) (form_of_set_row p) rows
+    (λ k d k_in. fit_met p sets w kept fit (get_or rows k d) (true_rows k d k_in))))
 
-pub shown_closed : (p : DesignProblem) (sets : List (List ℕ)) (top nodes : ℕ) (old rows : List SetRow) (tree new_tree : List Entry) → CanPrintSets p sets nodes → All (IsSetRow p sets) old → IsSearchTree (SharesEach p sets) top (forms_of_set_rows p old) (whole_box p) tree → entry_count tree ≤ nodes → IsClosed tree →
+pub shown_closed : (p : DesignProblem) (sets : List (List ℕ)) (top nodes : ℕ) (old rows : List SetRow)
+    (tree new_tree : List Entry) → CanPrintSets p sets nodes → All (IsSetRow p sets) old →
+    IsSearchTree (SharesEach p sets) top (forms_of_set_rows p old) (whole_box p) tree → entry_count tree ≤ nodes →
+    IsClosed tree →
     IsPrinted old tree rows new_tree → IsTreeOfSets p sets top nodes rows new_tree × IsClosed new_tree × HasNoSpread p sets
 shown_closed p sets top nodes old rows tree new_tree can true_rows search few closed printed =
     let shown = shown_tree p sets top nodes old rows tree new_tree can true_rows search few printed in
     let stays = copy_closed (is_named tree) old rows tree new_tree (copied p sets top old rows tree new_tree search printed) closed in
     (shown, stays, no_spread p sets rows new_tree can.kept.problem shown.true_rows shown.printed.earnest.sound stays)
-
--- costs that are found are spread-fit
-pub found_fit : (p : DesignProblem) (sets : List (List ℕ)) (w : List ℕ) → IsInBox (whole_box p) w → SharesEach p sets (at_costs w) → IsSpreadFit p sets w
-found_fit p sets w inside each = record { within = uncapped (box_of p) (greatest_bound p) w inside; shares = each }
 
 -- A large budget settles it.
 
@@ -191,5 +204,6 @@ pub large_settle : LargeBudgetsSettle
 large_settle p lines top nodes (Fit w) kept enough found = tt
 large_settle p lines top nodes (Impossible rows tree) kept enough found = tt
 large_settle p lines top nodes (Unknown rows tree) kept enough found =
-    let few = (few_entries (length p.low) (forms_of_set_rows p rows.items) (whole_box p) tree (bounds_box p kept) found.spent.printed.earnest.sound).unfinished found.spent.undone in
+    let few = (few_entries (length p.low) (forms_of_set_rows p rows.items) (whole_box p) tree
+    (bounds_box p kept) found.spent.printed.earnest.sound).unfinished found.spent.undone in
     absurd (omega (arith, few, enough, found.spent.spent))

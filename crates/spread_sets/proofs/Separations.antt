@@ -35,16 +35,22 @@ first_known p set is = member_known p set (first_of set) is (first_listed set is
 pub first_path : (p : DesignProblem) (set : List ℕ) → IsProblem p → IsMemberSet p set → IsPathOf p.graph (ends_in p set) (edges_of p (first_of set))
 first_path p set kept is = member_path p set (first_of set) kept is (first_listed set is.some)
 
-pub tied_tree : (p : DesignProblem) (point : Point) (s : MemberSet) → IsProblem p → HasTree p s → AreTied p point s.members → IsTiedTree p.graph point (ends_in p s.members) (cost_in p point s.members) (paths_of p s.members) s.tree
+pub tied_tree : (p : DesignProblem) (point : Point) (s : MemberSet) → IsProblem p → HasTree p s →
+    AreTied p point s.members →
+    IsTiedTree p.graph point (ends_in p s.members) (cost_in p point s.members) (paths_of p s.members) s.tree
 tied_tree p point s kept has tied = record {
   tree = record {
     grown = has.tree;
-    paths = All-map (IsPathOf p.graph (ends_in p s.members)) (edges_of p) s.members (λ k d k_in. member_path p s.members (get_or s.members k d) kept has.is_set (listed_at s.members k d k_in));
+    paths = All-map (IsPathOf p.graph (ends_in p s.members)) (edges_of p) s.members
+        (λ k d k_in. member_path p s.members (get_or s.members k d) kept has.is_set (listed_at s.members k d k_in));
   };
   tied = tied;
 }
 
-pub told : (p : DesignProblem) (point : Point) (set es : List ℕ) (beaten : Bool) → MatchBool beaten (IsCheapestOutsider p.graph point (ends_in p set) (paths_of p set) (cost_in p point set + point.scale) es) (CostAtLeast p.graph point (ends_in p set) (paths_of p set) (cost_in p point set + point.scale)) →
+pub told : (p : DesignProblem) (point : Point) (set es : List ℕ) (beaten : Bool) →
+    MatchBool beaten (IsCheapestOutsider p.graph point (ends_in p set) (paths_of p set)
+    (cost_in p point set + point.scale) es)
+    (CostAtLeast p.graph point (ends_in p set) (paths_of p set) (cost_in p point set + point.scale)) →
     MatchBool beaten (IsTooCheap p point set es) (IsDearer p point set)
 told p point set es true cheapest = record { rival = cheapest.outsider; cheap = cheapest.cheap }
 told p point set es false least = least
@@ -54,72 +60,100 @@ pub sets_kept : (p : DesignProblem) (places : ℕ) (sets : List MemberSet) → A
 sets_kept p places sets ready = All-map (IsMemberSet p) (λ (s : MemberSet). s.members) sets (λ k d k_in. (ready k d k_in).has_tree.is_set)
 
 -- a member's path is a route of another one's request
-pub tie_route : (p : DesignProblem) (set : List ℕ) (first second : ℕ) → IsProblem p → IsMemberSet p set → Contains set first → Contains set second → IsRouteOf p.graph (slice_get p.paths first) (edges_of p second)
+pub tie_route : (p : DesignProblem) (set : List ℕ) (first second : ℕ) → IsProblem p → IsMemberSet p set →
+    Contains set first → Contains set second → IsRouteOf p.graph (slice_get p.paths first) (edges_of p second)
 tie_route p set first second kept is has_first has_second =
     route_is p.graph p.paths first (edges_of p second) (member_known p set first is has_first)
-    (subst (λ (ends : Ends). IsPathOf p.graph ends (edges_of p second)) (sym (All-contains (λ i. ends_of (request_at p.paths i) ≡ ends_in p set) set first is.ends has_first)) (member_path p set second kept is has_second))
+    (subst (λ (ends : Ends). IsPathOf p.graph ends (edges_of p second))
+    (sym (All-contains (λ i. ends_of (request_at p.paths i) ≡ ends_in p set) set first is.ends has_first))
+    (member_path p set second kept is has_second))
 
 -- members cost as much as the first one
-pub all_tied : (p : DesignProblem) (point : Point) (set : List ℕ) (n first : ℕ) → first ≡ cost_in p point set → length set ≤ n → ((k : ℕ) → k < n → cost p.graph point (edges_of p (get_or set k 0)) ≡ first) → AreTied p point set
+pub all_tied : (p : DesignProblem) (point : Point) (set : List ℕ) (n first : ℕ) → first ≡ cost_in p point set →
+    length set ≤ n → ((k : ℕ) → k < n → cost p.graph point (edges_of p (get_or set k 0)) ≡ first) → AreTied p point set
 all_tied p point set n first is all same =
     All-map (λ es. cost p.graph point es ≡ cost_in p point set) (edges_of p) set
     (λ k d k_in. subst (λ (i : ℕ). cost p.graph point (edges_of p i) ≡ cost_in p point set) (get_or_default set k 0 d k_in) (same k (omega arith) ∙ is))
 
-pub not_tied : (p : DesignProblem) (point : Point) (set : List ℕ) (k first : ℕ) → first ≡ cost_in p point set → k < length set → (cost p.graph point (edges_of p (get_or set k 0)) ≡ first → ⊥) → AreTied p point set → ⊥
+pub not_tied : (p : DesignProblem) (point : Point) (set : List ℕ) (k first : ℕ) → first ≡ cost_in p point set →
+    k < length set → (cost p.graph point (edges_of p (get_or set k 0)) ≡ first → ⊥) → AreTied p point set → ⊥
 not_tied p point set k first is inside other tied =
     other (All-contains (λ es. cost p.graph point es ≡ cost_in p point set) (paths_of p set) (edges_of p (get_or set k 0)) tied
     (k, omega (arith, length-map set (edges_of p)), get_or-map (edges_of p) set k 0 (edges_of p (get_or set k 0)) inside) ∙ sym is)
 
 -- under the names by which code has read the graph and the first member's request
-pub tree_as : (p : DesignProblem) (point : Point) (s : MemberSet) (g : Area) (r : Request) → IsProblem p → HasTree p s → AreTied p point s.members → g ≡ p.graph → r ≡ request_at p.paths (first_of s.members) → IsTiedTree g point (ends_of r) (cost g point r.path.edges) (paths_of p s.members) s.tree
+pub tree_as : (p : DesignProblem) (point : Point) (s : MemberSet) (g : Area) (r : Request) → IsProblem p → HasTree p s →
+    AreTied p point s.members → g ≡ p.graph → r ≡ request_at p.paths (first_of s.members) →
+    IsTiedTree g point (ends_of r) (cost g point r.path.edges) (paths_of p s.members) s.tree
 tree_as p point s g r kept has tied same_graph same_request =
     subst (λ (h : Area). IsTiedTree h point (ends_of r) (cost h point r.path.edges) (paths_of p s.members) s.tree) (sym same_graph)
-    (subst (λ (q : Request). IsTiedTree p.graph point (ends_of q) (cost p.graph point q.path.edges) (paths_of p s.members) s.tree) (sym same_request) (tied_tree p point s kept has tied))
+    (subst (λ (q : Request). IsTiedTree p.graph point (ends_of q) (cost p.graph point q.path.edges)
+    (paths_of p s.members) s.tree) (sym same_request) (tied_tree p point s kept has tied))
 
 abbrev Tells : DesignProblem → Point → List ℕ → List ℕ → Bool → Area → Request → Type 0
 Tells p point set es beaten g r =
-    MatchBool beaten (IsCheapestOutsider g point (ends_of r) (paths_of p set) (cost g point r.path.edges + point.scale) es) (CostAtLeast g point (ends_of r) (paths_of p set) (cost g point r.path.edges + point.scale))
+    MatchBool beaten (IsCheapestOutsider g point (ends_of r) (paths_of p set) (cost g point r.path.edges + point.scale)
+    es) (CostAtLeast g point (ends_of r) (paths_of p set) (cost g point r.path.edges + point.scale))
 
-pub told_as : (p : DesignProblem) (point : Point) (set es : List ℕ) (beaten : Bool) (g : Area) (r : Request) → g ≡ p.graph → r ≡ request_at p.paths (first_of set) → Tells p point set es beaten g r → MatchBool beaten (IsTooCheap p point set es) (IsDearer p point set)
+pub told_as : (p : DesignProblem) (point : Point) (set es : List ℕ) (beaten : Bool) (g : Area) (r : Request) →
+    g ≡ p.graph → r ≡ request_at p.paths (first_of set) → Tells p point set es beaten g r →
+    MatchBool beaten (IsTooCheap p point set es) (IsDearer p point set)
 told_as p point set es beaten g r same_graph same_request tells =
     told p point set es beaten
     (subst (λ (q : Request). Tells p point set es beaten p.graph q) same_request (subst (λ (h : Area). Tells p point set es beaten h r) same_graph tells))
 
 -- a rival that is too cheap, under other names
-pub cheap_as : (p q : DesignProblem) (set members es edges : List ℕ) (point : Point) → q ≡ p → members ≡ set → edges ≡ es → IsTooCheap q point members es → IsTooCheap p point set edges
+pub cheap_as : (p q : DesignProblem) (set members es edges : List ℕ) (point : Point) → q ≡ p → members ≡ set →
+    edges ≡ es → IsTooCheap q point members es → IsTooCheap p point set edges
 cheap_as p q set members es edges point same_problem same_set same_edges cheap =
     subst (λ (r : DesignProblem). IsTooCheap r point set edges) same_problem
     (subst (λ (s : List ℕ). IsTooCheap q point s edges) same_set (subst (IsTooCheap q point members) (sym same_edges) cheap))
 
 -- it is a route of the first member's request
-pub cheap_route : (p : DesignProblem) (point : Point) (set es : List ℕ) (name : ℕ) → IsMemberSet p set → IsTooCheap p point set es → name ≡ first_of set → IsRouteOf p.graph (slice_get p.paths name) es
+pub cheap_route : (p : DesignProblem) (point : Point) (set es : List ℕ) (name : ℕ) → IsMemberSet p set →
+    IsTooCheap p point set es → name ≡ first_of set → IsRouteOf p.graph (slice_get p.paths name) es
 cheap_route p point set es name is cheap same =
-    subst (λ (k : ℕ). IsRouteOf p.graph (slice_get p.paths k) es) (sym same) (route_is p.graph p.paths (first_of set) es (first_known p set is) cheap.rival.path)
+    subst (λ (k : ℕ). IsRouteOf p.graph (slice_get p.paths k) es) (sym same)
+    (route_is p.graph p.paths (first_of set) es (first_known p set is) cheap.rival.path)
 
 -- the form of a row of a request is that of a rival of its path
-pub row_form : (p : DesignProblem) (row : Row) → IsRouteOf p.graph (slice_get p.paths row.request) row.rival.edges → form_of_row p row ≡ form_of_set_row p (Rival row.request row.rival)
+pub row_form : (p : DesignProblem) (row : Row) → IsRouteOf p.graph (slice_get p.paths row.request) row.rival.edges →
+    form_of_row p row ≡ form_of_set_row p (Rival row.request row.rival)
 row_form p row route =
-    ap (λ (es : List ℕ). form_between p.graph (length p.low) es row.rival.edges) (ap path_edges (request_of_route p.graph p.paths row.request no_request row.rival.edges route).is_there)
+    ap (λ (es : List ℕ). form_between p.graph (length p.low) es row.rival.edges)
+    (ap path_edges (request_of_route p.graph p.paths row.request no_request row.rival.edges route).is_there)
 
-pub ready_all : (p : DesignProblem) (places count : ℕ) (sets : List MemberSet) → count ≡ places → All (HasTree p) sets → All (λ (set : MemberSet). length set.tree + 1 ≤ places) sets → All (IsReady p count) sets
-ready_all p places count sets same trees most k d k_in = record { has_tree = trees k d k_in; fits = subst (λ (n : ℕ). length (get_or sets k d).tree + 1 ≤ n) (sym same) (most k d k_in) }
+pub ready_all : (p : DesignProblem) (places count : ℕ) (sets : List MemberSet) → count ≡ places → All (HasTree p) sets →
+    All (λ (set : MemberSet). length set.tree + 1 ≤ places) sets → All (IsReady p count) sets
+ready_all p places count sets same trees most k d k_in =
+    record {
+      has_tree = trees k d k_in;
+      fits = subst (λ (n : ℕ). length (get_or sets k d).tree + 1 ≤ n) (sym same) (most k d k_in);
+    }
 
 -- a set shares where its members tie and every other path is dearer
-pub shares_there : (p q : DesignProblem) (point : Point) (set members : List ℕ) → q ≡ p → members ≡ set → AreTied q point members → IsDearer q point members → Shares p point set
+pub shares_there : (p q : DesignProblem) (point : Point) (set members : List ℕ) → q ≡ p → members ≡ set →
+    AreTied q point members → IsDearer q point members → Shares p point set
 shares_there p q point set members same_problem same_set tied dearer =
     subst (λ (r : DesignProblem). Shares r point set) same_problem (subst (Shares q point) same_set (record { tied = tied; dearer = dearer }))
 
-pub beaten_there : (p q : DesignProblem) (point : Point) (set members es : List ℕ) → q ≡ p → members ≡ set → IsTooCheap q point members es → Shares p point set → ⊥
+pub beaten_there : (p q : DesignProblem) (point : Point) (set members es : List ℕ) → q ≡ p → members ≡ set →
+    IsTooCheap q point members es → Shares p point set → ⊥
 beaten_there p q point set members es same_problem same_set cheap shares =
     too_cheap_not p point set es (cheap_as p q set members es es point same_problem same_set refl cheap) shares
 
 -- the set that code has read at a place
-pub indexed : (sets : List MemberSet) (place : ℕ) (m : MemberSet) → place < length (sets_in sets) → m ≡ get_or sets place m → m.members ≡ set_at (sets_in sets) place
+pub indexed : (sets : List MemberSet) (place : ℕ) (m : MemberSet) → place < length (sets_in sets) →
+    m ≡ get_or sets place m → m.members ≡ set_at (sets_in sets) place
 indexed sets place m inside is =
-    ap (λ (s : MemberSet). s.members) is ∙ sym (get_or-map (λ (s : MemberSet). s.members) sets place m [] (omega (arith, length-map sets (λ (s : MemberSet). s.members))))
+    ap (λ (s : MemberSet). s.members) is
+    ∙ sym (get_or-map (λ (s : MemberSet). s.members) sets place m []
+    (omega (arith, length-map sets (λ (s : MemberSet). s.members))))
 
 -- a new room
-pub room_new : (g h : Area) (room : Findings) → h ≡ g → room ≡ record { costs = replicate (length h.vertices) None; marks = replicate (length h.edges) false; path = [] } → IsRoomFor g room
+pub room_new : (g h : Area) (room : Findings) → h ≡ g →
+    room ≡ record { costs = replicate (length h.vertices) None; marks = replicate (length h.edges) false; path = [] } →
+    IsRoomFor g room
 room_new g h room same is =
     subst (λ (a : Area). IsRoomFor a room) same
     (subst (IsRoomFor h) (sym is) (record { vertices = length-replicate (length h.vertices) None; edges = length-replicate (length h.edges) false }))
@@ -131,8 +165,12 @@ pub record IsRivalRow (p : DesignProblem) (point : Point) (set : List ℕ) (row 
   pub route : IsRouteOf p.graph (slice_get p.paths row.request) row.rival.edges
 
 -- the row of the path that was found for the set that code has read at a place
-pub rival_row : (p : DesignProblem) (sets : List MemberSet) (rows : List SetRow) (s : KnownSets) (place : ℕ) (point : Point) (m : MemberSet) (path : List ℕ) (row : Row) → record { problem = p; sets = sets_in sets; rows = rows } ≡ s → place < length s.sets → AreMemberSets s.problem s.sets →
-    m ≡ get_or sets place m → IsTooCheap p point m.members path → row.request ≡ first_of m.members → row.rival.edges ≡ path → IsRivalRow p point (set_at (sets_in sets) place) row
+pub rival_row : (p : DesignProblem) (sets : List MemberSet) (rows : List SetRow) (s : KnownSets) (place : ℕ)
+    (point : Point) (m : MemberSet) (path : List ℕ) (row : Row) →
+    record { problem = p; sets = sets_in sets; rows = rows } ≡ s → place < length s.sets →
+    AreMemberSets s.problem s.sets →
+    m ≡ get_or sets place m → IsTooCheap p point m.members path → row.request ≡ first_of m.members →
+    row.rival.edges ≡ path → IsRivalRow p point (set_at (sets_in sets) place) row
 rival_row p sets rows s place point m path row view inside are is cheap request edges =
     let here : place < length (sets_in sets) = subst (λ (k : KnownSets). place < length k.sets) (sym view) inside in
     let members : AreMemberSets p (sets_in sets) = subst (λ (k : KnownSets). AreMemberSets k.problem k.sets) (sym view) are in

@@ -30,7 +30,8 @@ lone_set : (p : DesignProblem) (path : ℕ) → path < length p.paths → IsMemb
 lone_set p path known = record {
   some = omega arith;
   known = All-cons (λ i. i < length p.paths) path [] known (All-nil (λ i. i < length p.paths));
-  ends = All-cons (λ i. ends_of (request_at p.paths i) ≡ ends_in p (path ∷ [])) path [] refl (All-nil (λ i. ends_of (request_at p.paths i) ≡ ends_in p (path ∷ [])));
+  ends = All-cons (λ i. ends_of (request_at p.paths i) ≡ ends_in p (path ∷ [])) path [] refl
+      (All-nil (λ i. ends_of (request_at p.paths i) ≡ ends_in p (path ∷ [])));
 }
 
 set_kept : (p : DesignProblem) (lines : List (List ℕ)) (path : ℕ) → All (IsSetOf p) lines → path < length p.paths → IsMemberSet p (set_of lines path)

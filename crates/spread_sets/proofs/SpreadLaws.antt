@@ -37,7 +37,8 @@ dearer : (a b : ℕ) → pos 0 ≤ℤ ((pos a -ℤ pos b) -ℤ pos 1) → b + 1 
 dearer a b met = omega (arith, ints)
 
 -- where the rows are met a set shares
-set_shares : (p : DesignProblem) (sets : List (List ℕ)) (w set : List ℕ) → IsProblem p → length w ≡ length p.low → MeetsSetRows p sets w → Contains sets set → Shares p (at_costs w) set
+set_shares : (p : DesignProblem) (sets : List (List ℕ)) (w set : List ℕ) → IsProblem p → length w ≡ length p.low →
+    MeetsSetRows p sets w → Contains sets set → Shares p (at_costs w) set
 set_shares p sets w set kept count meets has =
     let first = first_of set in
     let named : IsNamed sets first set = record { listed = has; first = refl } in
@@ -49,18 +50,25 @@ set_shares p sets w set kept count meets has =
           let i = get_or set k d in
           let has_i = listed_at set k d k_in in
           let has_first = first_listed set (omega arith) in
-          let there = subst (λ (z : ℤ). pos 0 ≤ℤ z) (tie_at p w (edges_of p first) (edges_of p i) kept count) (meets (Same first first i) (set, named, has_first, has_i)) in
-          let back = subst (λ (z : ℤ). pos 0 ≤ℤ z) (tie_at p w (edges_of p i) (edges_of p first) kept count) (meets (Same first i first) (set, named, has_i, has_first)) in
+          let there = subst (λ (z : ℤ). pos 0 ≤ℤ z) (tie_at p w (edges_of p first) (edges_of p i) kept count)
+          (meets (Same first first i) (set, named, has_first, has_i)) in
+          let back = subst (λ (z : ℤ). pos 0 ≤ℤ z) (tie_at p w (edges_of p i) (edges_of p first) kept count)
+          (meets (Same first i first) (set, named, has_i, has_first)) in
           same_cost (cost_of (edges_of p i)) (cost_of (edges_of p first)) there back);
       dearer = λ es outsider.
           dearer (cost_of es) (cost_of (edges_of p first))
-          (subst (λ (z : ℤ). pos 0 ≤ℤ z) (between_at p w (edges_of p first) es kept count) (meets (Rival first (record { start = 0; edges = es })) (set, named, outsider)));
+          (subst (λ (z : ℤ). pos 0 ≤ℤ z) (between_at p w (edges_of p first) es kept count)
+          (meets (Rival first (record { start = 0; edges = es })) (set, named, outsider)));
     }
 
 pub spread_is_met : SpreadMeansMet
 spread_is_met p lines w kept are inside = (
   λ fit. fit_met p (all_sets p lines) w kept fit,
-  λ meets. record { within = inside; shares = λ k d k_in. set_shares p (all_sets p lines) w (get_or (all_sets p lines) k d) kept (sym inside.low_count) meets (listed_at (all_sets p lines) k d k_in) },
+  λ meets. record {
+    within = inside;
+    shares = λ k d k_in. set_shares p (all_sets p lines) w (get_or (all_sets p lines) k d) kept
+        (sym inside.low_count) meets (listed_at (all_sets p lines) k d k_in);
+  },
 )
 
 -- The cheapest paths.
@@ -73,15 +81,19 @@ listed_or : (paths : List (List ℕ)) (es : List ℕ) → Contains paths es ⊎ 
 listed_or [] es = inr (All-nil (λ w. es ≢ w))
 listed_or (path ∷ paths) es = by_first (same_bytes es path) refl (listed_or paths es)
   where
-    by_first : (same : Bool) → same_bytes es path ≡ same → Contains paths es ⊎ All (λ w. es ≢ w) paths → Contains (path ∷ paths) es ⊎ All (λ w. es ≢ w) (path ∷ paths)
+    by_first : (same : Bool) → same_bytes es path ≡ same → Contains paths es ⊎ All (λ w. es ≢ w) paths →
+        Contains (path ∷ paths) es ⊎ All (λ w. es ≢ w) (path ∷ paths)
     by_first true is rest = inl (0, omega arith, sym (same_bytes-true es path is))
     by_first false is (inl has) = inl (contains_later path paths es has)
     by_first false is (inr none) = inr (All-cons (λ w. es ≢ w) path paths (λ same. cc (is, same_bytes-same es path same)) none)
 
-above_all : (p : DesignProblem) (w set es others : List ℕ) → Shares p (at_costs w) set → cost p.graph (at_costs w) es ≡ cost_in p (at_costs w) set → IsPathOf p.graph (ends_in p set) others → cost p.graph (at_costs w) es ≤ cost p.graph (at_costs w) others
+above_all : (p : DesignProblem) (w set es others : List ℕ) → Shares p (at_costs w) set →
+    cost p.graph (at_costs w) es ≡ cost_in p (at_costs w) set → IsPathOf p.graph (ends_in p set) others →
+    cost p.graph (at_costs w) es ≤ cost p.graph (at_costs w) others
 above_all p w set es others shares same path =
     elim (listed_or (paths_of p set) others) [
-      | inl has ↦ (let tied = All-contains (λ xs. cost p.graph (at_costs w) xs ≡ cost_in p (at_costs w) set) (paths_of p set) others shares.tied has in omega (arith, same, tied))
+      | inl has ↦ (let tied = All-contains (λ xs. cost p.graph (at_costs w) xs ≡ cost_in p (at_costs w) set)
+          (paths_of p set) others shares.tied has in omega (arith, same, tied))
       | inr none ↦ (let more = shares.dearer others (record { path = path; other = none }) in omega (arith, same, more))
     ]
 
@@ -99,7 +111,9 @@ cheapest_listed p lines w set es kept are fit has =
                 absurd (omega (arith, more, less)))
           ],
       λ found.
-          let paths : All (IsPathOf p.graph (ends_in p set)) (paths_of p set) = All-map (IsPathOf p.graph (ends_in p set)) (edges_of p) set (λ k d k_in. member_path p set (get_or set k d) kept is (listed_at set k d k_in)) in
+          let paths : All (IsPathOf p.graph (ends_in p set)) (paths_of p set) =
+          All-map (IsPathOf p.graph (ends_in p set)) (edges_of p) set
+          (λ k d k_in. member_path p set (get_or set k d) kept is (listed_at set k d k_in)) in
           let same = All-contains (λ xs. cost p.graph (at_costs w) xs ≡ cost_in p (at_costs w) set) (paths_of p set) es shares.tied found in
           record {
             path = All-contains (IsPathOf p.graph (ends_in p set)) (paths_of p set) es paths found;

@@ -19,8 +19,12 @@ IsSome t = t.coefficient ≢ pos 0
 some_from : (first : ℕ) (cs : List ℤ) → All IsSome (terms_from first cs)
 some_from first [] = All-nil IsSome
 some_from first (pos zero ∷ cs) = some_from (suc first) cs
-some_from first (pos (suc n) ∷ cs) = All-cons IsSome (record { var = first; coefficient = pos (suc n) }) (terms_from (suc first) cs) (λ same. omega (arith, ints)) (some_from (suc first) cs)
-some_from first (negsuc n ∷ cs) = All-cons IsSome (record { var = first; coefficient = negsuc n }) (terms_from (suc first) cs) (λ same. omega (arith, ints)) (some_from (suc first) cs)
+some_from first (pos (suc n) ∷ cs) =
+    All-cons IsSome (record { var = first; coefficient = pos (suc n) }) (terms_from (suc first) cs)
+    (λ same. omega (arith, ints)) (some_from (suc first) cs)
+some_from first (negsuc n ∷ cs) =
+    All-cons IsSome (record { var = first; coefficient = negsuc n }) (terms_from (suc first) cs)
+    (λ same. omega (arith, ints)) (some_from (suc first) cs)
 
 -- a form's terms are terms
 pub terms_again : (f : Form) (n : ℕ) (ts : List Term) → n ≡ length f.coefficients → ts ≡ terms_of f → AreTerms n ts
@@ -30,7 +34,8 @@ terms_again f n ts count same =
     (record { known = terms_known f; rising = rising_from 0 f.coefficients; some = some_from 0 f.coefficients }))
 
 -- and with another constant they make the form with that constant
-pub form_again : (f : Form) (n : ℕ) (constant : ℤ) (ts : List Term) → n ≡ length f.coefficients → ts ≡ terms_of f → form_by n constant ts ≡ record f { constant = constant }
+pub form_again : (f : Form) (n : ℕ) (constant : ℤ) (ts : List Term) → n ≡ length f.coefficients → ts ≡ terms_of f →
+    form_by n constant ts ≡ record f { constant = constant }
 form_again f n constant ts count same = form_by_terms n constant ts f.coefficients count same
 
 -- 1 more than a small constant, as code adds it
@@ -46,15 +51,26 @@ one_more z small =
 one_back : (a b : ℤ) → (((a -ℤ b) -ℤ pos 1) +ℤ pos 1) ≡ (a -ℤ b)
 one_back a b = omega (arith, ints)
 
-form_one_more : (p : DesignProblem) (first second : List ℕ) → (let f : Form = form_between p.graph (length p.low) first second in record f { constant = f.constant +ℤ pos 1 }) ≡ form_of_tie p.graph (length p.low) first second
+form_one_more : (p : DesignProblem) (first second : List ℕ) →
+    (let f : Form = form_between p.graph (length p.low) first second in record f { constant = f.constant +ℤ pos 1 })
+    ≡ form_of_tie p.graph (length p.low) first second
 form_one_more p first second =
-    ap (λ (c : ℤ). let f : Form = record { constant = c; coefficients = (form_of_tie p.graph (length p.low) first second).coefficients } in f) (one_back (pos (fixed_cost p.graph second)) (pos (fixed_cost p.graph first)))
+    ap (λ (c : ℤ). let f : Form = record {
+      constant = c;
+      coefficients = (form_of_tie p.graph (length p.low) first second).coefficients;
+    } in f)
+    (one_back (pos (fixed_cost p.graph second)) (pos (fixed_cost p.graph first)))
 
-pub tie_is : (p : DesignProblem) (row : Row) (first second : ℕ) (form more : Form) → row.request ≡ first → row.rival.edges ≡ edges_of p second → IsRouteOf p.graph (slice_get p.paths first) (edges_of p second) → form ≡ form_of_row p row → more ≡ record form { constant = form.constant +ℤ pos 1 } →
+pub tie_is : (p : DesignProblem) (row : Row) (first second : ℕ) (form more : Form) → row.request ≡ first →
+    row.rival.edges ≡ edges_of p second → IsRouteOf p.graph (slice_get p.paths first) (edges_of p second) →
+    form ≡ form_of_row p row → more ≡ record form { constant = form.constant +ℤ pos 1 } →
     more ≡ form_of_tie p.graph (length p.low) (edges_of p first) (edges_of p second)
 tie_is p row first second form more is_first is_second route is_form is_more =
     let found = request_of_route p.graph p.paths first no_request (edges_of p second) route in
-    let wanted : path_edges (slice_get p.paths row.request) ≡ edges_of p first = ap (λ (k : ℕ). path_edges (slice_get p.paths k)) is_first ∙ ap path_edges found.is_there in
+    let wanted : path_edges (slice_get p.paths row.request) ≡ edges_of p first =
+    ap (λ (k : ℕ). path_edges (slice_get p.paths k)) is_first ∙ ap path_edges found.is_there in
     let between : form ≡ form_between p.graph (length p.low) (edges_of p first) (edges_of p second) =
-    is_form ∙ ap (λ (es : List ℕ). form_between p.graph (length p.low) es row.rival.edges) wanted ∙ ap (λ (es : List ℕ). form_between p.graph (length p.low) (edges_of p first) es) is_second in
-    is_more ∙ ap (λ (f : Form). let g : Form = record f { constant = f.constant +ℤ pos 1 } in g) between ∙ form_one_more p (edges_of p first) (edges_of p second)
+    is_form ∙ ap (λ (es : List ℕ). form_between p.graph (length p.low) es row.rival.edges) wanted
+    ∙ ap (λ (es : List ℕ). form_between p.graph (length p.low) (edges_of p first) es) is_second in
+    is_more ∙ ap (λ (f : Form). let g : Form = record f { constant = f.constant +ℤ pos 1 } in g) between
+    ∙ form_one_more p (edges_of p first) (edges_of p second)

@@ -1,13 +1,10 @@
 -- What is answered of the sets of a problem.
 use Rattle.std.specs.Prelude.{◌≡◌, ℕ, ◌≤◌, List, [], ◌∷◌, map, length, codes, All, Some}
 use Rattle.cost_base.specs.Decimal.{decimal}
-use Rattle.path_rows.specs.declared.form.CostBox.{CostBox}
 use Rattle.path_rows.specs.declared.tree.Entry.{Entry}
 use Rattle.path_rows.specs.Problems.{DesignProblem}
-use Rattle.path_rows.specs.Boxes.{capped}
-use Rattle.path_rows.specs.Rows.{box_of}
 use Rattle.path_rows.specs.Trees.{IsClosed}
-use Rattle.path_rows.specs.Answers.{greatest_bound}
+use Rattle.path_rows.specs.Answers.{greatest_bound, whole_box}
 use Rattle.path_rows.specs.Text.{row_line, spaced, tree_lines}
 use Rattle.printed_rows.specs.PrintedTrees.{IsPrintedOver, IsSpentOver}
 use Rattle.spread_sets.specs.declared.spread.SetRow.{SetRow}
@@ -15,10 +12,6 @@ use Rattle.spread_sets.specs.declared.spread.SetRow.TheVariants.{Rival, Same}
 use Rattle.spread_sets.specs.declared.spread.Spread.{Spread}
 use Rattle.spread_sets.specs.declared.spread.Spread.TheVariants.{Fit, Impossible, Unknown}
 use Rattle.spread_sets.specs.Spreads.{IsFormOfSetRow, IsSetRow, IsSpreadFit, SharesEach, all_sets, forms_of_set_rows}
-
--- the box at the greatest upper bound
-abbrev pub whole_box : DesignProblem → CostBox
-whole_box p = capped (box_of p) (greatest_bound p)
 
 -- how a row is printed
 abbrev pub set_row_line : SetRow → List ℕ

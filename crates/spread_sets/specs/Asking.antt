@@ -1,4 +1,5 @@
--- What the answer on one set does to the rows and to the pool of forms, and what the answers on the first sets do.
+-- What the answer on one set does to the rows and to the pool of forms, and what the answers on the first sets do. No
+-- public clause cites it.
 use Rattle.std.specs.Prelude.{◌≡◌, ℕ, ◌<◌, List, [], ◌∷◌, ◌++◌, Bool, true, false}
 use Rattle.area_graph.specs.declared.Point.{Point}
 use Rattle.area_graph.specs.declared.Path.{Path}
@@ -38,7 +39,8 @@ AnswersBelow old point count old_forms new_forms Nothing = (new_forms ≡ old_fo
 AnswersBelow old point count old_forms new_forms Added = (SharesEach old.problem old.sets point → ⊥) × HasNewRival point old_forms new_forms
 
 -- the first sets were asked: rows and forms are in step, and true forms came
-pub record AreAsked (point : Point) (count : ℕ) (old : KnownSets) (old_forms : List Form) (new : KnownSets) (new_forms : List Form) (asked : Asked) : Type 0 where
+pub record AreAsked (point : Point) (count : ℕ) (old : KnownSets) (old_forms : List Form) (new : KnownSets)
+    (new_forms : List Form) (asked : Asked) : Type 0 where
   pub problem : new.problem ≡ old.problem
   pub sets : new.sets ≡ old.sets
   pub in_step : AreInStep new new_forms

@@ -39,13 +39,15 @@ pub member_known : (p : DesignProblem) (set : List ℕ) (i : ℕ) → IsMemberSe
 member_known p set i is has = All-contains (λ j. j < length p.paths) set i is.known has
 
 -- a member's path is a simple path of the set's request
-pub member_path : (p : DesignProblem) (set : List ℕ) (i : ℕ) → IsProblem p → IsMemberSet p set → Contains set i → IsPathOf p.graph (ends_in p set) (edges_of p i)
+pub member_path : (p : DesignProblem) (set : List ℕ) (i : ℕ) → IsProblem p → IsMemberSet p set → Contains set i →
+    IsPathOf p.graph (ends_in p set) (edges_of p i)
 member_path p set i kept is has =
     subst (λ (ends : Ends). IsPathOf p.graph ends (edges_of p i)) (All-contains (λ j. ends_of (request_at p.paths j) ≡ ends_in p set) set i is.ends has)
     (kept.paths i no_request (member_known p set i is has))
 
 -- what a member costs where the set shares
-pub member_cost : (p : DesignProblem) (point : Point) (set : List ℕ) (i : ℕ) → Shares p point set → Contains set i → cost p.graph point (edges_of p i) ≡ cost_in p point set
+pub member_cost : (p : DesignProblem) (point : Point) (set : List ℕ) (i : ℕ) → Shares p point set → Contains set i →
+    cost p.graph point (edges_of p i) ≡ cost_in p point set
 member_cost p point set i shares has =
     All-contains (λ es. cost p.graph point es ≡ cost_in p point set) (paths_of p set) (edges_of p i) shares.tied (contains-map (edges_of p) set i has)
 
@@ -57,9 +59,12 @@ one_scale a b s d x same =
     ∙ ap (λ (z : ℤ). z +ℤ s) same
     ∙ ring (x ∷ s ∷ []) ((var 0 ⊖ var 1) ⊕ var 1) (var 0) refl
 
-pub value_of_tie : (p : DesignProblem) (point : Point) (first second : List ℕ) → IsProblem p → length point.values ≡ length p.low → value_at (form_of_tie p.graph (length p.low) first second) point ≡ (pos (cost p.graph point second) -ℤ pos (cost p.graph point first))
+pub value_of_tie : (p : DesignProblem) (point : Point) (first second : List ℕ) → IsProblem p →
+    length point.values ≡ length p.low → value_at (form_of_tie p.graph (length p.low) first second) point
+    ≡ (pos (cost p.graph point second) -ℤ pos (cost p.graph point first))
 value_of_tie p point first second kept count =
-    one_scale (pos (fixed_cost p.graph second)) (pos (fixed_cost p.graph first)) (pos point.scale) (dot (form_of_tie p.graph (length p.low) first second).coefficients point.values)
+    one_scale (pos (fixed_cost p.graph second)) (pos (fixed_cost p.graph first)) (pos point.scale)
+    (dot (form_of_tie p.graph (length p.low) first second).coefficients point.values)
     (pos (cost p.graph point second) -ℤ pos (cost p.graph point first)) (value_between p point first second kept count)
 
 one_right : (z : ℤ) → (z *ℤ pos 1) ≡ z
@@ -75,21 +80,28 @@ below : (a b c : ℕ) → a ≤ b → b < c → a < c
 below a b c first later = omega arith
 
 small_value : (n : ℕ) (form : Form) (w : List ℕ) → IsSmallForm n form → All (λ x. (1 ≤ x) × (x ≤ 65535)) w → nat_abs (value form w) < 2 ^ 27
-small_value n form w small each = below (nat_abs (value form w)) _ (2 ^ 27) (value_size form w (λ k d k_in. let within = each k d k_in in omega arith)) small.size
+small_value n form w small each =
+    below (nat_abs (value form w)) _ (2 ^ 27)
+    (value_size form w (λ k d k_in. let within = each k d k_in in omega arith)) small.size
 
 -- the form of a rival
-rival_met : (p : DesignProblem) (sets : List (List ℕ)) (set es : List ℕ) (point : Point) → IsProblem p → length point.values ≡ length p.low → Contains sets set → IsOutsider p.graph (ends_in p set) (paths_of p set) es → SharesEach p sets point →
+rival_met : (p : DesignProblem) (sets : List (List ℕ)) (set es : List ℕ) (point : Point) → IsProblem p →
+    length point.values ≡ length p.low → Contains sets set → IsOutsider p.graph (ends_in p set) (paths_of p set) es →
+    SharesEach p sets point →
     pos 0 ≤ℤ value_at (form_between p.graph (length p.low) (edges_of p (first_of set)) es) point
 rival_met p sets set es point kept count has outsider each =
     let shares = All-contains (Shares p point) sets set each has in
     subst (λ (z : ℤ). pos 0 ≤ℤ z) (sym (value_between p point (edges_of p (first_of set)) es kept count))
     (at_least (cost p.graph point es) (cost_in p point set) point.scale (shares.dearer es outsider))
 
-rival_holds : (p : DesignProblem) (sets : List (List ℕ)) (set es : List ℕ) → IsKept p → AreMemberSets p sets → Contains sets set → IsOutsider p.graph (ends_in p set) (paths_of p set) es → IsTrueForm (length p.low) (SharesEach p sets) (form_between p.graph (length p.low) (edges_of p (first_of set)) es)
+rival_holds : (p : DesignProblem) (sets : List (List ℕ)) (set es : List ℕ) → IsKept p → AreMemberSets p sets →
+    Contains sets set → IsOutsider p.graph (ends_in p set) (paths_of p set) es →
+    IsTrueForm (length p.low) (SharesEach p sets) (form_between p.graph (length p.low) (edges_of p (first_of set)) es)
 rival_holds p sets set es kept are has outsider =
     let is = All-contains (IsMemberSet p) sets set are has in
     let wanted = member_path p set (first_of set) kept.problem is (first_listed set is.some) in
-    let small = simple_form_small p.graph (length p.low) (ends_in p set) (ends_in p set) (edges_of p (first_of set)) es kept.graph kept.metrics kept.problem.priced wanted outsider.path in
+    let small = simple_form_small p.graph (length p.low) (ends_in p set) (ends_in p set) (edges_of p (first_of set)) es
+    kept.graph kept.metrics kept.problem.priced wanted outsider.path in
     record {
       count = small.count;
       sizes = small.sizes;
@@ -104,23 +116,34 @@ difference_small a b first other = omega (arith, ints)
 none_between : (a b c : ℕ) → a ≡ c → b ≡ c → pos 0 ≤ℤ (pos b -ℤ pos a)
 none_between a b c first other = omega (arith, ints)
 
-tie_met : (p : DesignProblem) (sets : List (List ℕ)) (set : List ℕ) (i j : ℕ) (point : Point) → IsProblem p → length point.values ≡ length p.low → Contains sets set → Contains set i → Contains set j → SharesEach p sets point → pos 0 ≤ℤ value_at (form_of_tie p.graph (length p.low) (edges_of p i) (edges_of p j)) point
+tie_met : (p : DesignProblem) (sets : List (List ℕ)) (set : List ℕ) (i j : ℕ) (point : Point) → IsProblem p →
+    length point.values ≡ length p.low → Contains sets set → Contains set i → Contains set j → SharesEach p sets point →
+    pos 0 ≤ℤ value_at (form_of_tie p.graph (length p.low) (edges_of p i) (edges_of p j)) point
 tie_met p sets set i j point kept count has has_i has_j each =
     let shares = All-contains (Shares p point) sets set each has in
     subst (λ (z : ℤ). pos 0 ≤ℤ z) (sym (value_of_tie p point (edges_of p i) (edges_of p j) kept count))
-    (none_between (cost p.graph point (edges_of p i)) (cost p.graph point (edges_of p j)) (cost_in p point set) (member_cost p point set i shares has_i) (member_cost p point set j shares has_j))
+    (none_between (cost p.graph point (edges_of p i)) (cost p.graph point (edges_of p j)) (cost_in p point set)
+    (member_cost p point set i shares has_i) (member_cost p point set j shares has_j))
 
 -- the value of the form of two paths at costs
-pub between_at : (p : DesignProblem) (w first second : List ℕ) → IsProblem p → length w ≡ length p.low → value (form_between p.graph (length p.low) first second) w ≡ ((pos (cost p.graph (at_costs w) second) -ℤ pos (cost p.graph (at_costs w) first)) -ℤ pos 1)
-between_at p w first second kept count = sym (value_at_costs (form_between p.graph (length p.low) first second) w) ∙ value_between p (at_costs w) first second kept count
+pub between_at : (p : DesignProblem) (w first second : List ℕ) → IsProblem p → length w ≡ length p.low →
+    value (form_between p.graph (length p.low) first second) w
+    ≡ ((pos (cost p.graph (at_costs w) second) -ℤ pos (cost p.graph (at_costs w) first)) -ℤ pos 1)
+between_at p w first second kept count = sym (value_at_costs (form_between p.graph (length p.low) first second) w)
+    ∙ value_between p (at_costs w) first second kept count
 
-pub tie_at : (p : DesignProblem) (w first second : List ℕ) → IsProblem p → length w ≡ length p.low → value (form_of_tie p.graph (length p.low) first second) w ≡ (pos (cost p.graph (at_costs w) second) -ℤ pos (cost p.graph (at_costs w) first))
-tie_at p w first second kept count = sym (value_at_costs (form_of_tie p.graph (length p.low) first second) w) ∙ value_of_tie p (at_costs w) first second kept count
+pub tie_at : (p : DesignProblem) (w first second : List ℕ) → IsProblem p → length w ≡ length p.low →
+    value (form_of_tie p.graph (length p.low) first second) w
+    ≡ (pos (cost p.graph (at_costs w) second) -ℤ pos (cost p.graph (at_costs w) first))
+tie_at p w first second kept count = sym (value_at_costs (form_of_tie p.graph (length p.low) first second) w)
+    ∙ value_of_tie p (at_costs w) first second kept count
 
 abbrev IsBelow : ℤ → Type 0
 IsBelow z = nat_abs z < 2 ^ 27
 
-tie_holds : (p : DesignProblem) (sets : List (List ℕ)) (set : List ℕ) (i j : ℕ) → IsKept p → AreMemberSets p sets → Contains sets set → Contains set i → Contains set j → IsTrueForm (length p.low) (SharesEach p sets) (form_of_tie p.graph (length p.low) (edges_of p i) (edges_of p j))
+tie_holds : (p : DesignProblem) (sets : List (List ℕ)) (set : List ℕ) (i j : ℕ) → IsKept p → AreMemberSets p sets →
+    Contains sets set → Contains set i → Contains set j →
+    IsTrueForm (length p.low) (SharesEach p sets) (form_of_tie p.graph (length p.low) (edges_of p i) (edges_of p j))
 tie_holds p sets set i j kept are has has_i has_j =
     let n = length p.low in
     let ends = ends_in p set in
@@ -135,12 +158,15 @@ tie_holds p sets set i j kept are has has_i has_j =
       values = λ w count each.
           subst IsBelow (sym (tie_at p w (edges_of p i) (edges_of p j) kept.problem count))
           (difference_small (cost p.graph (at_costs w) (edges_of p i)) (cost p.graph (at_costs w) (edges_of p j))
-          (subst IsBelow (between_at p w (edges_of p i) (edges_of p j) kept.problem count) (small_value n (form_between p.graph n (edges_of p i) (edges_of p j)) w there each))
-          (subst IsBelow (between_at p w (edges_of p j) (edges_of p i) kept.problem count) (small_value n (form_between p.graph n (edges_of p j) (edges_of p i)) w back each)));
+          (subst IsBelow (between_at p w (edges_of p i) (edges_of p j) kept.problem count)
+          (small_value n (form_between p.graph n (edges_of p i) (edges_of p j)) w there each))
+          (subst IsBelow (between_at p w (edges_of p j) (edges_of p i) kept.problem count)
+          (small_value n (form_between p.graph n (edges_of p j) (edges_of p i)) w back each)));
       met = λ point count each. tie_met p sets set i j point kept.problem count has has_i has_j each;
     }
 
-row_holds : (p : DesignProblem) (sets : List (List ℕ)) (row : SetRow) → IsKept p → AreMemberSets p sets → IsSetRow p sets row → IsTrueForm (length p.low) (SharesEach p sets) (form_of_set_row p row)
+row_holds : (p : DesignProblem) (sets : List (List ℕ)) (row : SetRow) → IsKept p → AreMemberSets p sets →
+    IsSetRow p sets row → IsTrueForm (length p.low) (SharesEach p sets) (form_of_set_row p row)
 row_holds p sets (Rival name rival) kept are is =
     subst (λ (k : ℕ). IsTrueForm (length p.low) (SharesEach p sets) (form_between p.graph (length p.low) (edges_of p k) rival.edges)) is.1.first
     (rival_holds p sets is.0 rival.edges kept are is.1.listed is.2)
@@ -151,7 +177,9 @@ true_forms_hold p sets form is =
     subst (λ (f : Form). IsTrueForm (length p.low) (SharesEach p sets) f) is.of_row.same (row_holds p sets is.of_row.row is.kept is.are is.of_row.is_row)
 
 -- a row's form is at least 0 where each set shares
-pub row_met : (p : DesignProblem) (sets : List (List ℕ)) (row : SetRow) (point : Point) → IsProblem p → length point.values ≡ length p.low → IsSetRow p sets row → SharesEach p sets point → pos 0 ≤ℤ value_at (form_of_set_row p row) point
+pub row_met : (p : DesignProblem) (sets : List (List ℕ)) (row : SetRow) (point : Point) → IsProblem p →
+    length point.values ≡ length p.low → IsSetRow p sets row → SharesEach p sets point →
+    pos 0 ≤ℤ value_at (form_of_set_row p row) point
 row_met p sets (Rival name rival) point kept count is each =
     subst (λ (k : ℕ). pos 0 ≤ℤ value_at (form_between p.graph (length p.low) (edges_of p k) rival.edges) point) is.1.first
     (rival_met p sets is.0 rival.edges point kept count is.1.listed is.2 each)
@@ -159,30 +187,41 @@ row_met p sets (Same name i j) point kept count is each = tie_met p sets is.0 i 
 
 -- Every true form stands in the list of the candidates.
 
-pair_listed : (p : DesignProblem) (form : List ℕ → List ℕ → Form) (paths : List Request) (k : ℕ) (es : List ℕ) → k < length paths → Contains (edge_lists p) es → Contains (forms_of_pairs p form paths) (form (request_at paths k).path.edges es)
+pair_listed : (p : DesignProblem) (form : List ℕ → List ℕ → Form) (paths : List Request) (k : ℕ) (es : List ℕ) →
+    k < length paths → Contains (edge_lists p) es →
+    Contains (forms_of_pairs p form paths) (form (request_at paths k).path.edges es)
 pair_listed p form [] k es known has = absurd (omega arith)
 pair_listed p form (r ∷ rs) zero es known has =
-    Contains-append_left (map (form r.path.edges) (edge_lists p)) (forms_of_pairs p form rs) (form r.path.edges es) (contains-map (form r.path.edges) (edge_lists p) es has)
+    Contains-append_left (map (form r.path.edges) (edge_lists p)) (forms_of_pairs p form rs) (form r.path.edges es)
+    (contains-map (form r.path.edges) (edge_lists p) es has)
 pair_listed p form (r ∷ rs) (suc k) es known has =
-    Contains-append_right (map (form r.path.edges) (edge_lists p)) (forms_of_pairs p form rs) (form (request_at rs k).path.edges es) (pair_listed p form rs k es (omega arith) has)
+    Contains-append_right (map (form r.path.edges) (edge_lists p)) (forms_of_pairs p form rs)
+    (form (request_at rs k).path.edges es) (pair_listed p form rs k es (omega arith) has)
 
-row_listed : (p : DesignProblem) (sets : List (List ℕ)) (row : SetRow) → IsKept p → AreMemberSets p sets → IsSetRow p sets row → Contains (candidates_of p) (form_of_set_row p row)
+row_listed : (p : DesignProblem) (sets : List (List ℕ)) (row : SetRow) → IsKept p → AreMemberSets p sets →
+    IsSetRow p sets row → Contains (candidates_of p) (form_of_set_row p row)
 row_listed p sets (Rival name rival) kept are is =
     let set = is.0 in
     let is_set = All-contains (IsMemberSet p) sets set are is.1.listed in
     let between = form_between p.graph (length p.low) in
-    let known : name < length p.paths = subst (λ (k : ℕ). k < length p.paths) is.1.first (member_known p set (first_of set) is_set (first_listed set is_set.some)) in
-    Contains-append_left (forms_of_pairs p between p.paths) (forms_of_pairs p (form_of_tie p.graph (length p.low)) p.paths) (between (edges_of p name) rival.edges)
+    let known : name < length p.paths =
+    subst (λ (k : ℕ). k < length p.paths) is.1.first
+    (member_known p set (first_of set) is_set (first_listed set is_set.some)) in
+    Contains-append_left (forms_of_pairs p between p.paths)
+    (forms_of_pairs p (form_of_tie p.graph (length p.low)) p.paths) (between (edges_of p name) rival.edges)
     (pair_listed p between p.paths name rival.edges known (path_listed p (ends_in p set) rival.edges kept.graph is.2.path))
 row_listed p sets (Same name i j) kept are is =
     let set = is.0 in
     let is_set = All-contains (IsMemberSet p) sets set are is.1.listed in
     let tie = form_of_tie p.graph (length p.low) in
     Contains-append_right (forms_of_pairs p (form_between p.graph (length p.low)) p.paths) (forms_of_pairs p tie p.paths) (tie (edges_of p i) (edges_of p j))
-    (pair_listed p tie p.paths i (edges_of p j) (member_known p set i is_set is.2) (path_listed p (ends_in p set) (edges_of p j) kept.graph (member_path p set j kept.problem is_set is.3)))
+    (pair_listed p tie p.paths i (edges_of p j) (member_known p set i is_set is.2)
+    (path_listed p (ends_in p set) (edges_of p j) kept.graph (member_path p set j kept.problem is_set is.3)))
 
 pub true_forms_listed : (p : DesignProblem) (sets : List (List ℕ)) (form : Form) → IsTrueOfSets p sets form → Contains (candidates_of p) form
-true_forms_listed p sets form is = subst (λ (f : Form). Contains (candidates_of p) f) is.of_row.same (row_listed p sets is.of_row.row is.kept is.are is.of_row.is_row)
+true_forms_listed p sets form is =
+    subst (λ (f : Form). Contains (candidates_of p) f) is.of_row.same
+    (row_listed p sets is.of_row.row is.kept is.are is.of_row.is_row)
 
 -- Sets that share at multiples of costs share at the costs.
 
@@ -190,7 +229,9 @@ same_less : (a b scale : ℕ) → 0 < scale → a * scale ≡ b * scale → a �
 same_less a b scale some same = divided_less a b scale some (omega arith)
   where
     divided_less : (a b scale : ℕ) → 0 < scale → a * scale + scale ≤ b * scale + scale → a ≤ b
-    divided_less a b scale some more = (let found = divided a (b + 1) scale some (let e : (b + 1) * scale ≡ b * scale + scale = omega arith in omega arith) in omega arith)
+    divided_less a b scale some more =
+        (let found = divided a (b + 1) scale some (let e : (b + 1) * scale ≡ b * scale + scale = omega arith in
+        omega arith) in omega arith)
 
 same_divided : (a b scale : ℕ) → 0 < scale → a * scale ≡ b * scale → a ≡ b
 same_divided a b scale some same =
@@ -213,5 +254,6 @@ set_free p w scale set some shares = record {
       (subst (λ (n : ℕ). cost p.graph (scaled w scale) first + scale ≤ n) (scaled_cost p.graph w scale es) more));
 }
 
-pub scale_is_free : (p : DesignProblem) (sets : List (List ℕ)) (w : List ℕ) (scale : ℕ) → 0 < scale → SharesEach p sets (scaled w scale) → SharesEach p sets (at_costs w)
+pub scale_is_free : (p : DesignProblem) (sets : List (List ℕ)) (w : List ℕ) (scale : ℕ) → 0 < scale →
+    SharesEach p sets (scaled w scale) → SharesEach p sets (at_costs w)
 scale_is_free p sets w scale some each k d k_in = set_free p w scale (get_or sets k d) some (each k d k_in)

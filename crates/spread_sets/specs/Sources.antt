@@ -88,4 +88,6 @@ pub record AreTiesPut (place number : ℕ) (old : KnownSets) (old_forms : List F
   pub problem : new.problem ≡ old.problem
   pub sets : new.sets ≡ old.sets
   pub rows : new.rows ++ ties_of (first_of (set_at old.sets place)) (drop before (set_at old.sets place)) ≡ old.rows ++ ties_in (set_at old.sets place)
-  pub forms : new_forms ++ forms_of_set_rows old.problem (ties_of (first_of (set_at old.sets place)) (drop before (set_at old.sets place))) ≡ old_forms ++ forms_of_set_rows old.problem (ties_in (set_at old.sets place))
+  pub forms : new_forms ++ forms_of_set_rows old.problem
+      (ties_of (first_of (set_at old.sets place)) (drop before (set_at old.sets place))) ≡ old_forms
+      ++ forms_of_set_rows old.problem (ties_in (set_at old.sets place))

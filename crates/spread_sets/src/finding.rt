@@ -1,9 +1,9 @@
 //! Costs that spread traffic over sets of wanted paths.
 ghost use Rattle.std.specs.Prelude.{◌≡◌, ℕ, ◌≤◌, List, length, All, IfOk};
-ghost use Rattle.path_rows.specs.Answers.{greatest_bound};
+ghost use Rattle.path_rows.specs.Answers.{greatest_bound, whole_box};
 ghost use Rattle.path_rows.specs.Boxes.{IsBox};
 ghost use Rattle.set_reader.specs.SpreadSets.{AreSetsOf};
-ghost use Rattle.spread_sets.specs.Answers.{IsFoundOf, IsSpreadFound, whole_box};
+ghost use Rattle.spread_sets.specs.Answers.{IsFoundOf, IsSpreadFound};
 ghost use Rattle.spread_sets.specs.MemberSets.{AreMemberSets, HasTree, sets_in};
 ghost use Rattle.spread_sets.specs.Sources.{IsSought};
 
@@ -64,8 +64,9 @@ fn answered(
     requires ceiling { greatest_bound problem.now ≤ 65535 }
     requires sought { (sets : List (List ℕ)) × AreMemberSets problem.now sets ×
         IsSought problem.now sets limits.now.top limits.now.nodes (whole_box problem.now) sought }
-    ensures { (sets : List (List ℕ)) → AreMemberSets problem.now sets → IsSought problem.now sets limits.now.top limits.now.nodes (whole_box problem.now) sought
-        → IfOk result (IsFoundOf problem.now sets limits.now.top limits.now.nodes) }
+    ensures { (sets : List (List ℕ)) → AreMemberSets problem.now sets →
+        IsSought problem.now sets limits.now.top limits.now.nodes (whole_box problem.now) sought →
+        IfOk result (IsFoundOf problem.now sets limits.now.top limits.now.nodes) }
 {
     keeps_conditions(problem);
     let Sought { rows, found } = sought;

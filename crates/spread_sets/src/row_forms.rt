@@ -37,7 +37,8 @@ pub(crate) fn form_of_tie(
 ) -> Result<Form, OutOfMemory>
     requires second { second < length problem.now.paths }
     requires same_ends { IsRouteOf problem.now.graph (slice_get problem.now.paths first) (edges_of problem.now second) }
-    ensures { IfOk result (λ form. form ≡ form_of_tie problem.now.graph (length problem.now.low) (edges_of problem.now first) (edges_of problem.now second)) }
+    ensures { IfOk result (λ form.
+        form ≡ form_of_tie problem.now.graph (length problem.now.low) (edges_of problem.now first) (edges_of problem.now second)) }
 {
     let other = request_of(problem, second);
     let row = row_of(alloc, first, other.path.edges.as_slice())?;

@@ -1,8 +1,10 @@
 //! The rivals and the ties of a problem's sets, as the source of a search.
-ghost use Rattle.std.specs.Prelude.{◌≡◌, ◌<◌, ◌++◌, ◌∷◌, [], length, slice_index, All, Contains, IfOk, IsTrue, MatchBool, OnErr, OnOk, ◌↔◌};
+ghost use Rattle.std.specs.Prelude.{◌≡◌, ◌<◌, ◌++◌, ◌∷◌, [], ◌↔◌, length, slice_index, All, Contains};
+ghost use Rattle.std.specs.Prelude.{IfOk, IsTrue, MatchBool, OnErr, OnOk};
 ghost use Rattle.area_graph.specs.Costs.{cost};
+ghost use Rattle.path_rows.specs.Forms.{AreMet};
 ghost use Rattle.spf_ties.specs.Distances.{IsRoomFor};
-ghost use Rattle.form_search.specs.Sources.{AreMet, Grows, IsCostPoint};
+ghost use Rattle.form_search.specs.Sources.{Grows, IsCostPoint};
 ghost use Rattle.spread_sets.specs.declared.spread.SetRow.TheVariants.{Same};
 ghost use Rattle.spread_sets.specs.Spreads.{AreTied, Shares, SharesEach, edges_of, first_of, form_of_set_row, forms_of_set_rows};
 ghost use Rattle.cost_branching.specs.Rivals.{IsKept};
@@ -242,7 +244,8 @@ impl<'a, B: Begun> Spreads<'a, B> {
         requires first { Contains (set_at self.old.sets place) first }
         requires second { Contains (set_at self.old.sets place) second }
         ensures row { OnOk result (self.new ≡ record self.old { rows = self.old.rows ++ Same (first_of (set_at self.old.sets place)) first second ∷ [] }) }
-        ensures form { OnOk result (pool.new ≡ pool.old ++ form_of_set_row self.old.problem (Same (first_of (set_at self.old.sets place)) first second) ∷ []) }
+        ensures form { OnOk result (pool.new ≡ pool.old ++
+            form_of_set_row self.old.problem (Same (first_of (set_at self.old.sets place)) first second) ∷ []) }
     {
         self.keeps();
         let name = self.name(place);

@@ -18,24 +18,34 @@ use Rattle.conflict_core.specs.Conflicts.{IsConflictFound}
 use Rattle.wish_commands.specs.Conflicts.{MayConflict, conflict_text, status_of}
 
 -- a report of what may be written
-pub may_report : (may : Status → List ℕ → Type 0) (aim : Status) (bytes : List ℕ) (report : Report) → Reports aim bytes report → may aim bytes → may report.status (bytes_in report.text)
+pub may_report : (may : Status → List ℕ → Type 0) (aim : Status) (bytes : List ℕ) (report : Report) →
+    Reports aim bytes report → may aim bytes → may report.status (bytes_in report.text)
 may_report may aim bytes report r allowed =
     subst (λ (s : Status). may s (bytes_in report.text)) (sym r.status) (subst (may aim) (sym r.text) allowed)
 
 -- what was found may be written
-found_may : (limits : Bounds) (d : Input) (conflict : Conflict) → IsConflictFound d.problem limits.top limits.nodes conflict → MayConflict limits d (status_of conflict) (conflict_text d.problem conflict)
+found_may : (limits : Bounds) (d : Input) (conflict : Conflict) →
+    IsConflictFound d.problem limits.top limits.nodes conflict →
+    MayConflict limits d (status_of conflict) (conflict_text d.problem conflict)
 found_may limits d (Fits w) found = record { conflict = Fits w; found = found; status = refl; spelled = refl }
 found_may limits d (Core members rows tree without) found = record { conflict = Core members rows tree without; found = found; status = refl; spelled = refl }
 found_may limits d (Unknown members rows tree) found = record { conflict = Unknown members rows tree; found = found; status = refl; spelled = refl }
 
 -- the report of what was found of the problem that was read
-pub conflict_found : (Given : List Taken → Type 0) (limits : Bounds) (names : InputFiles) (p : DesignProblem) (conflict : Conflict) (report : Report) → Gave Given (λ came. IsReady (outcome AsRequested names) came IsProblemOf p) →
-    IsConflictFound p limits.top limits.nodes conflict → Reports (status_of conflict) (conflict_text p conflict) report → Gave Given (λ came. IsReady (outcome AsRequested names) came (λ (made : Report) d. MayConflict limits d made.status (bytes_in made.text)) report)
+pub conflict_found : (Given : List Taken → Type 0) (limits : Bounds) (names : InputFiles) (p : DesignProblem)
+    (conflict : Conflict) (report : Report) →
+    Gave Given (λ came. IsReady (outcome AsRequested names) came IsProblemOf p) →
+    IsConflictFound p limits.top limits.nodes conflict →
+    Reports (status_of conflict) (conflict_text p conflict) report →
+    Gave Given (λ came. IsReady (outcome AsRequested names) came
+    (λ (made : Report) d. MayConflict limits d made.status (bytes_in made.text)) report)
 conflict_found Given limits names p conflict report read found r =
     let d : Input = read.so.said in
     let same = read.so.fits.0 in
-    let of_d : IsConflictFound d.problem limits.top limits.nodes conflict = subst (λ (q : DesignProblem). IsConflictFound q limits.top limits.nodes conflict) (sym same) found in
-    let reports : Reports (status_of conflict) (conflict_text d.problem conflict) report = subst (λ (q : DesignProblem). Reports (status_of conflict) (conflict_text q conflict) report) (sym same) r in
+    let of_d : IsConflictFound d.problem limits.top limits.nodes conflict =
+    subst (λ (q : DesignProblem). IsConflictFound q limits.top limits.nodes conflict) (sym same) found in
+    let reports : Reports (status_of conflict) (conflict_text d.problem conflict) report =
+    subst (λ (q : DesignProblem). Reports (status_of conflict) (conflict_text q conflict) report) (sym same) r in
     record {
       came = read.came;
       given = read.given;

@@ -29,7 +29,9 @@ abbrev pub AreSetsFor : DesignProblem → List (List ℕ) → Sharing → Type 0
 AreSetsFor p sets sharing = (sharing.problem ≡ p) × AreSetsIn sets sharing
 
 -- a file without a fault
-pub sets_ready : (file : List ℕ) (p : DesignProblem) (bytes : List ℕ) (sets : List (List ℕ)) → set_fault p bytes ≡ None → AreSaid bytes sets → AreSetsOf p sets → IsReady (if_sets file p bytes (set_fault p bytes)) [] (AreSetsFor p) sets
+pub sets_ready : (file : List ℕ) (p : DesignProblem) (bytes : List ℕ) (sets : List (List ℕ)) →
+    set_fault p bytes ≡ None → AreSaid bytes sets → AreSetsOf p sets →
+    IsReady (if_sets file p bytes (set_fault p bytes)) [] (AreSetsFor p) sets
 sets_ready file p bytes sets none said lawful = record {
   said = sharing_of p bytes;
   ends = subst (λ (f : Option FaultyLine). EndsAs (if_sets file p bytes f) [] (Says (sharing_of p bytes))) (sym none) refl;
@@ -37,32 +39,47 @@ sets_ready file p bytes sets none said lawful = record {
 }
 
 -- a file with one
-pub sets_stop : (file : Bor (List ℕ)) (p : DesignProblem) (bytes : List ℕ) (stop : SetStop) → TellsReading (set_fault p bytes) stop → StopsAs (if_sets file.now p bytes (set_fault p bytes)) [] (set_stop stop file)
+pub sets_stop : (file : Bor (List ℕ)) (p : DesignProblem) (bytes : List ℕ) (stop : SetStop) →
+    TellsReading (set_fault p bytes) stop →
+    StopsAs (if_sets file.now p bytes (set_fault p bytes)) [] (set_stop stop file)
 sets_stop file p bytes (stops.Refused fault line) tells =
     subst (λ (f : Option FaultyLine). EndsAs (if_sets file.now p bytes f) [] (Faulty (refusal_in (number_of fault) file line))) (sym tells) refl
 sets_stop file p bytes stops.OutOfMemory tells = tt
 
 -- what was found may be written
-found_may : (limits : Bounds) (sharing : Sharing) (sets : List (List ℕ)) (spread : Spread) → AreSetsIn sets sharing → IsSpreadFound sharing.problem sets limits.top limits.nodes spread → MaySpread limits sharing (status_of spread) (spread_text sharing.problem spread)
+found_may : (limits : Bounds) (sharing : Sharing) (sets : List (List ℕ)) (spread : Spread) → AreSetsIn sets sharing →
+    IsSpreadFound sharing.problem sets limits.top limits.nodes spread →
+    MaySpread limits sharing (status_of spread) (spread_text sharing.problem spread)
 found_may limits sharing sets (Fit w) said found = record { sets = sets; said = said; spread = Fit w; found = found; status = refl; spelled = refl }
-found_may limits sharing sets (Impossible rows tree) said found = record { sets = sets; said = said; spread = Impossible rows tree; found = found; status = refl; spelled = refl }
-found_may limits sharing sets (Unknown rows tree) said found = record { sets = sets; said = said; spread = Unknown rows tree; found = found; status = refl; spelled = refl }
+found_may limits sharing sets (Impossible rows tree) said found =
+    record { sets = sets; said = said; spread = Impossible rows tree; found = found; status = refl; spelled = refl }
+found_may limits sharing sets (Unknown rows tree) said found =
+    record { sets = sets; said = said; spread = Unknown rows tree; found = found; status = refl; spelled = refl }
 
 -- the report of what was found of the sets that were read
-pub spread_found : (Given : List Taken → Type 0) (limits : Bounds) (file : List ℕ) (p q : DesignProblem) (sets : List (List ℕ)) (spread : Spread) (report : Report) → q ≡ p → Gave Given (λ came. IsReady (sets_read file p) came (AreSetsFor p) sets) →
-    IsSpreadFound p sets limits.top limits.nodes spread → Reports (status_of spread) (spread_text p spread) report → Gave Given (λ came. IsReady (sets_read file q) came (λ (made : Report) sharing. MaySpread limits sharing made.status (bytes_in made.text)) report)
+pub spread_found : (Given : List Taken → Type 0) (limits : Bounds) (file : List ℕ) (p q : DesignProblem)
+    (sets : List (List ℕ)) (spread : Spread) (report : Report) → q ≡ p →
+    Gave Given (λ came. IsReady (sets_read file p) came (AreSetsFor p) sets) →
+    IsSpreadFound p sets limits.top limits.nodes spread → Reports (status_of spread) (spread_text p spread) report →
+    Gave Given (λ came. IsReady (sets_read file q) came
+    (λ (made : Report) sharing. MaySpread limits sharing made.status (bytes_in made.text)) report)
 spread_found Given limits file p q sets spread report same read found r =
-    subst (λ (s : DesignProblem). Gave Given (λ came. IsReady (sets_read file s) came (λ (made : Report) sharing. MaySpread limits sharing made.status (bytes_in made.text)) report)) (sym same)
+    subst (λ (s : DesignProblem). Gave Given
+    (λ came. IsReady (sets_read file s) came
+    (λ (made : Report) sharing. MaySpread limits sharing made.status (bytes_in made.text)) report)) (sym same)
     (let sharing : Sharing = read.so.said in
     let is = sym read.so.fits.0 in
-    let of_said : IsSpreadFound sharing.problem sets limits.top limits.nodes spread = subst (λ (s : DesignProblem). IsSpreadFound s sets limits.top limits.nodes spread) is found in
-    let reports : Reports (status_of spread) (spread_text sharing.problem spread) report = subst (λ (s : DesignProblem). Reports (status_of spread) (spread_text s spread) report) is r in
+    let of_said : IsSpreadFound sharing.problem sets limits.top limits.nodes spread =
+    subst (λ (s : DesignProblem). IsSpreadFound s sets limits.top limits.nodes spread) is found in
+    let reports : Reports (status_of spread) (spread_text sharing.problem spread) report =
+    subst (λ (s : DesignProblem). Reports (status_of spread) (spread_text s spread) report) is r in
     record {
       came = read.came;
       given = read.given;
       so = record {
         said = sharing;
         ends = read.so.ends;
-        fits = may_report (MaySpread limits sharing) (status_of spread) (spread_text sharing.problem spread) report reports (found_may limits sharing sets spread read.so.fits.1 of_said);
+        fits = may_report (MaySpread limits sharing) (status_of spread) (spread_text sharing.problem spread) report
+            reports (found_may limits sharing sets spread read.so.fits.1 of_said);
       };
     })

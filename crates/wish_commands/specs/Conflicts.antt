@@ -5,7 +5,7 @@ use Rattle.cost_base.specs.declared.Status.{Status}
 use Rattle.cost_base.specs.declared.Status.TheVariants.{Done, Undecided}
 use Rattle.path_rows.specs.Problems.{DesignProblem}
 use Rattle.path_rows.specs.Text.{spaced, tree_lines}
-use Rattle.evidence_text.specs.Lines.{text_of}
+use Rattle.text_lines.specs.Lines.{with_ends}
 use Rattle.evidence_text.specs.Parts.{rows_lines}
 use Rattle.conflict_core.specs.declared.conflict.Conflict.{Conflict}
 use Rattle.conflict_core.specs.declared.conflict.Conflict.TheVariants.{Fits, Core, Unknown}
@@ -37,7 +37,7 @@ found_lines p (Unknown members rows tree) =
     codes "verdict undecided" ∷ members_line members ∷ rows_lines rows ++ tree_lines (codes "open") (Some (at_ceiling p tree))
 
 abbrev pub conflict_text : DesignProblem → Conflict → List ℕ
-conflict_text p conflict = text_of (codes "ospfcost conflict 1" ∷ found_lines p conflict ++ codes "end" ∷ [])
+conflict_text p conflict = with_ends (codes "ospfcost conflict 1" ∷ found_lines p conflict ++ codes "end" ∷ [])
 
 -- the status of a run that prints what was found
 abbrev pub status_of : Conflict → Status

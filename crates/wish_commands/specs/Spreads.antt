@@ -6,7 +6,7 @@ use Rattle.path_rows.specs.declared.answer.CapTree.{CapTree}
 use Rattle.path_rows.specs.declared.answer.Costs.{Costs}
 use Rattle.path_rows.specs.Problems.{DesignProblem}
 use Rattle.path_rows.specs.Text.{costs_lines, tree_lines}
-use Rattle.evidence_text.specs.Lines.{text_of}
+use Rattle.text_lines.specs.Lines.{with_ends}
 use Rattle.evidence_text.specs.Parts.{rows_line}
 use Rattle.spread_sets.specs.declared.spread.SetRow.{SetRow}
 use Rattle.spread_sets.specs.declared.spread.Spread.{Spread}
@@ -37,7 +37,7 @@ found_lines p (Impossible rows tree) = spread_lines (codes "verdict impossible")
 found_lines p (Unknown rows tree) = spread_lines (codes "verdict undecided") None rows.items None (Some (at_ceiling p tree))
 
 abbrev pub spread_text : DesignProblem → Spread → List ℕ
-spread_text p spread = text_of (found_lines p spread)
+spread_text p spread = with_ends (found_lines p spread)
 
 -- the status of a run that prints what was found
 abbrev pub status_of : Spread → Status

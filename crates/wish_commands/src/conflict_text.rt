@@ -3,20 +3,23 @@ ghost use Rattle.std.specs.Prelude.{◌≡◌, ℕ, ◌≤◌, [], ◌∷◌, �
 ghost use Rattle.path_rows.specs.Boxes.{IsInBox};
 ghost use Rattle.path_rows.specs.Rows.{box_of};
 ghost use Rattle.path_rows.specs.Text.{tree_lines};
-ghost use Rattle.evidence_text.specs.Lines.{text_of, AreShort};
+ghost use Rattle.text_lines.specs.Lines.{with_ends};
+ghost use Rattle.evidence_text.specs.Lines.{AreShort};
 ghost use Rattle.evidence_text.specs.Parts.{rows_lines, part_word};
 ghost use Rattle.conflict_core.specs.declared.conflict.Conflict.TheVariants.{Core, Fits, Unknown};
 ghost use Rattle.conflict_core.specs.Conflicts.{IsConflictFound, IsCore, IsUnknown};
 ghost use Rattle.wish_commands.specs.Conflicts.{conflict_text, members_line, without_line, without_parts};
 ghost use Rattle.wish_commands.specs.SharedParts.{costs_part};
 
-use crate::parts::{at_ceiling, costs_by_name, keeps_problem, push_line, push_words};
+use crate::parts::{at_ceiling, costs_by_name, push_line, push_words};
 use conflict_core::{Conflict, all_requests};
 use cost_base::OutOfMemory;
+use cost_branching::keeps_conditions;
 use evidence_text::TreePart;
 use path_rows::{CapTree, CostList, Problem, Row, Tree};
 use std::alloc::Global;
-use text_parts::{push_costs, push_number, push_rows, push_tree};
+use text_lines::push_number;
+use text_parts::{push_costs, push_rows, push_tree};
 
 /// The line of a set of requests.
 fn members_line(alloc: Global, members: &[u32]) -> Result<Vec<u8>, OutOfMemory>
@@ -30,7 +33,7 @@ fn members_line(alloc: Global, members: &[u32]) -> Result<Vec<u8>, OutOfMemory>
 
 /// The first lines, up to that of the requests.
 fn head_of(alloc: Global, verdict: &[u8], members: &[u32]) -> Result<Vec<u8>, OutOfMemory>
-    ensures { IfOk result (λ text. text.items ≡ text_of (codes "ospfcost conflict 1" ∷ verdict.now ∷ members_line members.now ∷ [])) }
+    ensures { IfOk result (λ text. text.items ≡ with_ends (codes "ospfcost conflict 1" ∷ verdict.now ∷ members_line members.now ∷ [])) }
 {
     let members = members_line(alloc, members)?;
     let mut text = Vec::new(alloc);
@@ -48,7 +51,7 @@ fn push_costs_part(
     costs: &CostList,
 ) -> Result<(), OutOfMemory>
     requires { IsInBox (box_of problem.now) costs.now }
-    ensures { OnOk result (text.new.items ≡ text.old.items ++ text_of (costs_part problem.now costs.now)) }
+    ensures { OnOk result (text.new.items ≡ text.old.items ++ with_ends (costs_part problem.now costs.now)) }
 {
     let costs = costs_by_name(alloc, problem, costs)?;
     push_costs(alloc, text, Some(&costs))
@@ -72,7 +75,7 @@ fn push_without_one(
     costs: &CostList,
 ) -> Result<(), OutOfMemory>
     requires { IsInBox (box_of problem.now) costs.now }
-    ensures { OnOk result (text.new.items ≡ text.old.items ++ text_of (without_line member ∷ costs_part problem.now costs.now)) }
+    ensures { OnOk result (text.new.items ≡ text.old.items ++ with_ends (without_line member ∷ costs_part problem.now costs.now)) }
 {
     let line = without_line(alloc, member)?;
     push_line(text, line.as_slice())?;
@@ -89,7 +92,7 @@ fn push_without(
 ) -> Result<(), OutOfMemory>
     requires counted { length without.now ≡ length members.now }
     requires within { All (IsInBox (box_of problem.now)) without.now }
-    ensures { OnOk result (text.new.items ≡ text.old.items ++ text_of (without_parts problem.now members.now without.now)) }
+    ensures { OnOk result (text.new.items ≡ text.old.items ++ with_ends (without_parts problem.now members.now without.now)) }
 {
     for (place, costs) in without.iter().enumerate() {
         push_without_one(alloc, text, problem, members[place], costs)?;
@@ -119,7 +122,7 @@ fn push_evidence(
 ) -> Result<(), OutOfMemory>
     requires rows { AreShort (rows_lines rows.now) }
     requires tree { AreShort (tree_lines (part_word part) (Some tree.now)) }
-    ensures { OnOk result (text.new.items ≡ text.old.items ++ text_of (rows_lines rows.now ++ tree_lines (part_word part) (Some tree.now))) }
+    ensures { OnOk result (text.new.items ≡ text.old.items ++ with_ends (rows_lines rows.now ++ tree_lines (part_word part) (Some tree.now))) }
 {
     push_rows(alloc, text, rows)?;
     push_tree(alloc, text, part, Some(tree))
@@ -137,7 +140,7 @@ fn core_text(
     requires { (top : ℕ) × (nodes : ℕ) × (nodes ≤ 10000000) × IsCore problem.now top nodes members.now rows.now tree without.now }
     ensures { IfOk result (λ text. text.items ≡ conflict_text problem.now (Core members.now rows.now tree without.now)) }
 {
-    keeps_problem(problem);
+    keeps_conditions(problem);
     let mut text = head_of(alloc, b"verdict core", members)?;
     let tree = at_ceiling(problem, tree);
     push_evidence(alloc, &mut text, rows, TreePart::Proof, &tree)?;
@@ -157,7 +160,7 @@ fn unknown_text(
     requires { (top : ℕ) × (nodes : ℕ) × (nodes ≤ 10000000) × IsUnknown problem.now top nodes members.now rows.now tree }
     ensures { IfOk result (λ text. text.items ≡ conflict_text problem.now (Unknown members.now rows.now tree)) }
 {
-    keeps_problem(problem);
+    keeps_conditions(problem);
     let mut text = head_of(alloc, b"verdict undecided", members)?;
     let tree = at_ceiling(problem, tree);
     push_evidence(alloc, &mut text, rows, TreePart::Unfinished, &tree)?;

@@ -1,31 +1,23 @@
 //! Lines and parts that the texts of wishes share.
 ghost use Rattle.std.specs.Prelude.{◌≡◌, ◌≤◌, ◌∷◌, ◌++◌, [], map, Some, IfOk, OnOk};
 ghost use Rattle.cost_base.specs.Decimal.{decimal};
-ghost use Rattle.area_graph.specs.Area.{FitsGraph};
-ghost use Rattle.path_rows.specs.Problems.{IsProblem};
 ghost use Rattle.path_rows.specs.Boxes.{IsInBox};
 ghost use Rattle.path_rows.specs.Rows.{box_of};
 ghost use Rattle.path_rows.specs.Text.{costs_lines};
-ghost use Rattle.evidence_text.specs.Lines.{text_of, with_words, AreShort};
+ghost use Rattle.text_lines.specs.Lines.{with_ends};
+ghost use Rattle.evidence_text.specs.Lines.{with_words, AreShort};
 ghost use Rattle.wish_commands.specs.SharedParts.{at_ceiling, named_costs};
 
 use cost_base::OutOfMemory;
+use cost_branching::keeps_conditions;
 use path_rows::{CapTree, CostList, Costs, Problem, Tree};
 use printed_rows::{greatest_of, printed_costs};
 use std::alloc::Global;
-use text_parts::{push_bytes, push_number};
-
-/// Each problem keeps its conditions, and so does its graph. It takes no time.
-pub(crate) fn keeps_problem(problem: &Problem)
-    ensures problem { IsProblem problem.now }
-    ensures graph { FitsGraph problem.now.graph }
-{
-    problem.graph.keeps_conditions();
-}
+use text_lines::{push_bytes, push_number};
 
 /// Adds a line at the end.
 pub(crate) fn push_line(text: &mut Vec<u8>, line: &[u8]) -> Result<(), OutOfMemory>
-    ensures { OnOk result (text.new.items ≡ text.old.items ++ text_of (line.now ∷ [])) }
+    ensures { OnOk result (text.new.items ≡ text.old.items ++ with_ends (line.now ∷ [])) }
 {
     push_bytes(text, line)?;
     push_bytes(text, b"\n")
@@ -59,7 +51,7 @@ pub(crate) fn costs_by_name(
     ensures named { IfOk result (λ printed. printed ≡ named_costs problem.now costs.now) }
     ensures short { IfOk result (λ printed. AreShort (costs_lines (Some printed))) }
 {
-    keeps_problem(problem);
+    keeps_conditions(problem);
     printed_costs(alloc, problem, costs.as_slice())
 }
 

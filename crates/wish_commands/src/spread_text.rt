@@ -6,7 +6,8 @@ ghost use Rattle.path_rows.specs.Boxes.{IsInBox};
 ghost use Rattle.path_rows.specs.Rows.{box_of};
 ghost use Rattle.path_rows.specs.Answers.{greatest_bound};
 ghost use Rattle.path_rows.specs.Text.{costs_lines, spaced, tree_lines};
-ghost use Rattle.evidence_text.specs.Lines.{text_of, AreShort};
+ghost use Rattle.text_lines.specs.Lines.{with_ends};
+ghost use Rattle.evidence_text.specs.Lines.{AreShort};
 ghost use Rattle.evidence_text.specs.Parts.{rows_line};
 ghost use Rattle.spread_sets.specs.declared.spread.SetRow.TheVariants.{Same};
 ghost use Rattle.spread_sets.specs.Answers.{FitText, IsSpreadFound, set_row_line};
@@ -19,7 +20,8 @@ use evidence_text::TreePart;
 use path_rows::{CapTree, CostList, Costs, Problem, Tree};
 use spread_sets::{SetRow, Spread};
 use std::alloc::Global;
-use text_parts::{push_costs, push_number, push_tree};
+use text_lines::push_number;
+use text_parts::{push_costs, push_tree};
 
 /// The line of a rival: its set, and its edges.
 fn rival_line(alloc: Global, set: u32, edges: &[u32]) -> Result<Vec<u8>, OutOfMemory>
@@ -63,7 +65,7 @@ fn rows_line(alloc: Global, count: usize) -> Result<Vec<u8>, OutOfMemory>
 
 /// Adds the line of a row.
 fn push_set_row(alloc: Global, text: &mut Vec<u8>, row: &SetRow) -> Result<(), OutOfMemory>
-    ensures { OnOk result (text.new.items ≡ text.old.items ++ text_of (set_row_line row.now ∷ [])) }
+    ensures { OnOk result (text.new.items ≡ text.old.items ++ with_ends (set_row_line row.now ∷ [])) }
 {
     let line = set_row_line(alloc, row)?;
     push_line(text, line.as_slice())
@@ -71,7 +73,7 @@ fn push_set_row(alloc: Global, text: &mut Vec<u8>, row: &SetRow) -> Result<(), O
 
 /// Adds the lines of rows.
 fn push_set_rows(alloc: Global, text: &mut Vec<u8>, rows: &[SetRow]) -> Result<(), OutOfMemory>
-    ensures { OnOk result (text.new.items ≡ text.old.items ++ text_of (set_rows_lines rows.now)) }
+    ensures { OnOk result (text.new.items ≡ text.old.items ++ with_ends (set_rows_lines rows.now)) }
 {
     let line = rows_line(alloc, rows.len())?;
     push_line(text, line.as_slice())?;
@@ -83,7 +85,7 @@ fn push_set_rows(alloc: Global, text: &mut Vec<u8>, rows: &[SetRow]) -> Result<(
 
 /// The first lines, up to that of the verdict.
 fn head_of(alloc: Global, verdict: &[u8]) -> Result<Vec<u8>, OutOfMemory>
-    ensures { IfOk result (λ text. text.items ≡ text_of (codes "ospfcost spread answer 1" ∷ verdict.now ∷ [])) }
+    ensures { IfOk result (λ text. text.items ≡ with_ends (codes "ospfcost spread answer 1" ∷ verdict.now ∷ [])) }
 {
     let mut text = Vec::new(alloc);
     push_line(&mut text, b"ospfcost spread answer 1")?;
@@ -100,8 +102,8 @@ fn push_trees(
 ) -> Result<(), OutOfMemory>
     requires proof { AreShort (tree_lines (codes "proof") (option_copied proof)) }
     requires unfinished { AreShort (tree_lines (codes "open") (option_copied unfinished)) }
-    ensures { OnOk result (text.new.items ≡ ((text.old.items ++ text_of (tree_lines (codes "proof") (option_copied proof.entry))) ++
-        text_of (tree_lines (codes "open") (option_copied unfinished.entry))) ++ text_of (codes "end" ∷ [])) }
+    ensures { OnOk result (text.new.items ≡ ((text.old.items ++ with_ends (tree_lines (codes "proof") (option_copied proof.entry))) ++
+        with_ends (tree_lines (codes "open") (option_copied unfinished.entry))) ++ with_ends (codes "end" ∷ [])) }
 {
     push_tree(alloc, text, TreePart::Proof, proof)?;
     push_tree(alloc, text, TreePart::Unfinished, unfinished)?;
@@ -121,7 +123,7 @@ fn text_of_parts(
     requires proof { AreShort (tree_lines (codes "proof") (option_copied proof)) }
     requires unfinished { AreShort (tree_lines (codes "open") (option_copied unfinished)) }
     ensures { IfOk result (λ text. text.items ≡
-        text_of (spread_lines verdict.now (option_copied costs.entry) rows.now (option_copied proof.entry) (option_copied unfinished.entry))) }
+        with_ends (spread_lines verdict.now (option_copied costs.entry) rows.now (option_copied proof.entry) (option_copied unfinished.entry))) }
 {
     let mut text = head_of(alloc, verdict)?;
     push_costs(alloc, &mut text, costs)?;
@@ -133,7 +135,7 @@ fn text_of_parts(
 /// The text of spread-fit costs.
 fn fit_text(alloc: Global, problem: &Problem, costs: &CostList) -> Result<Vec<u8>, OutOfMemory>
     requires { IsInBox (box_of problem.now) costs.now }
-    ensures { IfOk result (λ text. text.items ≡ text_of (spread_lines (codes "verdict fit") (Some (named_costs problem.now costs.now)) [] None None)) }
+    ensures { IfOk result (λ text. text.items ≡ with_ends (spread_lines (codes "verdict fit") (Some (named_costs problem.now costs.now)) [] None None)) }
 {
     let costs = costs_by_name(alloc, problem, costs)?;
     text_of_parts(alloc, b"verdict fit", Some(&costs), &[], None, None)
@@ -147,7 +149,8 @@ fn impossible_text(
     tree: Tree,
 ) -> Result<Vec<u8>, OutOfMemory>
     requires { FitText (greatest_bound problem.now) rows.now tree }
-    ensures { IfOk result (λ text. text.items ≡ text_of (spread_lines (codes "verdict impossible") None rows.now (Some (at_ceiling problem.now tree)) None)) }
+    ensures { IfOk result (λ text.
+        text.items ≡ with_ends (spread_lines (codes "verdict impossible") None rows.now (Some (at_ceiling problem.now tree)) None)) }
 {
     let tree = at_ceiling(problem, tree);
     text_of_parts(alloc, b"verdict impossible", None, rows, Some(&tree), None)
@@ -161,7 +164,7 @@ fn unknown_text(
     tree: Tree,
 ) -> Result<Vec<u8>, OutOfMemory>
     requires { FitText (greatest_bound problem.now) rows.now tree }
-    ensures { IfOk result (λ text. text.items ≡ text_of (spread_lines (codes "verdict undecided") None rows.now None (Some (at_ceiling problem.now tree)))) }
+    ensures { IfOk result (λ text. text.items ≡ with_ends (spread_lines (codes "verdict undecided") None rows.now None (Some (at_ceiling problem.now tree)))) }
 {
     let tree = at_ceiling(problem, tree);
     text_of_parts(alloc, b"verdict undecided", None, rows, None, Some(&tree))

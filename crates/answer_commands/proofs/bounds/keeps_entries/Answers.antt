@@ -7,7 +7,9 @@ use Rattle.path_rows.specs.Bounds.{BoundsEntry}
 use Rattle.answer_commands.proofs.bounds.keeps_entries.Goals as goal
 
 pub loop-entry-preserved : goal.loop-entry-preserved
-loop-entry-preserved c = All-more BoundsEntry c.args.entries.now c.loop-entry.entry-index _ c.loop-entry-test.true c.loop-entry.invariant (subst BoundsEntry c.entry-item.is c.keeps_entry.ensures)
+loop-entry-preserved c = All-more BoundsEntry c.args.entries.now c.loop-entry.entry-index _ c.loop-entry-test.true
+    c.loop-entry.invariant (subst BoundsEntry c.entry-item.is c.keeps_entry.ensures)
 
 pub returns : goal.returns
-returns c = subst (λ (left : List Entry). All BoundsEntry left) (take_all c.loop-entry.entry-index c.args.entries.now c.loop-entry-test.false) c.loop-entry.invariant
+returns c = subst (λ (left : List Entry). All BoundsEntry left)
+    (take_all c.loop-entry.entry-index c.args.entries.now c.loop-entry-test.false) c.loop-entry.invariant

@@ -7,7 +7,9 @@ use Rattle.path_rows.specs.Bounds.{BoundsMember}
 use Rattle.answer_commands.proofs.bounds.keeps_members.Goals as goal
 
 pub loop-member-preserved : goal.loop-member-preserved
-loop-member-preserved c = All-more BoundsMember c.args.members.now c.loop-member.member-index _ c.loop-member-test.true c.loop-member.invariant c.keeps_member.ensures
+loop-member-preserved c = All-more BoundsMember c.args.members.now c.loop-member.member-index _ c.loop-member-test.true
+    c.loop-member.invariant c.keeps_member.ensures
 
 pub returns : goal.returns
-returns c = subst (λ (left : List Member). All BoundsMember left) (take_all c.loop-member.member-index c.args.members.now c.loop-member-test.false) c.loop-member.invariant
+returns c = subst (λ (left : List Member). All BoundsMember left)
+    (take_all c.loop-member.member-index c.args.members.now c.loop-member-test.false) c.loop-member.invariant

@@ -7,7 +7,8 @@ use Rattle.path_rows.specs.Bounds.{BoundsRow}
 use Rattle.answer_commands.proofs.bounds.keeps_rows.Goals as goal
 
 pub loop-row-preserved : goal.loop-row-preserved
-loop-row-preserved c = All-more BoundsRow c.args.rows.now c.loop-row.row-index _ c.loop-row-test.true c.loop-row.invariant (subst BoundsRow c.row-item.is c.keeps_row.ensures)
+loop-row-preserved c = All-more BoundsRow c.args.rows.now c.loop-row.row-index _ c.loop-row-test.true
+    c.loop-row.invariant (subst BoundsRow c.row-item.is c.keeps_row.ensures)
 
 pub returns : goal.returns
 returns c = subst (λ (left : List Row). All BoundsRow left) (take_all c.loop-row.row-index c.args.rows.now c.loop-row-test.false) c.loop-row.invariant

@@ -9,4 +9,5 @@ returns-in-Ok c =
 
 pub returns-in_ok-rejection_of_text-in-Err : goal.returns-in_ok-rejection_of_text-in-Err
 returns-in_ok-rejection_of_text-in-Err c =
-    off_grammar_rejected c.args.problem.now c.args.bytes.now c.in_ok-rejection_of_text-in-Err.field-0 (c.in_ok-rejection_of_text-in-Err.ensures c.args.bytes.now c.in-Err.ensures.stopped)
+    off_grammar_rejected c.args.problem.now c.args.bytes.now c.in_ok-rejection_of_text-in-Err.field-0
+    (c.in_ok-rejection_of_text-in-Err.ensures c.args.bytes.now c.in-Err.ensures.stopped)

@@ -16,7 +16,9 @@ revision_of file bytes = record { config = file; bytes = bytes }
 pub returns-in_err-text : goal.returns-in_err-text
 returns-in_err-text g c =
     let p = err_from_is_err_and c.from_residual.result c.from_residual.ensures.1 in
-    rw (p.1, p.2) (gave_stop (g.S.Shelf.gave c.args.shelf.now c.read_config_text.new.shelf) (config_read c.args.config.now) (λ file. file_read longest_answer c.args.answer.now >>= λ bytes. Ready (revision_of file bytes)) _ c.in_err-text.ensures)
+    rw (p.1, p.2) (gave_stop (g.S.Shelf.gave c.args.shelf.now c.read_config_text.new.shelf)
+    (config_read c.args.config.now) (λ file. file_read longest_answer c.args.answer.now >>= λ bytes.
+    Ready (revision_of file bytes)) _ c.in_err-text.ensures)
 
 pub returns-in_err-bytes : goal.returns-in_err-bytes
 returns-in_err-bytes g c =
@@ -24,7 +26,8 @@ returns-in_err-bytes g c =
     let b = c.read_config_text.new.shelf in
     let d = c.read_answer_file.new.shelf in
     let p = err_from_is_err_and c.from_residual-in_err-bytes.result c.from_residual-in_err-bytes.ensures.1 in
-    rw (p.1, p.2) (second_stops (g.S.Shelf.gave a b) (g.S.Shelf.gave b d) (g.S.Shelf.gave a d) (config_read c.args.config.now) (file_read longest_answer c.args.answer.now) revision_of
+    rw (p.1, p.2) (second_stops (g.S.Shelf.gave a b) (g.S.Shelf.gave b d) (g.S.Shelf.gave a d)
+    (config_read c.args.config.now) (file_read longest_answer c.args.answer.now) revision_of
     (λ (text : ConfigFile) file. text ≡ file) c.in_ok-text.text _ (g.met.S.Shelf.gave_more a b d) c.in_ok-text.ensures c.in_err-bytes.ensures.read)
 
 pub returns : goal.returns
@@ -32,11 +35,15 @@ returns g c =
     let a = c.args.shelf.now in
     let b = c.read_config_text.new.shelf in
     let d = c.read_answer_file.new.shelf in
-    pair_made (g.S.Shelf.gave a b) (g.S.Shelf.gave b d) (g.S.Shelf.gave a d) (config_read c.args.config.now) (file_read longest_answer c.args.answer.now) revision_of
-    (λ (text : ConfigFile) file. text ≡ file) (λ (bytes : Vec ℕ Global) read. bytes.items ≡ read) (λ revised revision. IsRevised revision revised) c.in_ok-text.text c.in_ok-bytes.bytes c.in_ok-revised_by_text.field-0 (g.met.S.Shelf.gave_more a b d) c.in_ok-text.ensures c.in_ok-bytes.ensures.read
+    pair_made (g.S.Shelf.gave a b) (g.S.Shelf.gave b d) (g.S.Shelf.gave a d) (config_read c.args.config.now)
+    (file_read longest_answer c.args.answer.now) revision_of
+    (λ (text : ConfigFile) file. text ≡ file) (λ (bytes : Vec ℕ Global) read. bytes.items ≡ read)
+    (λ revised revision. IsRevised revision revised) c.in_ok-text.text c.in_ok-bytes.bytes
+    c.in_ok-revised_by_text.field-0 (g.met.S.Shelf.gave_more a b d) c.in_ok-text.ensures c.in_ok-bytes.ensures.read
     (λ x read is same.
     subst (λ (file : ConfigFile). IsRevised (record { config = file; bytes = read }) c.in_ok-revised_by_text.field-0) is
-    (subst (λ (bytes : List ℕ). IsRevised (record { config = c.in_ok-text.text; bytes = bytes }) c.in_ok-revised_by_text.field-0) (c.deref.ensures.value ∙ same) c.in_ok-revised_by_text.ensures))
+    (subst (λ (bytes : List ℕ). IsRevised (record { config = c.in_ok-text.text; bytes = bytes })
+    c.in_ok-revised_by_text.field-0) (c.deref.ensures.value ∙ same) c.in_ok-revised_by_text.ensures))
 
 pub returns-in_err-revised_by_text : goal.returns-in_err-revised_by_text
 returns-in_err-revised_by_text g c =
@@ -44,4 +51,5 @@ returns-in_err-revised_by_text g c =
     let b = c.read_config_text.new.shelf in
     let d = c.read_answer_file.new.shelf in
     let p = err_from_is_err_and c.from_residual-in_err-revised_by_text.result c.from_residual-in_err-revised_by_text.ensures.1 in
-    rw (p.1, p.2) (both_came (g.S.Shelf.gave a b) (g.S.Shelf.gave b d) (g.S.Shelf.gave a d) (g.met.S.Shelf.gave_more a b d) c.in_ok-text.ensures c.in_ok-bytes.ensures.read)
+    rw (p.1, p.2) (both_came (g.S.Shelf.gave a b) (g.S.Shelf.gave b d) (g.S.Shelf.gave a d)
+    (g.met.S.Shelf.gave_more a b d) c.in_ok-text.ensures c.in_ok-bytes.ensures.read)

@@ -13,5 +13,7 @@ returns-in_err-part-clause-advisors g c = left_alike _ _ _ refl
 pub decide-requires-clause-cap : goal.decide-requires-clause-cap
 decide-requires-clause-cap g c =
     let q = c.in_ok-part.part in
-    let ceiling_is : c.greatest_of-ceiling.result ≡ greatest_bound q = c.greatest_of-ceiling.ensures ∙ ap greatest_cost (c.as_slice-2.ensures ∙ ap (λ (r : DesignProblem). r.high) c.part.view_is) in
-    cap_above c.args.problem.now q c.args.members.items c.as_slice.result.now c.greatest_of-ceiling.result c.keeps_problem.ensures c.requires c.as_slice.ensures.value c.in_ok-part.ensures ceiling_is
+    let ceiling_is : c.greatest_of-ceiling.result ≡ greatest_bound q = c.greatest_of-ceiling.ensures
+    ∙ ap greatest_cost (c.as_slice-2.ensures ∙ ap (λ (r : DesignProblem). r.high) c.part.view_is) in
+    cap_above c.args.problem.now q c.args.members.items c.as_slice.result.now c.greatest_of-ceiling.result
+    c.keeps_conditions.ensures.problem c.requires c.as_slice.ensures.value c.in_ok-part.ensures ceiling_is

@@ -9,4 +9,4 @@ returns c = λ top nodes was.
     let p = c.args.problem.now in
     let told = c.in_ok-members.field-0 in
     subst (λ (lists : List (List ℕ)). IsCore p top nodes told.members told.rows told.tree lists) (sym c.from_items.ensures)
-    (core_found p top nodes c.args.shrunk told c.keeps_problem.ensures was c.requires.ended (c.in_ok-members.ensures top nodes was.conflict.tree))
+    (core_found p top nodes c.args.shrunk told c.keeps_conditions.ensures.problem was c.requires.ended (c.in_ok-members.ensures top nodes was.conflict.tree))

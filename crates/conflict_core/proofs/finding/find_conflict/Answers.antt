@@ -27,5 +27,7 @@ pub returns-in-Spent-clause-found : goal.returns-in-Spent-clause-found
 returns-in-Spent-clause-found g c =
     let p = c.args.problem.now in
     let limits = c.args.limits.now in
-    let found : IsSetDecided p limits.top limits.nodes c.in_ok-all.all.items (Spent c.in-Spent.set) = subst (λ (d : Decided). IsSetDecided p limits.top limits.nodes c.in_ok-all.all.items d) c.in-Spent.is c.in_ok-costs.ensures.decided in
+    let found : IsSetDecided p limits.top limits.nodes c.in_ok-all.all.items (Spent c.in-Spent.set) =
+    subst (λ (d : Decided). IsSetDecided p limits.top limits.nodes c.in_ok-all.all.items d) c.in-Spent.is
+    c.in_ok-costs.ensures.decided in
     c.unknown.ensures limits.top limits.nodes found.1

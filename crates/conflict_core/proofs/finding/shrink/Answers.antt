@@ -22,14 +22,18 @@ pub loop-shrunk-preserved : goal.loop-shrunk-preserved
 loop-shrunk-preserved g c =
     let p = c.args.problem.now in
     let limits = c.args.limits.now in
-    let turned : IsTurned p limits.top limits.nodes c.loop-shrunk.shrunk (On c.in-On.next) = subst (λ (t : Tried). IsTurned p limits.top limits.nodes c.loop-shrunk.shrunk t) c.in-On.is c.in_ok-next.ensures.turned in
+    let turned : IsTurned p limits.top limits.nodes c.loop-shrunk.shrunk (On c.in-On.next) =
+    subst (λ (t : Tried). IsTurned p limits.top limits.nodes c.loop-shrunk.shrunk t) c.in-On.is
+    c.in_ok-next.ensures.turned in
     record { shrunk = turned.0; advisors = left_then _ _ _ _ c.loop-shrunk.invariant.advisors c.leave_out.ensures.advisors }
 
 pub returns-in-Stuck-clause-found : goal.returns-in-Stuck-clause-found
 returns-in-Stuck-clause-found g c =
     let p = c.args.problem.now in
     let limits = c.args.limits.now in
-    let turned : IsTurned p limits.top limits.nodes c.loop-shrunk.shrunk (Stuck c.in-Stuck.set) = subst (λ (t : Tried). IsTurned p limits.top limits.nodes c.loop-shrunk.shrunk t) c.in-Stuck.is c.in_ok-next.ensures.turned in
+    let turned : IsTurned p limits.top limits.nodes c.loop-shrunk.shrunk (Stuck c.in-Stuck.set) =
+    subst (λ (t : Tried). IsTurned p limits.top limits.nodes c.loop-shrunk.shrunk t) c.in-Stuck.is
+    c.in_ok-next.ensures.turned in
     c.unknown.ensures limits.top limits.nodes turned.0
 
 pub returns-in-Stuck-clause-advisors : goal.returns-in-Stuck-clause-advisors

@@ -8,7 +8,8 @@ abbrev pub invariant-loop-shrunk : goal.invariant-loop-shrunk
 invariant-loop-shrunk g l = record {
   shrunk : IsShrunk l.problem l.limits.top l.limits.nodes l.shrunk;
   advisors : AreLeft
-      (IsCalled (λ b c. c.vtable ≡ b.vtable) (λ b. (goal.Advisor-dyn g (b.vtable, b.value)).state b.value) (λ b. (goal.Advisor-dyn g (b.vtable, b.value)).left) (λ b. (goal.Advisor-dyn g (b.vtable, b.value)).after))
+      (IsCalled (λ b c. c.vtable ≡ b.vtable) (λ b. (goal.Advisor-dyn g (b.vtable, b.value)).state b.value)
+      (λ b. (goal.Advisor-dyn g (b.vtable, b.value)).left) (λ b. (goal.Advisor-dyn g (b.vtable, b.value)).after))
       l.initial.advisors.items l.advisors.items;
 }
 

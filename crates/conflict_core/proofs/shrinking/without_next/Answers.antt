@@ -12,5 +12,7 @@ returns c =
     let shrunk = c.args.shrunk.now in
     let members = shrunk.conflict.members.items in
     let tried : c.len.result ≡ length shrunk.without.items = omega (arith, c.len.ensures, shrunk.without.ok.0) in
-    IfOk-weaker c.without_one.result (λ (rest : Vec ℕ Global). rest.items ≡ remove c.as_slice.result.now c.len.result) (λ (rest : Vec ℕ Global). rest.items ≡ remove members (length shrunk.without.items))
-    (λ rest is. others_are members rest.items c.as_slice.result.now c.len.result (length shrunk.without.items) c.as_slice.ensures.value tried is) c.without_one.ensures
+    IfOk-weaker c.without_one.result (λ (rest : Vec ℕ Global). rest.items ≡ remove c.as_slice.result.now c.len.result)
+    (λ (rest : Vec ℕ Global). rest.items ≡ remove members (length shrunk.without.items))
+    (λ rest is. others_are members rest.items c.as_slice.result.now c.len.result (length shrunk.without.items)
+    c.as_slice.ensures.value tried is) c.without_one.ensures

@@ -11,6 +11,9 @@ loop-request-preserved c =
     let below : c.loop-request.request-index < length c.as_slice-request-items.result.now = search rules in
     record {
       room = subst (λ (p : DesignProblem). IsRoomFor p.graph c.audited-path.new.room) c.problem.view_is c.audited-path.ensures.room;
-      found = audited_push c.args.problem.now.graph c.as_slice-request-items.result.now c.loop-request.request-index c.request-item.result c.loop-request.found.items c.push.new.self.items c.audited-path.result below c.request-item.is c.loop-request.invariant.found
-          (subst (λ (p : DesignProblem). IsAudited p.graph c.request-item.result c.audited-path.result) c.problem.view_is c.audited-path.ensures.found) c.in-Ok.ensures.items;
+      found = audited_push c.args.problem.now.graph c.as_slice-request-items.result.now c.loop-request.request-index
+          c.request-item.result c.loop-request.found.items c.push.new.self.items c.audited-path.result below
+          c.request-item.is c.loop-request.invariant.found
+          (subst (λ (p : DesignProblem). IsAudited p.graph c.request-item.result c.audited-path.result)
+          c.problem.view_is c.audited-path.ensures.found) c.in-Ok.ensures.items;
     }

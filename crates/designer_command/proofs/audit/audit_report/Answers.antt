@@ -6,4 +6,6 @@ use Rattle.designer_command.proofs.audit.audit_report.Goals as goal
 
 pub returns : goal.returns
 returns g c =
-    audit_found (g.S.Shelf.gave c.args.shelf.now c.read_problem.new.shelf) AtPresent (files_named c.args.words) c.in_ok-problem.problem c.in_ok-found.found.items c.deref.result.now c.in_ok-text.text.items c.made.result c.in_ok-problem.ensures.read c.in_ok-found.ensures c.deref.ensures.value c.in_ok-text.ensures c.made.ensures
+    audit_found (g.S.Shelf.gave c.args.shelf.now c.read_problem.new.shelf) AtPresent (files_named c.args.words)
+    c.in_ok-problem.problem c.in_ok-found.found.items c.deref.result.now c.in_ok-text.text.items c.made.result
+    c.in_ok-problem.ensures.read c.in_ok-found.ensures c.deref.ensures.value c.in_ok-text.ensures c.made.ensures

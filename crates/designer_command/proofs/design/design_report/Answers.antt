@@ -9,7 +9,9 @@ use Rattle.designer_command.proofs.design.design_report.Goals as goal
 
 pub returns-clause-read : goal.returns-clause-read
 returns-clause-read g c =
-    design_found (g.S.Shelf.gave c.args.shelf.now c.read_problem.new.shelf) (bounds c.args.limits.now) (files_named c.args.words) c.in_ok-problem.problem c.in_ok-answer.answer c.in_ok-report_of_answer.field-0 c.in_ok-problem.ensures.read c.in_ok-answer.ensures.answered c.in_ok-report_of_answer.ensures
+    design_found (g.S.Shelf.gave c.args.shelf.now c.read_problem.new.shelf) (bounds c.args.limits.now)
+    (files_named c.args.words) c.in_ok-problem.problem c.in_ok-answer.answer c.in_ok-report_of_answer.field-0
+    c.in_ok-problem.ensures.read c.in_ok-answer.ensures.answered c.in_ok-report_of_answer.ensures
 
 pub returns-in_err-report_of_answer-clause-read : goal.returns-in_err-report_of_answer-clause-read
 returns-in_err-report_of_answer-clause-read g c =

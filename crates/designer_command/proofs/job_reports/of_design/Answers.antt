@@ -5,4 +5,6 @@ use Rattle.designer_command.proofs.Runs.{reported}
 use Rattle.designer_command.proofs.job_reports.of_design.Goals as goal
 
 pub returns-clause-reported : goal.returns-clause-reported
-returns-clause-reported g c = reported (g.S.Shelf.gave c.args.shelf.now c.design_report.new.shelf) _ _ c.design_report.result c.report_of.result (own_design (bounds c.args.limits.now)) c.design_report.ensures.read c.report_of.ensures
+returns-clause-reported g c = reported (g.S.Shelf.gave c.args.shelf.now c.design_report.new.shelf) _ _
+    c.design_report.result c.report_of.result (own_design (bounds c.args.limits.now)) c.design_report.ensures.read
+    c.report_of.ensures

@@ -5,4 +5,5 @@ use Rattle.designer_command.proofs.Runs.{reported}
 use Rattle.designer_command.proofs.job_reports.of_spread.Goals as goal
 
 pub returns : goal.returns
-returns g c = reported (g.S.Shelf.gave c.args.shelf.now c.spread_report.new.shelf) _ _ c.spread_report.result c.report_of.result (own_spread (bounds c.args.limits.now)) c.spread_report.ensures c.report_of.ensures
+returns g c = reported (g.S.Shelf.gave c.args.shelf.now c.spread_report.new.shelf) _ _ c.spread_report.result
+    c.report_of.result (own_spread (bounds c.args.limits.now)) c.spread_report.ensures c.report_of.ensures

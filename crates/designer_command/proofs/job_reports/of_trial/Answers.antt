@@ -9,5 +9,7 @@ use Rattle.designer_command.proofs.job_reports.of_trial.Goals as goal
 
 pub returns-clause-tried : goal.returns-clause-tried
 returns-clause-tried g c =
-    IfOk-weaker c.trial_report.result (λ report. MayTrial c.args.blocks c.args.start report.status (bytes_in report.text)) (λ report. MayWrite (Some (Trial c.args.blocks c.args.start)) [] report.status (bytes_in report.text))
+    IfOk-weaker c.trial_report.result
+    (λ report. MayTrial c.args.blocks c.args.start report.status (bytes_in report.text))
+    (λ report. MayWrite (Some (Trial c.args.blocks c.args.start)) [] report.status (bytes_in report.text))
     (λ report h. (refl, h)) c.trial_report.ensures.tried

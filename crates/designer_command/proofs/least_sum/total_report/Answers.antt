@@ -9,7 +9,9 @@ use Rattle.designer_command.proofs.least_sum.total_report.Goals as goal
 
 pub returns-clause-read : goal.returns-clause-read
 returns-clause-read g c =
-    total_found (g.S.Shelf.gave c.args.shelf.now c.read_problem.new.shelf) (bounds c.args.limits.now) (files_named c.args.words) c.in_ok-problem.problem c.in_ok-answer.answer c.in_ok-report_of_total.field-0 c.in_ok-problem.ensures.read c.in_ok-answer.ensures.answered c.in_ok-report_of_total.ensures
+    total_found (g.S.Shelf.gave c.args.shelf.now c.read_problem.new.shelf) (bounds c.args.limits.now)
+    (files_named c.args.words) c.in_ok-problem.problem c.in_ok-answer.answer c.in_ok-report_of_total.field-0
+    c.in_ok-problem.ensures.read c.in_ok-answer.ensures.answered c.in_ok-report_of_total.ensures
 
 pub returns-in_err-report_of_total-clause-read : goal.returns-in_err-report_of_total-clause-read
 returns-in_err-report_of_total-clause-read g c =

@@ -5,4 +5,5 @@ use Rattle.designer_command.proofs.rivals.is_only.Goals as goal
 
 pub returns-clause-only : goal.returns-clause-only
 returns-clause-only c =
-    only_by_rival c.args.graph.now c.args.point.now (ends_of c.args.request.now) c.args.request.now.path.edges c.find_rival.new.room.path c.find_rival.result c.requires.whole c.requires.path c.find_rival.ensures.rival
+    only_by_rival c.args.graph.now c.args.point.now (ends_of c.args.request.now) c.args.request.now.path.edges
+    c.find_rival.new.room.path c.find_rival.result c.requires.whole c.requires.path c.find_rival.ensures.rival

@@ -27,10 +27,17 @@ returns-in-Ok g c =
         told = g.met.S.Shelf.gave_told a b did.came did.given;
         counted = g.met.S.Shelf.gave_counted a b did.came did.given;
         written =
-            subst (λ (job : Option JobRead). Writes (MayWrite job did.came) (g.K.Sink.handed o p) (g.K.Sink.got o) (g.K.Sink.got p) (g.K.Sink.faults o) (g.K.Sink.faults p) c.write_made.result) (sym c.in-Ok.ensures.job)
-            (made_meets (p ≡ o) (MayWrite (Some (seen c.in-Ok.job)) did.came) (g.K.Sink.handed o p) (g.K.Sink.got o) (g.K.Sink.got p) (g.K.Sink.faults o) (g.K.Sink.faults p) c.job_report.result c.write_made.result
+            subst (λ (job : Option JobRead). Writes (MayWrite job did.came) (g.K.Sink.handed o p) (g.K.Sink.got o)
+            (g.K.Sink.got p) (g.K.Sink.faults o) (g.K.Sink.faults p) c.write_made.result)
+            (sym c.in-Ok.ensures.job)
+            (made_meets (p ≡ o) (MayWrite (Some (seen c.in-Ok.job)) did.came) (g.K.Sink.handed o p) (g.K.Sink.got o)
+            (g.K.Sink.got p) (g.K.Sink.faults o) (g.K.Sink.faults p) c.job_report.result c.write_made.result
             (writes_none (Some (seen c.in-Ok.job)) did.came) (g.met.K.Sink.handed_got o p)
-            (λ same. record { written = subst (λ sink. g.K.Sink.handed o sink []) (sym same) (g.met.K.Sink.handed_none o); same = ap (λ sink. g.K.Sink.got sink) same })
+            (λ same. record {
+              written = subst (λ sink. g.K.Sink.handed o sink []) (sym same)
+                  (g.met.K.Sink.handed_none o);
+              same = ap (λ sink. g.K.Sink.got sink) same;
+            })
             did.so c.write_made.ensures);
       };
       held = g.met.S.Shelf.gave_held a b did.came did.given;
@@ -49,9 +56,13 @@ returns-in-Err-Refused-clause-meets g c =
       given = g.met.S.Shelf.gave_none a;
       told = tt;
       counted = g.met.S.Shelf.gave_counted a a [] (g.met.S.Shelf.gave_none a);
-      written = written_meets (MayWrite (job_of words) []) (g.K.Sink.handed o p) (g.K.Sink.got o) (g.K.Sink.got p) (g.K.Sink.faults o) (g.K.Sink.faults p) c.usage_report.result.status (bytes_in c.usage_report.result.text) c.write_report.result
+      written = written_meets (MayWrite (job_of words) []) (g.K.Sink.handed o p) (g.K.Sink.got o) (g.K.Sink.got p)
+          (g.K.Sink.faults o) (g.K.Sink.faults p) c.usage_report.result.status (bytes_in c.usage_report.result.text)
+          c.write_report.result
           (writes_none (job_of words) []) (g.met.K.Sink.handed_got o p)
-          (may_report (MayWrite (job_of words) []) status.WordsRefused usage c.usage_report.result c.usage_report.ensures (subst (λ (job : Option JobRead). MayWrite job [] status.WordsRefused usage) (sym none) (refl, refl)))
+          (may_report (MayWrite (job_of words) []) status.WordsRefused usage c.usage_report.result
+          c.usage_report.ensures (subst (λ (job : Option JobRead). MayWrite job [] status.WordsRefused usage)
+          (sym none) (refl, refl)))
           c.write_report.ensures;
     }
 

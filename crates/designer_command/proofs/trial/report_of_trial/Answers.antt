@@ -2,8 +2,7 @@
 use Rattle.std.proofs.Common.{◌≡◌, sym, ◌∙◌, ap}
 use Rattle.path_rows.specs.declared.answer.Verdict.{Verdict}
 use Rattle.path_rows.specs.declared.answer.Verdict.TheVariants.{Optimal, Impossible, Budget}
-use Rattle.path_rows.specs.Answers.{AnswerParts}
-use Rattle.designer_command.specs.Trials.{lines_in}
+use Rattle.path_rows.specs.Answers.{AnswerParts, lines_in}
 use Rattle.designer_command.proofs.Trials.{best_lines, best_tried, impossible_tried, undecided_tried}
 use Rattle.designer_command.proofs.trial.report_of_trial.Goals as goal
 
@@ -15,7 +14,8 @@ best_report-requires-clause-lines c =
 
 pub returns-in-Optimal : goal.returns-in-Optimal
 returns-in-Optimal c =
-    best_tried c.args.trial.blocks c.args.trial.start c.args.problem.now c.args.answer.now c.in-Optimal.greatest c.lines_of.result.now c.best_report.result c.requires.answered
+    best_tried c.args.trial.blocks c.args.trial.start c.args.problem.now c.args.answer.now c.in-Optimal.greatest
+    c.lines_of.result.now c.best_report.result c.requires.answered
     (sym (ap (λ (a : AnswerParts). a.verdict) c.answer.view_is) ∙ c.in-Optimal.is)
     (c.lines_of.ensures ∙ ap (λ (a : AnswerParts). lines_in a.costs) c.answer.view_is)
     c.best_report.ensures
@@ -27,5 +27,6 @@ returns-in-Impossible c =
 
 pub returns-in-Budget : goal.returns-in-Budget
 returns-in-Budget c =
-    undecided_tried c.args.trial.blocks c.args.trial.start c.args.problem.now c.args.answer.now c.in-Budget.field-0 c.costless_report-in-Budget.result c.requires.answered
+    undecided_tried c.args.trial.blocks c.args.trial.start c.args.problem.now c.args.answer.now c.in-Budget.field-0
+    c.costless_report-in-Budget.result c.requires.answered
     (sym (ap (λ (a : AnswerParts). a.verdict) c.answer.view_is) ∙ c.in-Budget.is) c.costless_report-in-Budget.ensures

@@ -8,7 +8,9 @@ use Rattle.designer_command.proofs.trial.report_on_texts.Goals as goal
 
 pub returns-clause-read : goal.returns-clause-read
 returns-clause-read g c =
-    tried_found (g.S.Shelf.gave c.args.shelf.now c.read_problem.new.shelf) c.args.trial.blocks c.args.trial.start (files_named c.args.words) c.in_ok-problem.problem c.in_ok-report_of_trial.field-0 c.in_ok-problem.ensures.read c.in_ok-report_of_trial.ensures
+    tried_found (g.S.Shelf.gave c.args.shelf.now c.read_problem.new.shelf) c.args.trial.blocks c.args.trial.start
+    (files_named c.args.words) c.in_ok-problem.problem c.in_ok-report_of_trial.field-0 c.in_ok-problem.ensures.read
+    c.in_ok-report_of_trial.ensures
 
 pub returns-in_err-report_of_trial-clause-read : goal.returns-in_err-report_of_trial-clause-read
 returns-in_err-report_of_trial-clause-read g c =

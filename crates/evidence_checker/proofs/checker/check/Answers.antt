@@ -31,7 +31,8 @@ returns-in_err-check_claim-clause-invalid c =
     let p = c.args.problem.now in
     let a = c.args.answer.now in
     let s = c.in_err-check_claim.field-0.0 in
-    err_tells c.from_residual-in_err-check_claim.result s (RefusesInvalid p a) c.from_residual-in_err-check_claim.ensures.1 (refuses p a s c.keeps.ensures (costs_stop c))
+    err_tells c.from_residual-in_err-check_claim.result s
+    (RefusesInvalid p a) c.from_residual-in_err-check_claim.ensures.1 (refuses p a s c.keeps.ensures (costs_stop c))
 
 -- the first test that is met is one of the rows or of the proof
 evidence_stop : (c : goal.After-from_residual-in_err-check_evidence) → StopsBy (tests c.args.problem.now c.args.answer.now) c.in_err-check_evidence.field-0.0
@@ -46,7 +47,9 @@ evidence_stop c =
     (subst (λ (costs : Option Costs). CostsHold p q.verdict costs q.floor) c.as_ref-costs.ensures.value c.in_ok-check_claim.ensures.holds))
     (subst (λ (a : AnswerParts). StopsBy (AtFirstItem (row_tests p) 0 a.rows ∷ proof_tests p a.rows a.proof) s) c.answer.view_is
     (subst (λ (rows : List Row). StopsBy (AtFirstItem (row_tests p) 0 rows ∷ proof_tests p rows q.proof) s) c.as_slice-rows.ensures
-    (subst (λ (proof : Option CapTree). StopsBy (AtFirstItem (row_tests p) 0 c.as_slice-rows.result.now ∷ proof_tests p c.as_slice-rows.result.now proof) s) c.as_ref.ensures.value c.in_err-check_evidence.ensures.first)))
+    (subst (λ (proof : Option CapTree).
+    StopsBy (AtFirstItem (row_tests p) 0 c.as_slice-rows.result.now ∷ proof_tests p c.as_slice-rows.result.now
+    proof) s) c.as_ref.ensures.value c.in_err-check_evidence.ensures.first)))
 
 pub returns-in_err-check_evidence-clause-first : goal.returns-in_err-check_evidence-clause-first
 returns-in_err-check_evidence-clause-first c =
@@ -60,7 +63,9 @@ returns-in_err-check_evidence-clause-invalid c =
     let p = c.args.problem.now in
     let a = c.args.answer.now in
     let s = c.in_err-check_evidence.field-0.0 in
-    err_tells c.from_residual-in_err-check_evidence.result s (RefusesInvalid p a) c.from_residual-in_err-check_evidence.ensures.1 (refuses p a s c.keeps.ensures (evidence_stop c))
+    err_tells c.from_residual-in_err-check_evidence.result s
+    (RefusesInvalid p a) c.from_residual-in_err-check_evidence.ensures.1
+    (refuses p a s c.keeps.ensures (evidence_stop c))
 
 pub returns-clause-valid : goal.returns-clause-valid
 returns-clause-valid c =

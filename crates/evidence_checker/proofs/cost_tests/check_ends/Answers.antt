@@ -15,12 +15,14 @@ first_unequal-requires-clause-counts c =
 pub first_unequal-requires-clause-known : goal.first_unequal-requires-clause-known
 first_unequal-requires-clause-known c =
     let p = c.args.problem.now in
-    known_names (length p.low) c.names_of.result.now p.vars c.args.costs.now c.names_of.ensures (given_count (length p.low) c.args.costs.now p.vars c.args.lines.now c.requires.given) c.keeps.ensures.named
+    known_names (length p.low) c.names_of.result.now p.vars c.args.costs.now c.names_of.ensures
+    (given_count (length p.low) c.args.costs.now p.vars c.args.lines.now c.requires.given) c.keeps.ensures.named
 
 pub first_unequal-requires-clause-given : goal.first_unequal-requires-clause-given
 first_unequal-requires-clause-given c =
     let p = c.args.problem.now in
-    given_moved (length p.low) c.names_of.result.now p.vars c.args.lines.now c.args.costs.now c.names_of.ensures (given_count (length p.low) c.args.costs.now p.vars c.args.lines.now c.requires.given) c.requires.given
+    given_moved (length p.low) c.names_of.result.now p.vars c.args.lines.now c.args.costs.now c.names_of.ensures
+    (given_count (length p.low) c.args.costs.now p.vars c.args.lines.now c.requires.given) c.requires.given
 
 pub returns-in-Some-clause-first : goal.returns-in-Some-clause-first
 returns-in-Some-clause-first c =
@@ -29,4 +31,5 @@ returns-in-Some-clause-first c =
 
 pub returns-in-None-clause-names : goal.returns-in-None-clause-names
 returns-in-None-clause-names c =
-    ends_equal c.args.problem.now c.names_of.result.now c.args.lines.now c.args.costs.now c.names_of.ensures c.keeps.ensures.named c.requires.named c.requires.given c.in-None.ensures
+    ends_equal c.args.problem.now c.names_of.result.now c.args.lines.now c.args.costs.now c.names_of.ensures
+    c.keeps.ensures.named c.requires.named c.requires.given c.in-None.ensures

@@ -18,12 +18,17 @@ loop-index-preserved c =
     elim c.if-is_off.branch [
       | then-is_off w ↦
           subst P (sym (w.least-is ∙ ap (λ (v : ℕ). Some v) w.lesser.ensures))
-          (off_more c.args.costs.now names lines k c.loop-index.least c.index-names-index.result c.index-lines-index.result c.loop-index-test.true line_in c.index-names-index.is c.index-lines-index.is (when_true _ _ c.is_off.result w.if-is_off.true c.is_off.ensures) c.loop-index.invariant)
+          (off_more c.args.costs.now names lines k c.loop-index.least c.index-names-index.result
+          c.index-lines-index.result c.loop-index-test.true line_in c.index-names-index.is c.index-lines-index.is
+          (when_true _ _ c.is_off.result w.if-is_off.true c.is_off.ensures) c.loop-index.invariant)
       | else-is_off w ↦
           subst P (sym w.least-is)
-          (off_same c.args.costs.now names lines k c.loop-index.least c.index-names-index.result c.index-lines-index.result c.loop-index-test.true line_in c.index-names-index.is c.index-lines-index.is (when_false _ _ c.is_off.result w.if-is_off.false c.is_off.ensures) c.loop-index.invariant)
+          (off_same c.args.costs.now names lines k c.loop-index.least c.index-names-index.result
+          c.index-lines-index.result c.loop-index-test.true line_in c.index-names-index.is c.index-lines-index.is
+          (when_false _ _ c.is_off.result w.if-is_off.false c.is_off.ensures) c.loop-index.invariant)
     ]
 
 pub returns : goal.returns
 returns c =
-    off_ends (length c.args.costs.now) c.args.costs.now c.args.names.now c.args.lines.now c.loop-index.index c.loop-index.least c.requires.known c.requires.given c.loop-index-test.false c.loop-index.invariant
+    off_ends (length c.args.costs.now) c.args.costs.now c.args.names.now c.args.lines.now c.loop-index.index
+    c.loop-index.least c.requires.known c.requires.given c.loop-index-test.false c.loop-index.invariant

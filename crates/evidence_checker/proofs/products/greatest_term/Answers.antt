@@ -6,10 +6,14 @@ use Rattle.evidence_checker.proofs.products.greatest_term.Goals as goal
 
 pub returns-else-coefficient-ge0-clause-value : goal.returns-else-coefficient-ge0-clause-value
 returns-else-coefficient-ge0-clause-value c =
-    negative_is c.args.coefficient c.from-else-coefficient-ge0.result c.args.low c.args.high (omega (arith, ints)) c.ranges.coefficient c.from-else-coefficient-ge0.ensures (omega (arith, c.ranges.low)) c.requires
+    negative_is c.args.coefficient c.from-else-coefficient-ge0.result c.args.low c.args.high
+    (omega (arith, ints)) c.ranges.coefficient c.from-else-coefficient-ge0.ensures
+    (omega (arith, c.ranges.low)) c.requires
 
 pub returns-else-coefficient-ge0-clause-size : goal.returns-else-coefficient-ge0-clause-size
 returns-else-coefficient-ge0-clause-size c =
     subst (λ (z : ℤ). nat_abs z ≤ nat_abs c.args.coefficient * 65535)
-    (sym (negative_is c.args.coefficient c.from-else-coefficient-ge0.result c.args.low c.args.high (omega (arith, ints)) c.ranges.coefficient c.from-else-coefficient-ge0.ensures (omega (arith, c.ranges.low)) c.requires))
+    (sym (negative_is c.args.coefficient c.from-else-coefficient-ge0.result c.args.low c.args.high
+    (omega (arith, ints)) c.ranges.coefficient c.from-else-coefficient-ge0.ensures (omega (arith, c.ranges.low))
+    c.requires))
     (upper_size c.args.coefficient c.args.low c.args.high (omega (arith, c.ranges.low)) (omega (arith, c.ranges.high)))

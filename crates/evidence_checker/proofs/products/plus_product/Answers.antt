@@ -13,11 +13,15 @@ overflow_mul-result c =
 pub overflow_add-result : goal.overflow_add-result
 overflow_add-result c =
     let product = product_is c.args.multiplier c.args.factor c.from.result c.requires.multiplier c.ranges.factor c.from.ensures in
-    subst (λ (z : ℤ). SFits w128 z) (sym (sum_is c.args.sum _ _ c.ranges.sum product (product_fits (nat_abs c.args.sum) c.args.multiplier c.args.factor c.requires.size)))
+    subst (λ (z : ℤ). SFits w128 z)
+    (sym (sum_is c.args.sum _ _ c.ranges.sum product
+    (product_fits (nat_abs c.args.sum) c.args.multiplier c.args.factor c.requires.size)))
     (sum_fits c.args.sum c.args.multiplier c.args.factor c.requires.size)
 
 pub returns : goal.returns
 returns c =
     let product = product_is c.args.multiplier c.args.factor c.from.result c.requires.multiplier c.ranges.factor c.from.ensures in
-    ap (λ (z : ℤ). to_z w128 (of_z w128 z)) (sum_is c.args.sum _ _ c.ranges.sum product (product_fits (nat_abs c.args.sum) c.args.multiplier c.args.factor c.requires.size))
+    ap (λ (z : ℤ). to_z w128 (of_z w128 z))
+    (sum_is c.args.sum _ _ c.ranges.sum product
+    (product_fits (nat_abs c.args.sum) c.args.multiplier c.args.factor c.requires.size))
     ∙ to_z-of_z w128 _ (sum_fits c.args.sum c.args.multiplier c.args.factor c.requires.size)

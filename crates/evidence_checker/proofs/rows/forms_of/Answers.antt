@@ -9,7 +9,8 @@ use Rattle.evidence_checker.proofs.rows.forms_of.Goals as goal
 
 pub returns-in-Some-clause-first : goal.returns-in-Some-clause-first
 returns-in-Some-clause-first c =
-    inl (first_is_here c.args.problem.now c.args.rows.now c.loop-index.index (number_of c.in-Some.fault) c.index-rows-index.result c.loop-index-test.true c.index-rows-index.is
+    inl (first_is_here c.args.problem.now c.args.rows.now c.loop-index.index (number_of c.in-Some.fault)
+    c.index-rows-index.result c.loop-index-test.true c.index-rows-index.is
     (at_some _ _ c.in_ok-fault.field-0 c.in-Some.fault c.in-Some.is c.in_ok-fault.ensures) c.loop-index.invariant.first)
 
 pub loop-index-preserved : goal.loop-index-preserved
@@ -22,7 +23,11 @@ loop-index-preserved c =
     let n = length p.low in
     record {
       rows = rows_more p rows k row c.loop-index-test.true c.index-rows-index.is is_row c.loop-index.invariant.rows;
-      forms = forms_more (form_of_row p) c.loop-index.forms.items c.push_form.new.forms.items c.in_ok-form.form rows k row c.in_ok-push_form.ensures c.in_ok-form.ensures.form c.loop-index-test.true c.index-rows-index.is c.loop-index.invariant.forms;
-      small = subst (λ (fs : List Form). All (IsSmallForm n) fs) (sym c.in_ok-push_form.ensures) (All-push (IsSmallForm n) c.loop-index.forms.items c.in_ok-form.form c.loop-index.invariant.small c.in_ok-form.ensures.small);
+      forms = forms_more (form_of_row p) c.loop-index.forms.items c.push_form.new.forms.items c.in_ok-form.form rows k
+          row c.in_ok-push_form.ensures c.in_ok-form.ensures.form c.loop-index-test.true c.index-rows-index.is
+          c.loop-index.invariant.forms;
+      small = subst (λ (fs : List Form). All (IsSmallForm n) fs) (sym c.in_ok-push_form.ensures)
+          (All-push (IsSmallForm n) c.loop-index.forms.items c.in_ok-form.form c.loop-index.invariant.small
+          c.in_ok-form.ensures.small);
       first = first_goes_on p rows k row c.loop-index-test.true c.index-rows-index.is is_row c.loop-index.invariant.first;
     }

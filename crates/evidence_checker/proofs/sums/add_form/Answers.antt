@@ -45,11 +45,13 @@ loop-term-preserved c =
     }
 
 nothing_left : (x y m z : ℤ) → z ≡ pos 0 → (x +ℤ (m *ℤ z)) ≡ y → x ≡ y
-nothing_left x y m z none whole = let e = ap (λ (w : ℤ). x +ℤ (m *ℤ w)) none in let zero : (m *ℤ pos 0) ≡ pos 0 = lib.IntN.*ℤ-zero m in omega (arith, ints, e, zero, whole)
+nothing_left x y m z none whole = let e = ap (λ (w : ℤ). x +ℤ (m *ℤ w)) none in let zero : (m *ℤ pos 0) ≡ pos 0 =
+    lib.IntN.*ℤ-zero m in omega (arith, ints, e, zero, whole)
 
 pub returns : goal.returns
 returns c i i_in =
     let ts = c.terms-terms.result.now in
     let past = at_drop_all (λ (us : List Term). sum_at us i) ts c.loop-term.term-index c.loop-term-test.false in
     nothing_left _ _ (pos c.args.multiplier) _ past (c.loop-term.invariant.each i (omega (arith, i_in, c.loop-term.auto.sums)))
-    ∙ ap (λ (z : ℤ). get_or c.args.sums.now i (pos 0) +ℤ (pos c.args.multiplier *ℤ z)) (sum_is_coefficient c.args.form.now.coefficients ts i c.terms-terms.ensures.terms)
+    ∙ ap (λ (z : ℤ). get_or c.args.sums.now i (pos 0) +ℤ (pos c.args.multiplier *ℤ z))
+    (sum_is_coefficient c.args.form.now.coefficients ts i c.terms-terms.ensures.terms)

@@ -9,7 +9,9 @@ invariant-loop-part l =
     let used = sum_by (λ part. part.1) (take l.part-index l.parts) in
     record {
       constant : (l.constant +ℤ (weighted forms (drop l.part-index l.parts)).constant) ≡ (weighted forms l.parts).constant;
-      each : (i : ℕ) → i < length l.initial.sums → (get_or l.sums i (pos 0) +ℤ get_or (weighted forms (drop l.part-index l.parts)).coefficients i (pos 0)) ≡ get_or (weighted forms l.parts).coefficients i (pos 0);
+      each : (i : ℕ) → i < length l.initial.sums →
+          (get_or l.sums i (pos 0) +ℤ get_or (weighted forms (drop l.part-index l.parts)).coefficients i (pos 0))
+          ≡ get_or (weighted forms l.parts).coefficients i (pos 0);
       constant_size : nat_abs l.constant ≤ used * 2 ^ 27;
       each_size : (i : ℕ) → i < length l.initial.sums → nat_abs (get_or l.sums i (pos 0)) ≤ used * 2 ^ 27;
     }

@@ -28,6 +28,7 @@ returns c =
     (to_z-of_z w128 c.greatest_sum.result result_fits ∙ c.greatest_sum.ensures
     ∙ made_greatest n forms c.args.parts.now _ c.add_parts-constant.new.sums c.as_slice.result.now c.as_slice-2.result.now
     (λ k d k_in. subst (λ (m : ℕ). IsSmallForm m (get_or forms k d)) (sym c.fill.ensures.len) (c.requires.forms k d k_in))
-    c.add_parts-constant.auto.sums (to_z-of_z w128 c.add_parts-constant.result fits ∙ c.add_parts-constant.ensures.constant) c.add_parts-constant.ensures.coefficients
+    c.add_parts-constant.auto.sums (to_z-of_z w128 c.add_parts-constant.result fits
+    ∙ c.add_parts-constant.ensures.constant) c.add_parts-constant.ensures.coefficients
     ∙ ap (λ (ls : List ℕ). whole.constant +ℤ upper_sum whole.coefficients ls c.as_slice-2.result.now) c.as_slice.ensures
     ∙ ap (λ (hs : List ℕ). whole.constant +ℤ upper_sum whole.coefficients c.args.costs.now.low hs) c.as_slice-2.ensures)

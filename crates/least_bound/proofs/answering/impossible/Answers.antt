@@ -1,9 +1,23 @@
 -- No costs are fit: the tree at the greatest upper bound is printed.
-use Rattle.std.proofs.Common.{arith}
-use Rattle.std.specs.Prelude.{Some, None}
+use Rattle.std.proofs.Common.{◌≡◌, ℕ, List, arith}
+use Rattle.std.specs.Prelude.{Option, Some, None}
+use Rattle.area_graph.specs.Area.{FitsGraph}
 use Rattle.path_rows.specs.declared.answer.CapTree.{CapTree}
-use Rattle.least_bound.proofs.ValidAnswers.{impossible_answered, impossible_kept, is_sheet, names_rows, proof_printed_by, sheet_of, unfinished_printed_by}
+use Rattle.path_rows.specs.declared.form.Row.{Row}
+use Rattle.path_rows.specs.Problems.{DesignProblem, IsProblem}
+use Rattle.printed_rows.specs.NewNumbers.{ArePrinted}
+use Rattle.cost_branching.specs.Pools.{Pooled, IsPool}
+use Rattle.least_bound.specs.Caps.{IsRefuted}
+use Rattle.least_bound.proofs.ValidAnswers.{AreOnSheet, impossible_answered, impossible_kept, names_rows, on_sheet, sheet_of}
 use Rattle.least_bound.proofs.answering.impossible.Goals as goal
+
+-- the sheet of a closed tree
+refuted_sheet : (p : DesignProblem) (top nodes : ℕ) (pool : Pooled) (old : List Row) (t : CapTree) (rows : List Row)
+    (new_proof new_unfinished : Option CapTree) → IsProblem p → FitsGraph p.graph → IsPool p pool → old ≡ pool.rows →
+    IsRefuted p top nodes pool t → ArePrinted old (Some t) None rows new_proof new_unfinished →
+    AreOnSheet p pool (Some t) None rows new_proof new_unfinished
+refuted_sheet p top nodes pool old t rows new_proof new_unfinished problem graph is_pool same refuted =
+    on_sheet p pool old (Some t) None rows new_proof new_unfinished problem graph is_pool same (names_rows p top t.cap pool old t.tree same refuted.tree) tt
 
 pub printed_both-requires-clause-proof : goal.printed_both-requires-clause-proof
 printed_both-requires-clause-proof c =
@@ -13,27 +27,23 @@ printed_both-requires-clause-proof c =
 pub invariant_of-result : goal.invariant_of-result
 invariant_of-result c =
     let p = c.args.problem.now in
-    let pool = c.args.pool in
     let t : CapTree = record { cap = c.args.ceiling; tree = c.args.tree } in
-    let rows = c.into_rows.result.items in
-    let are = c.in_ok-printed.ensures in
     let printed = c.in_ok-printed.printed in
-    let names = names_rows p c.requires.refuted.0 c.args.ceiling pool rows c.args.tree c.into_rows.ensures c.requires.refuted.3.tree in
-    impossible_kept p c.requires.refuted.0 c.requires.refuted.1 pool (sheet_of (Some t) None printed.rows) t printed.proof printed.unfinished
-    (is_sheet p pool rows (Some t) None printed.rows printed.proof printed.unfinished c.keeps_problem.ensures.problem c.keeps_problem.ensures.graph c.requires.pool c.into_rows.ensures are)
-    (proof_printed_by p pool rows (Some t) None printed.rows printed.proof printed.unfinished c.into_rows.ensures names are)
-    (unfinished_printed_by p pool rows (Some t) None printed.rows printed.proof printed.unfinished c.into_rows.ensures tt are) c.requires.ceiling (omega arith) c.requires.refuted.2 c.requires.refuted.3
+    let refuted = c.requires.refuted.3 in
+    let are = refuted_sheet p c.requires.refuted.0 c.requires.refuted.1 c.args.pool c.into_rows.result.items t
+    printed.rows printed.proof printed.unfinished c.keeps_conditions.ensures.problem
+    c.keeps_conditions.ensures.graph c.requires.pool c.into_rows.ensures refuted c.in_ok-printed.ensures in
+    impossible_kept p c.requires.refuted.0 c.requires.refuted.1 c.args.pool (sheet_of (Some t) None printed.rows) t
+    printed.proof printed.unfinished are.sheet are.proof_is are.unfinished_is c.requires.ceiling
+    (omega arith) c.requires.refuted.2 refuted
 
 pub returns : goal.returns
 returns c = λ top nodes refuted.
     let p = c.args.problem.now in
-    let pool = c.args.pool in
     let t : CapTree = record { cap = c.args.ceiling; tree = c.args.tree } in
-    let rows = c.into_rows.result.items in
-    let are = c.in_ok-printed.ensures in
     let printed = c.in_ok-printed.printed in
-    let names = names_rows p c.requires.refuted.0 c.args.ceiling pool rows c.args.tree c.into_rows.ensures c.requires.refuted.3.tree in
-    impossible_answered p top nodes pool (sheet_of (Some t) None printed.rows) t printed.proof printed.unfinished
-    (is_sheet p pool rows (Some t) None printed.rows printed.proof printed.unfinished c.keeps_problem.ensures.problem c.keeps_problem.ensures.graph c.requires.pool c.into_rows.ensures are)
-    (proof_printed_by p pool rows (Some t) None printed.rows printed.proof printed.unfinished c.into_rows.ensures names are)
-    (unfinished_printed_by p pool rows (Some t) None printed.rows printed.proof printed.unfinished c.into_rows.ensures tt are) c.requires.ceiling refuted
+    let are = refuted_sheet p top nodes c.args.pool c.into_rows.result.items t printed.rows printed.proof
+    printed.unfinished c.keeps_conditions.ensures.problem c.keeps_conditions.ensures.graph c.requires.pool
+    c.into_rows.ensures refuted c.in_ok-printed.ensures in
+    impossible_answered p top nodes c.args.pool (sheet_of (Some t) None printed.rows) t printed.proof printed.unfinished
+    are.sheet are.proof_is are.unfinished_is c.requires.ceiling refuted

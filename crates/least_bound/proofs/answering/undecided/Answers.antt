@@ -1,42 +1,60 @@
 -- The budget was used up: the kept tree and the unfinished one are printed.
-use Rattle.std.proofs.Common.{rules, ◌≡◌, ◌≤◌, length, subst, sym, arith}
+use Rattle.std.proofs.Common.{rules, ◌≡◌, ◌≤◌, ℕ, List, length, subst, sym, arith}
 use Rattle.std.specs.Option.{option_copied}
 use Rattle.std.specs.Prelude.{Option, Some}
+use Rattle.area_graph.specs.Area.{FitsGraph}
 use Rattle.path_rows.specs.declared.answer.CapTree.{CapTree}
+use Rattle.path_rows.specs.declared.form.Row.{Row}
+use Rattle.path_rows.specs.Problems.{DesignProblem, IsProblem}
 use Rattle.printed_rows.specs.NamedRows.{TreeNamesBelow}
 use Rattle.printed_rows.specs.NewNumbers.{ArePrinted}
-use Rattle.least_bound.proofs.ValidAnswers.{undecided_answered, undecided_kept, is_sheet, kept_names, names_rows, proof_printed_by, sheet_of, unfinished_printed_by}
+use Rattle.cost_branching.specs.Pools.{Pooled, IsPool}
+use Rattle.least_bound.specs.Caps.{IsKeptBelow, IsSpent}
+use Rattle.least_bound.proofs.ValidAnswers.{AreOnSheet, undecided_answered, undecided_kept, kept_names, kept_on_sheet, names_rows, sheet_of}
 use Rattle.least_bound.proofs.answering.undecided.Goals as goal
+
+-- the sheet of a kept tree and of an unfinished one
+spent_sheet : (p : DesignProblem) (top nodes : ℕ) (pool : Pooled) (old : List Row) (kept lent : Option CapTree)
+    (t : CapTree) (rows : List Row) (new_proof new_unfinished : Option CapTree) → IsProblem p → FitsGraph p.graph →
+    IsPool p pool → old ≡ pool.rows → lent ≡ kept → IsKeptBelow p top nodes pool t.cap kept →
+    IsSpent p top nodes pool t →
+    ArePrinted old lent (Some t) rows new_proof new_unfinished → AreOnSheet p pool kept (Some t) rows new_proof new_unfinished
+spent_sheet p top nodes pool old kept lent t rows new_proof new_unfinished problem graph is_pool same lent_is below spent =
+    kept_on_sheet p top nodes t.cap pool old kept lent (Some t) rows new_proof new_unfinished problem graph is_pool same
+    lent_is below (names_rows p top t.cap pool old t.tree same spent.tree)
 
 pub printed_both-requires-clause-proof : goal.printed_both-requires-clause-proof
 printed_both-requires-clause-proof c =
     let kept_is : option_copied c.as_ref.result ≡ c.args.kept = search rules in
     subst (λ (kept : Option CapTree). TreeNamesBelow (length c.into_rows.result.items) kept) (sym kept_is)
-    (kept_names c.args.problem.now c.requires.trees.0 c.requires.trees.1 c.args.pool c.into_rows.result.items c.args.unfinished.cap c.args.kept c.into_rows.ensures c.requires.trees.3)
+    (kept_names c.args.problem.now c.requires.trees.0 c.requires.trees.1 c.args.pool c.into_rows.result.items
+    c.args.unfinished.cap c.args.kept c.into_rows.ensures c.requires.trees.3)
 
 pub printed_both-requires-clause-unfinished : goal.printed_both-requires-clause-unfinished
 printed_both-requires-clause-unfinished c =
     let spent = c.requires.trees.4 in
-    names_rows c.args.problem.now c.requires.trees.0 c.args.unfinished.cap c.args.pool c.into_rows.result.items c.args.unfinished.tree c.into_rows.ensures spent.tree
+    names_rows c.args.problem.now c.requires.trees.0 c.args.unfinished.cap c.args.pool c.into_rows.result.items
+    c.args.unfinished.tree c.into_rows.ensures spent.tree
 
 pub invariant_of-result : goal.invariant_of-result
 invariant_of-result c =
     let p = c.args.problem.now in
+    let top = c.requires.trees.0 in
+    let nodes = c.requires.trees.1 in
     let pool = c.args.pool in
     let t = c.args.unfinished in
     let kept = c.args.kept in
-    let rows = c.into_rows.result.items in
     let printed = c.in_ok-printed.printed in
-    let kept_is : option_copied c.as_ref.result ≡ c.args.kept = search rules in
-    let are = subst (λ (kept : Option CapTree). ArePrinted rows kept (Some t) printed.rows printed.proof printed.unfinished) kept_is c.in_ok-printed.ensures in
+    let lent : option_copied c.as_ref.result ≡ kept = search rules in
     let small : t.cap ≤ 65535 = omega (arith, c.cap_of-cap.ensures) in
-    let kept_known = kept_names p c.requires.trees.0 c.requires.trees.1 pool rows t.cap kept c.into_rows.ensures c.requires.trees.3 in
-    let known = names_rows p c.requires.trees.0 t.cap pool rows t.tree c.into_rows.ensures c.requires.trees.4.tree in
+    let are = spent_sheet p top nodes pool c.into_rows.result.items kept (option_copied c.as_ref.result) t printed.rows
+    printed.proof printed.unfinished c.keeps_conditions.ensures.problem c.keeps_conditions.ensures.graph
+    c.requires.pool c.into_rows.ensures lent c.requires.trees.3 c.requires.trees.4 c.in_ok-printed.ensures in
     let holds =
-    undecided_kept p c.requires.trees.0 c.requires.trees.1 pool (sheet_of kept (Some t) printed.rows) (option_copied c.args.costs) c.in_ok-printed_if_any.field-0 kept printed.proof t printed.unfinished
-    (is_sheet p pool rows kept (Some t) printed.rows printed.proof printed.unfinished c.keeps_problem.ensures.problem c.keeps_problem.ensures.graph c.requires.pool c.into_rows.ensures are)
-    (proof_printed_by p pool rows kept (Some t) printed.rows printed.proof printed.unfinished c.into_rows.ensures kept_known are)
-    (unfinished_printed_by p pool rows kept (Some t) printed.rows printed.proof printed.unfinished c.into_rows.ensures known are) c.requires.from_floor small c.requires.trees.2 c.in_ok-printed_if_any.ensures c.requires.trees.3 c.requires.trees.4 in
+    undecided_kept p top nodes pool (sheet_of kept (Some t) printed.rows) (option_copied c.args.costs)
+    c.in_ok-printed_if_any.field-0 kept printed.proof t printed.unfinished are.sheet are.proof_is are.unfinished_is
+    c.requires.from_floor small c.requires.trees.2 c.in_ok-printed_if_any.ensures c.requires.trees.3
+    c.requires.trees.4 in
     rw c.cap_of-cap.ensures holds
 
 pub returns : goal.returns
@@ -45,15 +63,13 @@ returns c = λ top nodes below spent.
     let pool = c.args.pool in
     let t = c.args.unfinished in
     let kept = c.args.kept in
-    let rows = c.into_rows.result.items in
     let printed = c.in_ok-printed.printed in
-    let kept_is : option_copied c.as_ref.result ≡ c.args.kept = search rules in
-    let are = subst (λ (kept : Option CapTree). ArePrinted rows kept (Some t) printed.rows printed.proof printed.unfinished) kept_is c.in_ok-printed.ensures in
-    let kept_known = kept_names p c.requires.trees.0 c.requires.trees.1 pool rows t.cap kept c.into_rows.ensures c.requires.trees.3 in
-    let known = names_rows p c.requires.trees.0 t.cap pool rows t.tree c.into_rows.ensures c.requires.trees.4.tree in
+    let lent : option_copied c.as_ref.result ≡ kept = search rules in
+    let are = spent_sheet p top nodes pool c.into_rows.result.items kept (option_copied c.as_ref.result) t printed.rows
+    printed.proof printed.unfinished c.keeps_conditions.ensures.problem c.keeps_conditions.ensures.graph
+    c.requires.pool c.into_rows.ensures lent below spent c.in_ok-printed.ensures in
     let holds =
-    undecided_answered p top nodes pool (sheet_of kept (Some t) printed.rows) (option_copied c.args.costs) c.in_ok-printed_if_any.field-0 kept printed.proof t printed.unfinished
-    (is_sheet p pool rows kept (Some t) printed.rows printed.proof printed.unfinished c.keeps_problem.ensures.problem c.keeps_problem.ensures.graph c.requires.pool c.into_rows.ensures are)
-    (proof_printed_by p pool rows kept (Some t) printed.rows printed.proof printed.unfinished c.into_rows.ensures kept_known are)
-    (unfinished_printed_by p pool rows kept (Some t) printed.rows printed.proof printed.unfinished c.into_rows.ensures known are) c.requires.from_floor c.requires.costs c.in_ok-printed_if_any.ensures below spent in
+    undecided_answered p top nodes pool (sheet_of kept (Some t) printed.rows) (option_copied c.args.costs)
+    c.in_ok-printed_if_any.field-0 kept printed.proof t printed.unfinished are.sheet are.proof_is are.unfinished_is
+    c.requires.from_floor c.requires.costs c.in_ok-printed_if_any.ensures below spent in
     rw c.cap_of-cap.ensures holds

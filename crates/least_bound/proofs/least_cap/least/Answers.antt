@@ -14,8 +14,9 @@ use Rattle.least_bound.proofs.least_cap.least.Goals as goal
 pub decide-requires-clause-cap : goal.decide-requires-clause-cap
 decide-requires-clause-cap g c =
     let p = c.args.problem.now in
-    let ceiling_is : c.greatest_of-ceiling.result ≡ greatest_bound p = c.greatest_of-ceiling.ensures ∙ ap greatest_cost (c.as_slice.ensures ∙ ap (λ (q : DesignProblem). q.high) c.problem.view_is) in
-    let above : greatest_cost p.low ≤ c.greatest_of-ceiling.result = omega (arith, ceiling_is, floor_below_ceiling p c.keeps_problem.ensures.problem) in
+    let ceiling_is : c.greatest_of-ceiling.result ≡ greatest_bound p = c.greatest_of-ceiling.ensures
+    ∙ ap greatest_cost (c.as_slice.ensures ∙ ap (λ (q : DesignProblem). q.high) c.problem.view_is) in
+    let above : greatest_cost p.low ≤ c.greatest_of-ceiling.result = omega (arith, ceiling_is, floor_below_ceiling p c.keeps_conditions.ensures.problem) in
     no_low_above p.low c.greatest_of-ceiling.result above
 
 pub impossible-requires-clause-refuted : goal.impossible-requires-clause-refuted
@@ -47,14 +48,16 @@ narrowed-requires-clause-progress g c =
 pub start-progress-requires-in-Spent : goal.start-progress-requires-in-Spent
 start-progress-requires-in-Spent g c =
     let p = c.args.problem.now in
-    let ceiling_is : c.greatest_of-ceiling.result ≡ greatest_bound p = c.greatest_of-ceiling.ensures ∙ ap greatest_cost (c.as_slice.ensures ∙ ap (λ (q : DesignProblem). q.high) c.problem.view_is) in
-    subst (λ (k : ℕ). greatest_cost p.low ≤ k) (sym ceiling_is) (floor_below_ceiling p c.keeps_problem.ensures.problem)
+    let ceiling_is : c.greatest_of-ceiling.result ≡ greatest_bound p = c.greatest_of-ceiling.ensures
+    ∙ ap greatest_cost (c.as_slice.ensures ∙ ap (λ (q : DesignProblem). q.high) c.problem.view_is) in
+    subst (λ (k : ℕ). greatest_cost p.low ≤ k) (sym ceiling_is) (floor_below_ceiling p c.keeps_conditions.ensures.problem)
 
 pub narrowed-requires-in-Spent-clause-progress : goal.narrowed-requires-in-Spent-clause-progress
 narrowed-requires-in-Spent-clause-progress g c =
     let p = c.args.problem.now in
     let limits = c.args.limits.now in
-    let ceiling_is : c.greatest_of-ceiling.result ≡ greatest_bound p = c.greatest_of-ceiling.ensures ∙ ap greatest_cost (c.as_slice.ensures ∙ ap (λ (q : DesignProblem). q.high) c.problem.view_is) in
+    let ceiling_is : c.greatest_of-ceiling.result ≡ greatest_bound p = c.greatest_of-ceiling.ensures
+    ∙ ap greatest_cost (c.as_slice.ensures ∙ ap (λ (q : DesignProblem). q.high) c.problem.view_is) in
     let found : IsDecided p limits.top limits.nodes c.greatest_of-ceiling.result c.decide.new.pool (Spent c.in-Spent.tree) =
     subst (λ (f : Found). IsDecided p limits.top limits.nodes c.greatest_of-ceiling.result c.decide.new.pool f) c.in-Spent.is c.in_ok-tree.ensures.decided in
     let same : c.greatest_of-ceiling.result ≤ c.greatest_of-ceiling.result = omega arith in

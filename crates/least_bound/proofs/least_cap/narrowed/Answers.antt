@@ -19,14 +19,17 @@ returns-in_err-found-clause-advisors g c = left_then _ _ _ _ c.loop-cap.invarian
 
 pub loop-cap-smaller : goal.loop-cap-smaller
 loop-cap-smaller g c =
-    let nearer = c.after-progress.ensures.nearer c.args.problem.now c.args.limits.now.top c.args.limits.now.nodes c.decide.new.pool c.in_ok-found.ensures.decided in
+    let nearer = c.after-progress.ensures.nearer c.args.problem.now c.args.limits.now.top c.args.limits.now.nodes
+    c.decide.new.pool c.in_ok-found.ensures.decided in
     omega (arith, nearer, c.in-Some.ensures.within)
 
 pub loop-cap-preserved : goal.loop-cap-preserved
 loop-cap-preserved g c = record {
   pool = c.decide.ensures.pool;
   progress =
-      c.after-progress.ensures.holds c.args.problem.now c.args.limits.now.top c.args.limits.now.nodes c.loop-cap.pool c.decide.new.pool c.keeps_problem.ensures.problem c.decide.ensures.pool c.decide.ensures.more c.loop-cap.invariant.progress
+      c.after-progress.ensures.holds c.args.problem.now c.args.limits.now.top c.args.limits.now.nodes c.loop-cap.pool
+      c.decide.new.pool c.keeps_conditions.ensures.problem c.decide.ensures.pool c.decide.ensures.more
+      c.loop-cap.invariant.progress
       c.in_ok-found.ensures.decided;
   advisors = left_then _ _ _ _ c.loop-cap.invariant.advisors c.decide.ensures.advisors;
 }

@@ -10,7 +10,8 @@ invariant-loop-cap g l = record {
   pool : IsPool l.problem l.pool;
   progress : IsProgress l.problem l.limits.top l.limits.nodes l.pool l.progress;
   advisors : AreLeft
-      (IsCalled (λ b c. c.vtable ≡ b.vtable) (λ b. (goal.Advisor-dyn g (b.vtable, b.value)).state b.value) (λ b. (goal.Advisor-dyn g (b.vtable, b.value)).left) (λ b. (goal.Advisor-dyn g (b.vtable, b.value)).after))
+      (IsCalled (λ b c. c.vtable ≡ b.vtable) (λ b. (goal.Advisor-dyn g (b.vtable, b.value)).state b.value)
+      (λ b. (goal.Advisor-dyn g (b.vtable, b.value)).left) (λ b. (goal.Advisor-dyn g (b.vtable, b.value)).after))
       l.initial.advisors.items l.advisors.items;
 }
 

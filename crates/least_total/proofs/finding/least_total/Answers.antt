@@ -1,7 +1,6 @@
 -- The rounds begin with the answer's costs, and end with costs of the least total, or with a tree that used the budget up.
-use Rattle.std.proofs.Common.{rules, ◌≡◌, ◌≤◌, ℕ, sym, ◌∙◌, ap, subst, arith}
+use Rattle.std.proofs.Common.{rules, ◌≤◌, ℕ, sym, ◌∙◌, ap, subst, arith}
 use Rattle.std.specs.Prelude.{All, Option}
-use Rattle.path_rows.specs.declared.answer.Verdict.TheVariants.{Optimal}
 use Rattle.path_rows.specs.Rows.{greatest_cost}
 use Rattle.path_rows.specs.Answers.{AnswerParts}
 use Rattle.least_total.specs.declared.finding.Total.TheVariants.{Least, Unknown}
@@ -9,7 +8,7 @@ use Rattle.least_total.specs.declared.rounds.TotalTree.{TotalTree}
 use Rattle.least_total.specs.Rounds.{EndsAt}
 use Rattle.least_total.specs.Results.{IsAnswered}
 use Rattle.least_total.proofs.RoundLaws.{lows_below}
-use Rattle.least_total.proofs.FindingLaws.{can_print, least_answered, unknown_answered}
+use Rattle.least_total.proofs.FindingLaws.{begins, least_answered, unknown_answered}
 use Rattle.least_total.proofs.finding.least_total.Goals as goal
 
 pub run_rounds-requires-clause-cap : goal.run_rounds-requires-clause-cap
@@ -30,30 +29,35 @@ returns-in_ok-proof_of-in-None c =
     let p = c.args.problem.now in
     let limits = c.args.limits.now in
     let cap = c.greatest_of-cap.result in
-    let given = c.in_ok-costs.ensures in
-    let cap_is = c.greatest_of-cap.ensures ∙ ap greatest_cost c.as_slice.ensures in
     let small : cap ≤ 65535 = search rules in
-    let can = can_print p c.in_ok-costs.costs limits.nodes cap c.keeps_conditions.ensures given.best cap_is small limits.budget_end in
+    let begun = begins p c.in_ok-costs.costs c.as_slice.result.now limits.nodes cap c.args.answer
+    c.keeps_conditions.ensures c.in_ok-costs.ensures.best c.in_ok-costs.ensures.verdict c.as_slice.ensures
+    c.greatest_of-cap.ensures small limits.budget_end in
     let s = c.in_ok-standing.field-0.standing in
-    let narrowed = c.in_ok-standing.ensures in
-    let ended = subst (λ (o : Option (ℕ × TotalTree)). EndsAt p limits.top limits.nodes cap s o) c.in-None.is narrowed.ends in
-    subst (λ (a : AnswerParts). IsAnswered p limits.top limits.nodes c.args.answer (Least a c.from-total.result c.in_ok-proof_of-in-None.field-0)) (sym c.answer-in-None.view_is)
-    (least_answered p limits.top limits.nodes cap c.args.answer c.in_ok-answer.answer s c.from-total.result c.in_ok-proof_of-in-None.field-0 c.keeps_conditions.ensures.problem (given.verdict ∙ ap Optimal (sym cap_is))
-    narrowed.standing ended c.in_ok-answer.ensures c.from-total.ensures (c.in_ok-proof_of-in-None.ensures p limits.top limits.nodes cap s.least can narrowed.standing.kept))
+    let ended = subst (λ (o : Option (ℕ × TotalTree)). EndsAt p limits.top limits.nodes cap s o) c.in-None.is c.in_ok-standing.ensures.ends in
+    subst (λ (a : AnswerParts). IsAnswered p limits.top limits.nodes c.args.answer
+    (Least a c.from-total.result c.in_ok-proof_of-in-None.field-0)) (sym c.answer-in-None.view_is)
+    (least_answered p limits.top limits.nodes cap c.args.answer c.in_ok-answer.answer s c.from-total.result
+    c.in_ok-proof_of-in-None.field-0 c.keeps_conditions.ensures.problem begun.tells
+    c.in_ok-standing.ensures.standing ended c.in_ok-answer.ensures c.from-total.ensures
+    (c.in_ok-proof_of-in-None.ensures p limits.top limits.nodes cap s.least begun.can
+    c.in_ok-standing.ensures.standing.kept))
 
 pub returns-in_ok-rows-in-Some : goal.returns-in_ok-rows-in-Some
 returns-in_ok-rows-in-Some c =
     let p = c.args.problem.now in
     let limits = c.args.limits.now in
     let cap = c.greatest_of-cap.result in
-    let given = c.in_ok-costs.ensures in
-    let cap_is = c.greatest_of-cap.ensures ∙ ap greatest_cost c.as_slice.ensures in
     let small : cap ≤ 65535 = search rules in
-    let can = can_print p c.in_ok-costs.costs limits.nodes cap c.keeps_conditions.ensures given.best cap_is small limits.budget_end in
+    let begun = begins p c.in_ok-costs.costs c.as_slice.result.now limits.nodes cap c.args.answer
+    c.keeps_conditions.ensures c.in_ok-costs.ensures.best c.in_ok-costs.ensures.verdict c.as_slice.ensures
+    c.greatest_of-cap.ensures small limits.budget_end in
     let s = c.in_ok-standing.field-0.standing in
-    let narrowed = c.in_ok-standing.ensures in
-    let ended = subst (λ (o : Option (ℕ × TotalTree)). EndsAt p limits.top limits.nodes cap s o) c.in-Some.is narrowed.ends in
+    let ended = subst (λ (o : Option (ℕ × TotalTree)). EndsAt p limits.top limits.nodes cap s o) c.in-Some.is c.in_ok-standing.ensures.ends in
     let printed = c.in_ok-rows-in-Some.field-0 in
-    subst (λ (n : ℕ). IsAnswered p limits.top limits.nodes c.args.answer (Unknown c.in_ok-answer.answer c.from-total.result n printed.rows printed.tree)) (sym c.from.ensures)
-    (unknown_answered p limits.top limits.nodes cap c.args.answer c.in_ok-answer.answer s c.from-total.result c.in-Some.most c.in-Some.tree printed can (given.verdict ∙ ap Optimal (sym cap_is)) narrowed.standing ended.0 ended.1 ended.2
+    subst (λ (n : ℕ). IsAnswered p limits.top limits.nodes c.args.answer
+    (Unknown c.in_ok-answer.answer c.from-total.result n printed.rows printed.tree)) (sym c.from.ensures)
+    (unknown_answered p limits.top limits.nodes cap c.args.answer c.in_ok-answer.answer s c.from-total.result
+    c.in-Some.most c.in-Some.tree printed begun.can begun.tells c.in_ok-standing.ensures.standing ended.0
+    ended.1 ended.2
     c.in_ok-answer.ensures c.from-total.ensures c.in_ok-rows-in-Some.ensures)

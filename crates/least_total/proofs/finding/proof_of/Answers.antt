@@ -8,4 +8,6 @@ use Rattle.least_total.proofs.finding.proof_of.Goals as goal
 
 pub returns-in_ok-rows-in-Some : goal.returns-in_ok-rows-in-Some
 returns-in_ok-rows-in-Some c = λ p top nodes cap least can kept.
-    kept_shows p top nodes cap least c.in-Some.tree c.in_ok-rows-in-Some.field-0 can (subst (λ (k : Option TotalTree). IsKeptBelow p top nodes cap least k) c.in-Some.is kept) c.in_ok-rows-in-Some.ensures
+    kept_shows p top nodes cap least c.in-Some.tree c.in_ok-rows-in-Some.field-0 can
+    (subst (λ (k : Option TotalTree). IsKeptBelow p top nodes cap least k) c.in-Some.is kept)
+    c.in_ok-rows-in-Some.ensures

@@ -4,7 +4,8 @@ use Rattle.std.specs.Prelude.{All, Some}
 use Rattle.path_rows.specs.Answers.{AnswerParts, IsValid}
 use Rattle.printed_rows.specs.PrintedCosts.{ArePrintedCosts}
 use Rattle.least_total.specs.Results.{IsRecosted}
-use Rattle.least_total.proofs.NewCosts.{costs_positive, recosted_is, recosted_kept}
+use Rattle.printed_rows.proofs.CostLaws.{fit_positive}
+use Rattle.least_total.proofs.NewCosts.{recosted_is, recosted_kept}
 use Rattle.least_total.proofs.recosting.recosted.Goals as goal
 
 pub printed_costs-requires-clause-counted : goal.printed_costs-requires-clause-counted
@@ -12,21 +13,49 @@ printed_costs-requires-clause-counted c = ap length c.as_slice.ensures ∙ sym c
 
 pub printed_costs-requires-clause-positive : goal.printed_costs-requires-clause-positive
 printed_costs-requires-clause-positive c =
-    subst (λ (w : List ℕ). All (λ cost. 1 ≤ cost) w) (sym c.as_slice.ensures) (costs_positive c.args.problem.now c.args.costs.now c.keeps_conditions.ensures.problem c.requires.optimal.2.0)
+    subst (λ (w : List ℕ). All (λ cost. 1 ≤ cost) w) (sym c.as_slice.ensures)
+    (fit_positive c.args.problem.now c.args.costs.now c.keeps_conditions.ensures.problem c.requires.optimal.2.0)
 
 pub invariant_of-result : goal.invariant_of-result
 invariant_of-result c =
-    let a : AnswerParts = record { verdict = c.answer.inside.verdict; costs = c.answer.inside.costs; floor = c.answer.inside.floor; rows = c.answer.inside.rows; proof = c.answer.inside.proof; unfinished = c.answer.inside.unfinished } in
-    let printed : ArePrintedCosts c.args.problem.now c.args.costs.now c.in_ok-costs.costs = subst (λ (w : List ℕ). ArePrintedCosts c.args.problem.now w c.in_ok-costs.costs) c.as_slice.ensures c.in_ok-costs.ensures in
+    let a : AnswerParts = record {
+      verdict = c.answer.inside.verdict;
+      costs = c.answer.inside.costs;
+      floor = c.answer.inside.floor;
+      rows = c.answer.inside.rows;
+      proof = c.answer.inside.proof;
+      unfinished =
+          c.answer.inside.unfinished;
+    } in
+    let printed : ArePrintedCosts c.args.problem.now c.args.costs.now c.in_ok-costs.costs =
+    subst (λ (w : List ℕ). ArePrintedCosts c.args.problem.now w c.in_ok-costs.costs) c.as_slice.ensures
+    c.in_ok-costs.ensures in
     recosted_kept c.args.problem.now a c.args.costs.now c.in_ok-costs.costs c.answer.invariant printed
 
 pub returns : goal.returns
 returns c =
     let p = c.args.problem.now in
     let w = c.args.costs.now in
-    let a : AnswerParts = record { verdict = c.answer.inside.verdict; costs = c.answer.inside.costs; floor = c.answer.inside.floor; rows = c.answer.inside.rows; proof = c.answer.inside.proof; unfinished = c.answer.inside.unfinished } in
-    let new : AnswerParts = record { verdict = c.answer.inside.verdict; costs = Some c.in_ok-costs.costs; floor = c.answer.inside.floor; rows = c.answer.inside.rows; proof = c.answer.inside.proof; unfinished = c.answer.inside.unfinished } in
-    let printed : ArePrintedCosts p w c.in_ok-costs.costs = subst (λ (v : List ℕ). ArePrintedCosts p v c.in_ok-costs.costs) c.as_slice.ensures c.in_ok-costs.ensures in
+    let a : AnswerParts = record {
+      verdict = c.answer.inside.verdict;
+      costs = c.answer.inside.costs;
+      floor = c.answer.inside.floor;
+      rows = c.answer.inside.rows;
+      proof = c.answer.inside.proof;
+      unfinished =
+          c.answer.inside.unfinished;
+    } in
+    let new : AnswerParts = record {
+      verdict = c.answer.inside.verdict;
+      costs = Some c.in_ok-costs.costs;
+      floor = c.answer.inside.floor;
+      rows = c.answer.inside.rows;
+      proof = c.answer.inside.proof;
+      unfinished =
+          c.answer.inside.unfinished;
+    } in
+    let printed : ArePrintedCosts p w c.in_ok-costs.costs =
+    subst (λ (v : List ℕ). ArePrintedCosts p v c.in_ok-costs.costs) c.as_slice.ensures c.in_ok-costs.ensures in
     let valid : IsValid p a = subst (IsValid p) (sym c.answer.view_is) c.requires.valid in
     let is = ap (λ (b : AnswerParts). b.verdict) c.answer.view_is ∙ c.requires.optimal.1 in
     subst (λ (b : AnswerParts). IsRecosted p b new w) c.answer.view_is

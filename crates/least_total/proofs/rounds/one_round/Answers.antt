@@ -18,6 +18,12 @@ returns-in-Costs c =
     let sought = c.in_ok-rows.field-0 in
     let forms = forms_with_total p c.args.most sought.rows.items sought.before in
     let is : sought.found ≡ Costs c.in-Costs.costs = c.in-Costs.is in
-    let found : IsFound (LeadsWithin p c.args.most) limits.top limits.nodes forms c.in_ok-costs.costs (Costs c.in-Costs.costs) = subst (λ (f : Found). IsFound (LeadsWithin p c.args.most) limits.top limits.nodes forms c.in_ok-costs.costs f) is c.in_ok-rows.ensures.found in
-    let in_box : IsFound (LeadsWithin p c.args.most) limits.top limits.nodes forms (capped (box_of p) c.args.cap) (Costs c.in-Costs.costs) = subst (λ (box : CostBox). IsFound (LeadsWithin p c.args.most) limits.top limits.nodes forms box (Costs c.in-Costs.costs)) c.in_ok-costs.ensures.cut found in
+    let found : IsFound (LeadsWithin p c.args.most) limits.top limits.nodes forms c.in_ok-costs.costs
+    (Costs c.in-Costs.costs) =
+    subst (λ (f : Found). IsFound (LeadsWithin p c.args.most) limits.top limits.nodes forms c.in_ok-costs.costs f)
+    is c.in_ok-rows.ensures.found in
+    let in_box : IsFound (LeadsWithin p c.args.most) limits.top limits.nodes forms (capped (box_of p) c.args.cap)
+    (Costs c.in-Costs.costs) =
+    subst (λ (box : CostBox). IsFound (LeadsWithin p c.args.most) limits.top limits.nodes forms box
+    (Costs c.in-Costs.costs)) c.in_ok-costs.ensures.cut found in
     costs_found p c.args.cap c.args.most c.in-Costs.costs c.keeps_conditions.ensures.problem in_box.0 in_box.1

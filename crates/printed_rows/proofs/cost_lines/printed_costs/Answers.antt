@@ -16,4 +16,6 @@ returns c =
     let p = c.args.problem.now in
     let kept : IsProblem p = subst (λ (q : DesignProblem). IsProblem q) c.problem.view_is c.problem.invariant in
     let names_are : c.as_slice.result.now ≡ p.vars = c.as_slice.ensures ∙ ap (λ (q : DesignProblem). q.vars) c.problem.view_is in
-    costs_printed p c.args.costs.now c.greatest_of.result c.from_items.result c.as_slice.result.now c.in_ok-lines.lines.items kept c.requires.counted c.requires.positive c.cost_lines.ensures.most c.in_ok-lines.ensures.lines names_are c.greatest_of.ensures c.from_items.ensures
+    costs_printed p c.args.costs.now c.greatest_of.result c.from_items.result c.as_slice.result.now
+    c.in_ok-lines.lines.items kept c.requires.counted c.requires.positive c.cost_lines.ensures.most
+    c.in_ok-lines.ensures.lines names_are c.greatest_of.ensures c.from_items.ensures

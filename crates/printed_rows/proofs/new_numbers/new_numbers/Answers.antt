@@ -15,5 +15,7 @@ loop-is_marked-preserved c =
       | then-is_marked w ↦ (w.next-is ∙ ap P (sym w.if-is_marked.true), omega (arith, w.next-is, here.small))
       | else-is_marked w ↦ (w.next-is ∙ ap P (sym w.if-is_marked.false), omega (arith, w.next-is, here.small))
     ] in
-    let more = numbered_more (is_marked marks) c.loop-is_marked.numbers.items c.push.new.self.items i c.loop-is_marked.next c.if-is_marked.next (is_marked marks i) here.next_is here.numbers c.in_ok-push.ensures.items (λ k. is_marked marks i) next.0 in
+    let more = numbered_more (is_marked marks) c.loop-is_marked.numbers.items c.push.new.self.items i
+    c.loop-is_marked.next c.if-is_marked.next (is_marked marks i) here.next_is here.numbers
+    c.in_ok-push.ensures.items (λ k. is_marked marks i) next.0 in
     record { next_is = more.0; small = next.1; numbers = more.1 }

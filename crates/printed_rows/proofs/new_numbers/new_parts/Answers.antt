@@ -28,4 +28,5 @@ from_items-requires c =
     }
 
 pub returns : goal.returns
-returns c = c.from_items.ensures ∙ c.in_ok-pairs.ensures ∙ ap (λ (ps : List (ℕ × ℕ)). map (renumbered_part (number_in c.args.numbers.now)) ps) c.as_slice.ensures.parts
+returns c = c.from_items.ensures ∙ c.in_ok-pairs.ensures
+    ∙ ap (λ (ps : List (ℕ × ℕ)). map (renumbered_part (number_in c.args.numbers.now)) ps) c.as_slice.ensures.parts

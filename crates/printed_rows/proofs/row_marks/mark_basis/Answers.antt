@@ -10,7 +10,9 @@ loop-member-preserved c =
     let xs = c.args.basis.now in
     let i = c.loop-member.member-index in
     let within : i < length xs = search rules in
-    marked_more member_names c.args.marks.now.items c.loop-member.marks.items c.mark_member.new.marks.items xs i (get_or xs i (ByLow 0 0)) within (get_or_default xs i (ByLow 0 0) (get_or xs i (ByLow 0 0)) within) c.loop-member.invariant c.mark_member.ensures
+    marked_more member_names c.args.marks.now.items c.loop-member.marks.items c.mark_member.new.marks.items xs i
+    (get_or xs i (ByLow 0 0)) within (get_or_default xs i (ByLow 0 0) (get_or xs i (ByLow 0 0)) within)
+    c.loop-member.invariant c.mark_member.ensures
 
 pub returns : goal.returns
 returns c =

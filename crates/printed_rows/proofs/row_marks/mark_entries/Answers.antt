@@ -8,7 +8,8 @@ loop-entry-preserved c =
     let xs = c.args.entries.now in
     let i = c.loop-entry.entry-index in
     let within : i < length xs = search rules in
-    marked_more names c.args.marks.now.items c.loop-entry.marks.items c.mark_entry.new.marks.items xs i c.entry-item.result within c.entry-item.is c.loop-entry.invariant c.mark_entry.ensures
+    marked_more names c.args.marks.now.items c.loop-entry.marks.items c.mark_entry.new.marks.items xs i
+    c.entry-item.result within c.entry-item.is c.loop-entry.invariant c.mark_entry.ensures
 
 pub returns : goal.returns
 returns c =

@@ -9,7 +9,9 @@ loop-row-preserved c =
     let xs = c.args.parts.now in
     let i = c.loop-row.row-index in
     let within : i < length xs = search rules in
-    marked_more part_names c.args.marks.now.items c.loop-row.marks.items c.mark.new.marks.items xs i (get_or xs i (0, 0)) within (get_or_default xs i (0, 0) (get_or xs i (0, 0)) within) c.loop-row.invariant c.mark.ensures
+    marked_more part_names c.args.marks.now.items c.loop-row.marks.items c.mark.new.marks.items xs i
+    (get_or xs i (0, 0)) within (get_or_default xs i (0, 0) (get_or xs i (0, 0)) within) c.loop-row.invariant
+    c.mark.ensures
 
 pub returns : goal.returns
 returns c =

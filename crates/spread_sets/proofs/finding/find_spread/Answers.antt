@@ -20,7 +20,8 @@ with_trees-requires c =
 pub box_at-requires : goal.box_at-requires
 box_at-requires c =
     let p = c.args.problem.now in
-    lows_within p c.greatest_of-cap.result c.keeps_conditions.ensures.problem (c.greatest_of-cap.ensures ∙ ap greatest_cost (c.as_slice-2.ensures ∙ ap (λ (q : DesignProblem). q.high) c.problem.view_is))
+    lows_within p c.greatest_of-cap.result c.keeps_conditions.ensures.problem (c.greatest_of-cap.ensures
+    ∙ ap greatest_cost (c.as_slice-2.ensures ∙ ap (λ (q : DesignProblem). q.high) c.problem.view_is))
 
 pub answered-requires-clause-sought : goal.answered-requires-clause-sought
 answered-requires-clause-sought c =
@@ -29,10 +30,13 @@ answered-requires-clause-sought c =
     let limits = c.args.limits.now in
     let made = c.in_ok-all.ensures ∙ ap (λ (ls : List (List ℕ)). sets_below ls c.path_count.result) c.as_slice.ensures in
     let same = made_sets p lines c.in_ok-all.all.items c.path_count.result c.path_count.ensures made in
-    let cap : c.greatest_of-cap.result ≡ greatest_bound p = c.greatest_of-cap.ensures ∙ ap greatest_cost (c.as_slice-2.ensures ∙ ap (λ (q : DesignProblem). q.high) c.problem.view_is) in (
+    let cap : c.greatest_of-cap.result ≡ greatest_bound p = c.greatest_of-cap.ensures
+    ∙ ap greatest_cost (c.as_slice-2.ensures ∙ ap (λ (q : DesignProblem). q.high) c.problem.view_is) in (
       all_sets p lines,
       all_sets_are p lines c.requires,
-      sought_whole p (all_sets p lines) (sets_in c.in_ok-grown.grown.items) limits.top limits.nodes c.greatest_of-cap.result c.in_ok-costs.costs c.in_ok-sought.sought (c.in_ok-grown.ensures.sets ∙ same) cap c.in_ok-costs.ensures.cut c.in_ok-sought.ensures,
+      sought_whole p (all_sets p lines) (sets_in c.in_ok-grown.grown.items) limits.top limits.nodes
+          c.greatest_of-cap.result c.in_ok-costs.costs c.in_ok-sought.sought (c.in_ok-grown.ensures.sets ∙ same) cap
+          c.in_ok-costs.ensures.cut c.in_ok-sought.ensures,
     )
 
 pub returns : goal.returns
@@ -42,6 +46,9 @@ returns c =
     let limits = c.args.limits.now in
     let made = c.in_ok-all.ensures ∙ ap (λ (ls : List (List ℕ)). sets_below ls c.path_count.result) c.as_slice.ensures in
     let same = made_sets p lines c.in_ok-all.all.items c.path_count.result c.path_count.ensures made in
-    let cap : c.greatest_of-cap.result ≡ greatest_bound p = c.greatest_of-cap.ensures ∙ ap greatest_cost (c.as_slice-2.ensures ∙ ap (λ (q : DesignProblem). q.high) c.problem.view_is) in
+    let cap : c.greatest_of-cap.result ≡ greatest_bound p = c.greatest_of-cap.ensures
+    ∙ ap greatest_cost (c.as_slice-2.ensures ∙ ap (λ (q : DesignProblem). q.high) c.problem.view_is) in
     c.answered.ensures (all_sets p lines) (all_sets_are p lines c.requires)
-    (sought_whole p (all_sets p lines) (sets_in c.in_ok-grown.grown.items) limits.top limits.nodes c.greatest_of-cap.result c.in_ok-costs.costs c.in_ok-sought.sought (c.in_ok-grown.ensures.sets ∙ same) cap c.in_ok-costs.ensures.cut c.in_ok-sought.ensures)
+    (sought_whole p (all_sets p lines) (sets_in c.in_ok-grown.grown.items) limits.top limits.nodes
+    c.greatest_of-cap.result c.in_ok-costs.costs c.in_ok-sought.sought (c.in_ok-grown.ensures.sets ∙ same) cap
+    c.in_ok-costs.ensures.cut c.in_ok-sought.ensures)

@@ -11,9 +11,11 @@ search-requires-clause-true_forms g c =
     let p = c.args.problem.now in
     let sets = sets_in c.args.sets.items in
     let begun = c.begin.new.self in
-    let same_problem : begun.problem ≡ p = ap (λ (s : KnownSets). s.problem) c.in_ok-begin.ensures.same ∙ ap (λ (s : KnownSets). s.problem) c.in_ok-source.ensures in
+    let same_problem : begun.problem ≡ p = ap (λ (s : KnownSets). s.problem) c.in_ok-begin.ensures.same
+    ∙ ap (λ (s : KnownSets). s.problem) c.in_ok-source.ensures in
     let same_sets : begun.sets ≡ sets = ap (λ (s : KnownSets). s.sets) c.in_ok-begin.ensures.same ∙ ap (λ (s : KnownSets). s.sets) c.in_ok-source.ensures in
-    pool_true_as begun p sets c.begin.new.pool same_problem same_sets c.keeps_conditions.ensures (trees_sets p c.args.sets.items c.requires.trees) c.in_ok-begin.ensures.in_step
+    pool_true_as begun p sets c.begin.new.pool same_problem same_sets c.keeps_conditions.ensures
+    (trees_sets p c.args.sets.items c.requires.trees) c.in_ok-begin.ensures.in_step
 
 pub returns : goal.returns
 returns g c =
@@ -24,8 +26,12 @@ returns g c =
     let begun = c.begin.new.self in
     let source = c.search.new.source in
     let pool = c.search.new.pool in
-    let first_problem : begun.problem ≡ p = ap (λ (s : KnownSets). s.problem) c.in_ok-begin.ensures.same ∙ ap (λ (s : KnownSets). s.problem) c.in_ok-source.ensures in
+    let first_problem : begun.problem ≡ p = ap (λ (s : KnownSets). s.problem) c.in_ok-begin.ensures.same
+    ∙ ap (λ (s : KnownSets). s.problem) c.in_ok-source.ensures in
     let first_sets : begun.sets ≡ sets = ap (λ (s : KnownSets). s.sets) c.in_ok-begin.ensures.same ∙ ap (λ (s : KnownSets). s.sets) c.in_ok-source.ensures in
-    let found = found_as p begun.problem sets begun.sets limits.top limits.nodes pool costs c.in_ok-found.found first_problem first_sets c.in_ok-found.ensures.found in
-    sought_is p sets limits.top limits.nodes costs source pool (record { rows = c.into_rows.result; found = c.in_ok-found.found }) (c.into_rows.ensures.problem ∙ sym c.requires.problem) (c.into_rows.ensures.sets ∙ sym c.requires.sets) c.in_ok-found.ensures.in_step found
+    let found = found_as p begun.problem sets begun.sets limits.top limits.nodes pool costs c.in_ok-found.found
+    first_problem first_sets c.in_ok-found.ensures.found in
+    sought_is p sets limits.top limits.nodes costs source pool
+    (record { rows = c.into_rows.result; found = c.in_ok-found.found }) (c.into_rows.ensures.problem
+    ∙ sym c.requires.problem) (c.into_rows.ensures.sets ∙ sym c.requires.sets) c.in_ok-found.ensures.in_step found
     c.into_rows.ensures.rows

@@ -16,5 +16,7 @@ loop-member-preserved c =
     let p = c.args.problem.now in
     let members = c.args.members.now in
     let index = c.loop-member.member-index in
-    let edges : c.as_slice.result.now ≡ edges_of p (get_or members index 0) = c.as_slice.ensures ∙ ap (λ (r : Request). r.path.edges) c.request_of-request.ensures in
-    next_path p members index c.loop-member.tree c.insert.new.self c.as_slice.result.now c.loop-member-test.true edges c.loop-member.invariant c.in_ok-insert.ensures
+    let edges : c.as_slice.result.now ≡ edges_of p (get_or members index 0) = c.as_slice.ensures
+    ∙ ap (λ (r : Request). r.path.edges) c.request_of-request.ensures in
+    next_path p members index c.loop-member.tree c.insert.new.self c.as_slice.result.now c.loop-member-test.true edges
+    c.loop-member.invariant c.in_ok-insert.ensures

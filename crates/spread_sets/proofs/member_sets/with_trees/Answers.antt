@@ -19,7 +19,12 @@ loop-members-preserved c =
     record {
       able = tt;
       ends = tt;
-      sets = trees_more p old new set c.in_ok-tree.tree later c.args.sets.items (subst (λ (sets : List (List ℕ)). sets_in old ++ sets ≡ c.args.sets.items) rest c.loop-members.invariant.sets) c.in_ok-push.ensures.items;
-      trees = has_trees_more p old new set c.in_ok-tree.tree c.loop-members.invariant.trees (All-head (IsMemberSet p) set later kept) (subst (λ (s : List ℕ). IsGrown (paths_of p s) (paths_of p s) c.in_ok-tree.tree) c.as_slice.ensures c.in_ok-tree.ensures) c.in_ok-push.ensures.items;
+      sets = trees_more p old new set c.in_ok-tree.tree later c.args.sets.items
+          (subst (λ (sets : List (List ℕ)). sets_in old ++ sets ≡ c.args.sets.items) rest c.loop-members.invariant.sets)
+          c.in_ok-push.ensures.items;
+      trees = has_trees_more p old new set c.in_ok-tree.tree c.loop-members.invariant.trees
+          (All-head (IsMemberSet p) set later kept)
+          (subst (λ (s : List ℕ). IsGrown (paths_of p s) (paths_of p s) c.in_ok-tree.tree) c.as_slice.ensures
+          c.in_ok-tree.ensures) c.in_ok-push.ensures.items;
       kept = All-tail (IsMemberSet p) set later kept;
     }

@@ -5,7 +5,8 @@ use Rattle.spread_sets.proofs.TieForms.{form_again, one_more, terms_again}
 use Rattle.spread_sets.proofs.row_forms.with_one_more.Goals as goal
 
 pub from_terms-requires : goal.from_terms-requires
-from_terms-requires c = terms_again c.args.form.now c.variables.result c.in_ok-terms.terms.items c.variables.ensures (c.in_ok-terms.ensures ∙ c.terms.ensures.terms)
+from_terms-requires c = terms_again c.args.form.now c.variables.result c.in_ok-terms.terms.items c.variables.ensures
+    (c.in_ok-terms.ensures ∙ c.terms.ensures.terms)
 
 pub returns : goal.returns
 returns c =

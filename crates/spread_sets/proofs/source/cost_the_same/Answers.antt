@@ -9,13 +9,16 @@ returns-then-cost_of-first c =
     let p = c.args.problem.now in
     let point = c.args.point.now in
     let members = c.args.members.now in
-    let first : c.cost_of-first.result ≡ cost_in p point members = c.cost_of-first.ensures ∙ ap (λ (i : ℕ). cost p.graph point (edges_of p i)) c.first_of.ensures in
-    not_tied p point members c.loop-member.member-index c.cost_of-first.result first c.loop-member-test.true (λ same. c.if-cost_of-first.true (c.cost_of.ensures ∙ same))
+    let first : c.cost_of-first.result ≡ cost_in p point members = c.cost_of-first.ensures
+    ∙ ap (λ (i : ℕ). cost p.graph point (edges_of p i)) c.first_of.ensures in
+    not_tied p point members c.loop-member.member-index c.cost_of-first.result first c.loop-member-test.true
+    (λ same. c.if-cost_of-first.true (c.cost_of.ensures ∙ same))
 
 pub returns : goal.returns
 returns c =
     let p = c.args.problem.now in
     let point = c.args.point.now in
     let members = c.args.members.now in
-    let first : c.cost_of-first.result ≡ cost_in p point members = c.cost_of-first.ensures ∙ ap (λ (i : ℕ). cost p.graph point (edges_of p i)) c.first_of.ensures in
+    let first : c.cost_of-first.result ≡ cost_in p point members = c.cost_of-first.ensures
+    ∙ ap (λ (i : ℕ). cost p.graph point (edges_of p i)) c.first_of.ensures in
     all_tied p point members c.loop-member.member-index c.cost_of-first.result first c.loop-member-test.false c.loop-member.invariant

@@ -16,5 +16,7 @@ report_of_conflict-requires g c =
 
 pub returns-clause-read : goal.returns-clause-read
 returns-clause-read g c =
-    conflict_found (g.S.Shelf.gave c.args.shelf.now c.read_problem.new.shelf) (bounds c.args.limits.now) (files_named c.args.words) c.in_ok-problem.problem c.in_ok-conflict.conflict c.in_ok-report_of_conflict.field-0 c.in_ok-problem.ensures.read
+    conflict_found (g.S.Shelf.gave c.args.shelf.now c.read_problem.new.shelf) (bounds c.args.limits.now)
+    (files_named c.args.words) c.in_ok-problem.problem c.in_ok-conflict.conflict c.in_ok-report_of_conflict.field-0
+    c.in_ok-problem.ensures.read
     c.in_ok-conflict.ensures.found c.in_ok-report_of_conflict.ensures

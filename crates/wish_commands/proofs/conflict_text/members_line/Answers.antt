@@ -8,4 +8,5 @@ pub returns : goal.returns
 returns c =
     let members = c.args.members.now in
     c.in_ok-push_words.ensures
-    ∙ members_begun c.push_number.new.text.items members (c.in_ok-push_number.ensures ∙ ap (λ (first : List ℕ). first ++ decimal (length members)) c.in_ok-line.ensures.items)
+    ∙ members_begun c.push_number.new.text.items members (c.in_ok-push_number.ensures
+    ∙ ap (λ (first : List ℕ). first ++ decimal (length members)) c.in_ok-line.ensures.items)

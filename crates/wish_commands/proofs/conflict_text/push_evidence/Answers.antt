@@ -9,5 +9,7 @@ use Rattle.wish_commands.proofs.conflict_text.push_evidence.Goals as goal
 pub returns : goal.returns
 returns c =
     on_ok_weaker c.push_tree.result
-    (λ later. two_parts c.args.text.now.items c.push_rows.new.text.items c.push_tree.new.text.items (rows_lines c.args.rows.now) (tree_lines (part_word c.args.part) (Some c.args.tree.now)) c.in_ok-push_rows.ensures later)
+    (λ later. two_parts c.args.text.now.items c.push_rows.new.text.items c.push_tree.new.text.items
+    (rows_lines c.args.rows.now) (tree_lines (part_word c.args.part) (Some c.args.tree.now))
+    c.in_ok-push_rows.ensures later)
     c.push_tree.ensures

@@ -1,13 +1,22 @@
 -- The costs by their names, and in short lines.
-use Rattle.std.proofs.Common.{◌≡◌, subst, List, ℕ}
-use Rattle.std.specs.Prelude.{Some}
+use Rattle.std.proofs.Common.{◌≡◌, ◌≤◌, ◌∙◌, ap, sym, subst, List, ℕ, length}
+use Rattle.std.specs.Prelude.{Some, All}
 use Rattle.std.proofs.lemmas.Result.{IfOk-weaker}
 use Rattle.path_rows.specs.Text.{costs_lines}
 use Rattle.evidence_text.specs.Lines.{AreShort}
 use Rattle.printed_rows.specs.PrintedCosts.{ArePrintedCosts}
+use Rattle.printed_rows.proofs.CostLaws.{box_positive}
 use Rattle.wish_commands.specs.SharedParts.{named_costs}
 use Rattle.wish_commands.proofs.TextParts.{costs_are, costs_part_short}
 use Rattle.wish_commands.proofs.parts.costs_by_name.Goals as goal
+
+pub printed_costs-requires-clause-counted : goal.printed_costs-requires-clause-counted
+printed_costs-requires-clause-counted c = ap length c.as_slice.ensures ∙ sym c.requires.low_count
+
+pub printed_costs-requires-clause-positive : goal.printed_costs-requires-clause-positive
+printed_costs-requires-clause-positive c =
+    subst (λ (ws : List ℕ). All (λ cost. 1 ≤ cost) ws) (sym c.as_slice.ensures)
+    (box_positive c.args.problem.now c.args.costs.now c.keeps_conditions.ensures.problem c.requires)
 
 pub returns-clause-named : goal.returns-clause-named
 returns-clause-named c =
@@ -19,4 +28,6 @@ returns-clause-named c =
 pub returns-clause-short : goal.returns-clause-short
 returns-clause-short c =
     let p = c.args.problem.now in
-    IfOk-weaker c.printed_costs.result (ArePrintedCosts p c.as_slice.result.now) (λ costs. AreShort (costs_lines (Some costs))) (λ costs printed. costs_part_short p c.as_slice.result.now costs printed) c.printed_costs.ensures
+    IfOk-weaker c.printed_costs.result (ArePrintedCosts p c.as_slice.result.now)
+    (λ costs. AreShort (costs_lines (Some costs)))
+    (λ costs printed. costs_part_short p c.as_slice.result.now costs printed) c.printed_costs.ensures

@@ -7,4 +7,5 @@ use Rattle.least_bound.proofs.progress.Best.stuck_at.Goals as goal
 
 pub returns-in-NoCosts : goal.returns-in-NoCosts
 returns-in-NoCosts c = λ p top nodes old new most holds grows spent below.
-    still_none p top nodes old new most c.args.stuck.cap c.in-NoCosts.tree grows below (subst (λ (b : Best). BestHolds p top nodes old most b) c.in-NoCosts.is holds)
+    still_none p top nodes old new most c.args.stuck.cap c.in-NoCosts.tree grows below
+    (subst (λ (b : Best). BestHolds p top nodes old most b) c.in-NoCosts.is holds)

@@ -9,21 +9,28 @@ use Rattle.least_bound.proofs.progress.Progress.after.Goals as goal
 
 pub returns-in-Costs-clause-holds : goal.returns-in-Costs-clause-holds
 returns-in-Costs-clause-holds c = λ p top nodes old new problem pool grows holds decided.
-    let found : IsDecided p top nodes c.args.cap new (Costs c.in-Costs.costs) = subst (λ (f : Found). IsDecided p top nodes c.args.cap new f) c.in-Costs.is decided in
-    after_costs p top nodes old new c.args.self c.in-Costs.costs c.greatest_of.result grows holds found.0 (c.greatest_of.ensures ∙ ap greatest_cost c.as_slice.ensures)
+    let found : IsDecided p top nodes c.args.cap new (Costs c.in-Costs.costs) =
+    subst (λ (f : Found). IsDecided p top nodes c.args.cap new f) c.in-Costs.is decided in
+    after_costs p top nodes old new c.args.self c.in-Costs.costs c.greatest_of.result grows holds found.0
+    (c.greatest_of.ensures ∙ ap greatest_cost c.as_slice.ensures)
 
 pub returns-in-Costs-clause-nearer : goal.returns-in-Costs-clause-nearer
 returns-in-Costs-clause-nearer c = λ p top nodes pool decided.
-    let found : IsDecided p top nodes c.args.cap pool (Costs c.in-Costs.costs) = subst (λ (f : Found). IsDecided p top nodes c.args.cap pool f) c.in-Costs.is decided in
-    costs_nearer p top nodes c.args.cap pool c.in-Costs.costs c.args.self.least c.args.self.most c.greatest_of.result c.requires.below_most (c.greatest_of.ensures ∙ ap greatest_cost c.as_slice.ensures) found
+    let found : IsDecided p top nodes c.args.cap pool (Costs c.in-Costs.costs) =
+    subst (λ (f : Found). IsDecided p top nodes c.args.cap pool f) c.in-Costs.is decided in
+    costs_nearer p top nodes c.args.cap pool c.in-Costs.costs c.args.self.least c.args.self.most c.greatest_of.result
+    c.requires.below_most (c.greatest_of.ensures ∙ ap greatest_cost c.as_slice.ensures) found
 
 pub returns-in-Refuted-clause-holds : goal.returns-in-Refuted-clause-holds
 returns-in-Refuted-clause-holds c = λ p top nodes old new problem pool grows holds decided.
-    let found : IsDecided p top nodes c.args.cap new (Refuted c.in-Refuted.tree) = subst (λ (f : Found). IsDecided p top nodes c.args.cap new f) c.in-Refuted.is decided in
+    let found : IsDecided p top nodes c.args.cap new (Refuted c.in-Refuted.tree) =
+    subst (λ (f : Found). IsDecided p top nodes c.args.cap new f) c.in-Refuted.is decided in
     after_refuted p top nodes old new c.args.self c.args.cap c.in-Refuted.tree problem pool grows c.requires.from_least c.requires.below_most holds found
 
 pub returns-in-Spent-clause-holds : goal.returns-in-Spent-clause-holds
 returns-in-Spent-clause-holds c = λ p top nodes old new problem pool grows holds decided.
-    let found : IsDecided p top nodes c.args.cap new (Spent c.in-Spent.tree) = subst (λ (f : Found). IsDecided p top nodes c.args.cap new f) c.in-Spent.is decided in
+    let found : IsDecided p top nodes c.args.cap new (Spent c.in-Spent.tree) =
+    subst (λ (f : Found). IsDecided p top nodes c.args.cap new f) c.in-Spent.is decided in
     after_spent p top nodes old new c.args.self c.args.cap c.stuck_at.result grows c.requires.from_least holds
-    (c.stuck_at.ensures p top nodes old new c.args.self.most holds.best grows (record { tree = found.0; undone = found.1; spent = found.2 }) c.requires.below_most)
+    (c.stuck_at.ensures p top nodes old new c.args.self.most holds.best grows
+    (record { tree = found.0; undone = found.1; spent = found.2 }) c.requires.below_most)

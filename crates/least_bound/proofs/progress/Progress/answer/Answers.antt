@@ -12,7 +12,8 @@ undecided-requires-clause-trees c =
     let top = c.requires.progress.0 in
     let nodes = c.requires.progress.1 in
     let holds = c.requires.progress.3 in
-    let best : BestHolds p top nodes c.args.pool c.args.self.most (NoCosts c.in-NoCosts.tree) = subst (λ (b : Best). BestHolds p top nodes c.args.pool c.args.self.most b) c.in-NoCosts.is holds.best in
+    let best : BestHolds p top nodes c.args.pool c.args.self.most (NoCosts c.in-NoCosts.tree) =
+    subst (λ (b : Best). BestHolds p top nodes c.args.pool c.args.self.most b) c.in-NoCosts.is holds.best in
     let below : c.args.self.least ≤ c.in-NoCosts.tree.cap = omega (arith, holds.ordered, best.1) in
     (top, nodes, c.requires.progress.2, kept_below p top nodes c.args.pool c.args.self.least c.in-NoCosts.tree.cap c.args.self.kept below holds.kept, best.2)
 
@@ -22,6 +23,7 @@ undecided-requires-in-Between-clause-trees c =
     let top = c.requires.progress.0 in
     let nodes = c.requires.progress.1 in
     let holds = c.requires.progress.3 in
-    let best : BestHolds p top nodes c.args.pool c.args.self.most (Between c.in-Between.costs c.in-Between.tree) = subst (λ (b : Best). BestHolds p top nodes c.args.pool c.args.self.most b) c.in-Between.is holds.best in
+    let best : BestHolds p top nodes c.args.pool c.args.self.most (Between c.in-Between.costs c.in-Between.tree) =
+    subst (λ (b : Best). BestHolds p top nodes c.args.pool c.args.self.most b) c.in-Between.is holds.best in
     let below : c.args.self.least ≤ c.in-Between.tree.cap = omega (arith, holds.ordered, best.2) in
     (top, nodes, c.requires.progress.2, kept_below p top nodes c.args.pool c.args.self.least c.in-Between.tree.cap c.args.self.kept below holds.kept, best.3)

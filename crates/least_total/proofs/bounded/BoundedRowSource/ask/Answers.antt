@@ -2,8 +2,8 @@
 use Rattle.std.proofs.Common.{◌≡◌, ℕ, List, [], ◌∷◌, ◌++◌, refl, sym, ◌∙◌, ap, subst}
 use Rattle.std.specs.Prelude.{ℤ, pos, ◌<ℤ◌, ◌≤ℤ◌, None}
 use Rattle.path_rows.specs.Problems.{DesignProblem}
-use Rattle.path_rows.specs.Forms.{Form, value_at}
-use Rattle.form_search.specs.Sources.{AreMet, Grows, IsAnswered}
+use Rattle.path_rows.specs.Forms.{Form, value_at, AreMet}
+use Rattle.form_search.specs.Sources.{Grows, IsAnswered}
 use Rattle.form_search.specs.declared.source.Asked.TheVariants.{Added}
 use Rattle.cost_branching.specs.Asking.{AreAllAsked}
 use Rattle.cost_branching.specs.Rivals.{IsKept}
@@ -15,7 +15,9 @@ use Rattle.least_total.proofs.bounded.BoundedRowSource.ask.Goals as goal
 pub ask_all-requires-clause-met : goal.ask_all-requires-clause-met
 ask_all-requires-clause-met g c =
     let old : BoundedRows = record { known = c.self.inside.rivals; most = c.self.inside.most; before = c.self.inside.before } in
-    rows_met old c.args.pool.now c.args.point.now (subst (λ (s : BoundedRows). AreInStep s c.args.pool.now) (sym c.self.view_is) c.requires.in_step) c.requires.met
+    rows_met old c.args.pool.now c.args.point.now
+    (subst (λ (s : BoundedRows). AreInStep s c.args.pool.now) (sym c.self.view_is) c.requires.in_step)
+    c.requires.met
 
 pub returns-then-not-is_over-clause-answer : goal.returns-then-not-is_over-clause-answer
 returns-then-not-is_over-clause-answer g c =
@@ -23,14 +25,18 @@ returns-then-not-is_over-clause-answer g c =
     let point = c.args.point.now in
     let pool = c.args.pool.now in
     let are = c.in_ok-asked.ensures.asked in
-    let within : pos 0 ≤ℤ value_at (form_of_total old.known.problem old.most) point = subst (λ (p : DesignProblem). pos 0 ≤ℤ value_at (form_of_total p old.most) point) are.problem c.if-not-is_over.ensures in
+    let within : pos 0 ≤ℤ value_at (form_of_total old.known.problem old.most) point =
+    subst (λ (p : DesignProblem). pos 0 ≤ℤ value_at (form_of_total p old.most) point) are.problem
+    c.if-not-is_over.ensures in
     subst (λ (s : BoundedRows). IsAnswered (LeadsWithin s.known.problem s.most) point pool c.ask_all.new.pool c.in_ok-asked.asked) c.self.view_is
     (answered_within old pool point c.ask_all.new.self c.ask_all.new.pool c.in_ok-asked.asked c.requires.met are within)
 
 pub returns-then-not-is_over-clause-in_step : goal.returns-then-not-is_over-clause-in_step
 returns-then-not-is_over-clause-in_step g c =
     let old : BoundedRows = record { known = c.self.inside.rivals; most = c.self.inside.most; before = c.self.inside.before } in
-    in_step_after old c.args.pool.now c.args.point.now c.ask_all.new.self c.ask_all.new.pool c.in_ok-asked.asked (subst (λ (s : BoundedRows). AreInStep s c.args.pool.now) (sym c.self.view_is) c.requires.in_step) c.in_ok-asked.ensures.asked
+    in_step_after old c.args.pool.now c.args.point.now c.ask_all.new.self c.ask_all.new.pool c.in_ok-asked.asked
+    (subst (λ (s : BoundedRows). AreInStep s c.args.pool.now) (sym c.self.view_is) c.requires.in_step)
+    c.in_ok-asked.ensures.asked
 
 pub returns-clause-answer : goal.returns-clause-answer
 returns-clause-answer g c =
@@ -38,7 +44,9 @@ returns-clause-answer g c =
     let point = c.args.point.now in
     let pool = c.args.pool.now in
     let are = c.in_ok-asked.ensures.asked in
-    let negative : value_at (form_of_total old.known.problem old.most) point <ℤ pos 0 = subst (λ (p : DesignProblem). value_at (form_of_total p old.most) point <ℤ pos 0) are.problem c.if-not-is_over.ensures in
+    let negative : value_at (form_of_total old.known.problem old.most) point <ℤ pos 0 =
+    subst (λ (p : DesignProblem). value_at (form_of_total p old.most) point <ℤ pos 0) are.problem
+    c.if-not-is_over.ensures in
     let came = c.in_ok-add_total.ensures.form ∙ ap (λ (p : DesignProblem). c.ask_all.new.pool ++ form_of_total p old.most ∷ []) are.problem in
     subst (λ (s : BoundedRows). IsAnswered (LeadsWithin s.known.problem s.most) point pool c.add_total.new.pool Added) c.self.view_is
     (answered_over old pool point c.ask_all.new.pool c.add_total.new.pool c.requires.met negative came)
@@ -49,7 +57,12 @@ returns-clause-grows g c =
     let are = c.in_ok-asked.ensures.asked in
     let came = c.in_ok-add_total.ensures.form ∙ ap (λ (p : DesignProblem). c.ask_all.new.pool ++ form_of_total p old.most ∷ []) are.problem in
     subst (λ (s : BoundedRows). Grows (IsTrueWithin s.known.problem s.most) c.args.pool.now c.add_total.new.pool) c.self.view_is
-    (grows_over old.known.problem old.most c.args.pool.now c.ask_all.new.pool c.add_total.new.pool (record { kept = subst IsKept c.problem.ensures c.keeps_conditions.ensures; small = c.self.invariant; same = refl }) c.ask_all.ensures.grows came)
+    (grows_over old.known.problem old.most c.args.pool.now c.ask_all.new.pool c.add_total.new.pool
+    (record {
+      kept = subst IsKept c.problem.ensures c.keeps_conditions.ensures;
+      small = c.self.invariant;
+      same = refl;
+    }) c.ask_all.ensures.grows came)
 
 pub returns-clause-in_step : goal.returns-clause-in_step
 returns-clause-in_step g c =
@@ -58,7 +71,10 @@ returns-clause-in_step g c =
     let pool = c.args.pool.now in
     let are = c.in_ok-asked.ensures.asked in
     let in_step = subst (λ (s : BoundedRows). AreInStep s pool) (sym c.self.view_is) c.requires.in_step in
-    let negative : value_at (form_of_total old.known.problem old.most) point <ℤ pos 0 = subst (λ (p : DesignProblem). value_at (form_of_total p old.most) point <ℤ pos 0) are.problem c.if-not-is_over.ensures in
+    let negative : value_at (form_of_total old.known.problem old.most) point <ℤ pos 0 =
+    subst (λ (p : DesignProblem). value_at (form_of_total p old.most) point <ℤ pos 0) are.problem
+    c.if-not-is_over.ensures in
     in_step_over (after_rows old c.ask_all.new.self) c.add_total.new.self c.ask_all.new.pool c.add_total.new.pool
     (in_step_after old pool point c.ask_all.new.self c.ask_all.new.pool c.in_ok-asked.asked in_step are)
-    (not_come old pool point in_step c.requires.met negative) c.in_ok-add_total.ensures.known c.in_ok-add_total.ensures.most c.in_ok-add_total.ensures.place c.in_ok-add_total.ensures.form
+    (not_come old pool point in_step c.requires.met negative) c.in_ok-add_total.ensures.known
+    c.in_ok-add_total.ensures.most c.in_ok-add_total.ensures.place c.in_ok-add_total.ensures.form

@@ -6,4 +6,5 @@ use Rattle.least_total.proofs.standing.Standing.with_costs.Goals as goal
 
 pub returns-clause-holds : goal.returns-clause-holds
 returns-clause-holds c = λ p top nodes cap problem holds fit.
-    standing_costs p top nodes cap c.args.self c.args.costs c.total_of.result problem holds fit (c.total_of.ensures.total ∙ ap total c.as_slice.ensures) c.total_of.ensures.small
+    standing_costs p top nodes cap c.args.self c.args.costs c.total_of.result problem holds fit
+    (c.total_of.ensures.total ∙ ap total c.as_slice.ensures) c.total_of.ensures.small

@@ -18,7 +18,8 @@ ask_one-requires-clause-tied g c =
     let is = c.loop-place.invariant in
     let inside : place < length old.sets = omega (arith, c.count-place-end.ensures, c.loop-place-test.true) in
     let tied = tied_there old c.args.pool.now point place c.keeps.ensures.kept.problem c.requires.point.count c.requires.in_step c.requires.met inside in
-    subst (λ (p : DesignProblem). AreTied p point (set_at now.sets place)) (sym is.problem) (subst (λ (sets : List (List ℕ)). AreTied old.problem point (set_at sets place)) (sym is.sets) tied)
+    subst (λ (p : DesignProblem). AreTied p point (set_at now.sets place)) (sym is.problem)
+    (subst (λ (sets : List (List ℕ)). AreTied old.problem point (set_at sets place)) (sym is.sets) tied)
 
 pub loop-place-preserved : goal.loop-place-preserved
 loop-place-preserved g c =
@@ -47,4 +48,5 @@ loop-place-preserved g c =
 pub returns-clause-asked : goal.returns-clause-asked
 returns-clause-asked g c =
     let all : length c.args.self.now.sets ≤ c.loop-place.place = omega (arith, c.count-place-end.ensures, c.loop-place-test.false) in
-    all_asked c.args.point.now c.loop-place.place c.args.self.now c.args.pool.now c.loop-place.self c.loop-place.pool c.loop-place.asked all c.loop-place.invariant
+    all_asked c.args.point.now c.loop-place.place c.args.self.now c.args.pool.now c.loop-place.self c.loop-place.pool
+    c.loop-place.asked all c.loop-place.invariant

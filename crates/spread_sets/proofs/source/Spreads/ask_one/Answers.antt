@@ -15,27 +15,37 @@ is_beaten-requires-clause-tied g c =
     let q = c.self.inside.problem.now in
     let place = c.args.place in
     let set : c.index-set.result.now.members ≡ set_at (sets_in c.self.inside.sets.items) place =
-    indexed c.self.inside.sets.items place c.index-set.result.now (subst (λ (s : KnownSets). place < length s.sets) (sym c.self.view_is) c.requires.place) c.index-set.ensures in
+    indexed c.self.inside.sets.items place c.index-set.result.now
+    (subst (λ (s : KnownSets). place < length s.sets) (sym c.self.view_is) c.requires.place) c.index-set.ensures in
     subst (AreTied q c.args.point.now) (sym set)
     (subst (λ (s : KnownSets). AreTied s.problem c.args.point.now (set_at s.sets place)) (sym c.self.view_is) c.requires.tied)
 
 pub form_of-requires : goal.form_of-requires
 form_of-requires g c =
-    (rival_row c.self.inside.problem.now c.self.inside.sets.items c.self.inside.rows.items _ c.args.place c.args.point.now c.index-set.result.now c.is_beaten.new.room.path c.in_ok-row.row c.self.view_is c.requires.place c.keeps.ensures.sets
-    c.index-set.ensures c.if-not-is_beaten.ensures.rival (c.in_ok-row.ensures.request ∙ c.first_of-name.ensures ∙ ap first_of c.as_slice.ensures) (c.in_ok-row.ensures.edges ∙ c.path.ensures)).route
+    (rival_row c.self.inside.problem.now c.self.inside.sets.items c.self.inside.rows.items _ c.args.place
+    c.args.point.now c.index-set.result.now c.is_beaten.new.room.path c.in_ok-row.row c.self.view_is
+    c.requires.place c.keeps.ensures.sets
+    c.index-set.ensures c.if-not-is_beaten.ensures.rival (c.in_ok-row.ensures.request ∙ c.first_of-name.ensures
+    ∙ ap first_of c.as_slice.ensures) (c.in_ok-row.ensures.edges ∙ c.path.ensures)).route
 
 pub push_row-requires : goal.push_row-requires
 push_row-requires g c =
-    let found = rival_row c.self.inside.problem.now c.self.inside.sets.items c.self.inside.rows.items _ c.args.place c.args.point.now c.index-set.result.now c.is_beaten.new.room.path c.in_ok-row.row c.self.view_is c.requires.place c.keeps.ensures.sets
-    c.index-set.ensures c.if-not-is_beaten.ensures.rival (c.in_ok-row.ensures.request ∙ c.first_of-name.ensures ∙ ap first_of c.as_slice.ensures) (c.in_ok-row.ensures.edges ∙ c.path.ensures) in
+    let found = rival_row c.self.inside.problem.now c.self.inside.sets.items c.self.inside.rows.items _ c.args.place
+    c.args.point.now c.index-set.result.now c.is_beaten.new.room.path c.in_ok-row.row c.self.view_is
+    c.requires.place c.keeps.ensures.sets
+    c.index-set.ensures c.if-not-is_beaten.ensures.rival (c.in_ok-row.ensures.request ∙ c.first_of-name.ensures
+    ∙ ap first_of c.as_slice.ensures) (c.in_ok-row.ensures.edges ∙ c.path.ensures) in
     c.in_ok-form.ensures.form ∙ row_form c.self.inside.problem.now c.in_ok-row.row found.route
 
 pub returns-clause-one : goal.returns-clause-one
 returns-clause-one g c =
     let q = c.self.inside.problem.now in
     let row = c.in_ok-row.row in
-    let found = rival_row c.self.inside.problem.now c.self.inside.sets.items c.self.inside.rows.items _ c.args.place c.args.point.now c.index-set.result.now c.is_beaten.new.room.path c.in_ok-row.row c.self.view_is c.requires.place c.keeps.ensures.sets
-    c.index-set.ensures c.if-not-is_beaten.ensures.rival (c.in_ok-row.ensures.request ∙ c.first_of-name.ensures ∙ ap first_of c.as_slice.ensures) (c.in_ok-row.ensures.edges ∙ c.path.ensures) in
+    let found = rival_row c.self.inside.problem.now c.self.inside.sets.items c.self.inside.rows.items _ c.args.place
+    c.args.point.now c.index-set.result.now c.is_beaten.new.room.path c.in_ok-row.row c.self.view_is
+    c.requires.place c.keeps.ensures.sets
+    c.index-set.ensures c.if-not-is_beaten.ensures.rival (c.in_ok-row.ensures.request ∙ c.first_of-name.ensures
+    ∙ ap first_of c.as_slice.ensures) (c.in_ok-row.ensures.edges ∙ c.path.ensures) in
     let here : KnownSets = record { problem = q; sets = sets_in c.self.inside.sets.items; rows = c.self.inside.rows.items } in
     subst (λ (s : KnownSets). OneRow c.args.point.now c.args.place s c.args.pool.now c.push_row.new.self c.push_row.new.pool) c.self.view_is
     (record {

@@ -19,7 +19,8 @@ loop-place-preserved g c =
       problem = ap (λ (s : KnownSets). s.problem) came ∙ is.problem;
       sets = ap (λ (s : KnownSets). s.sets) came ∙ is.sets;
       rows = begun_rows old.sets now.sets place now.rows new.rows is.sets inside is.rows rows;
-      forms = begun_forms old.problem now.problem now.rows (ties_in (set_at now.sets place)) new.rows c.loop-place.pool c.push_ties.new.pool is.problem is.forms rows c.in_ok-push_ties.ensures.forms;
+      forms = begun_forms old.problem now.problem now.rows (ties_in (set_at now.sets place)) new.rows c.loop-place.pool
+          c.push_ties.new.pool is.problem is.forms rows c.in_ok-push_ties.ensures.forms;
     }
 
 pub returns-clause-in_step : goal.returns-clause-in_step
@@ -28,5 +29,7 @@ returns-clause-in_step g c =
     let place = c.loop-place.place in
     let is = c.loop-place.invariant in
     let ended : length c.args.self.now.sets ≤ place = omega (arith, c.count-place-end.ensures, c.loop-place-test.false) in
-    begun_in_step now c.loop-place.pool place now.rows refl (is.rows ∙ ap (λ (sets : List (List ℕ)). tie_rows (take place sets)) (sym is.sets)) (subst (λ (sets : List (List ℕ)). length sets ≤ place) (sym is.sets) ended)
+    begun_in_step now c.loop-place.pool place now.rows refl
+    (is.rows ∙ ap (λ (sets : List (List ℕ)). tie_rows (take place sets)) (sym is.sets))
+    (subst (λ (sets : List (List ℕ)). length sets ≤ place) (sym is.sets) ended)
     (is.forms ∙ ap (λ (p : DesignProblem). forms_of_set_rows p now.rows) (sym is.problem))

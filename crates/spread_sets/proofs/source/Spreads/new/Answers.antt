@@ -10,5 +10,6 @@ invariant_of-result g c =
       problem = c.requires.problem;
       sets = c.requires.sets;
       room = room_new c.args.problem.now.graph _ c.in_ok-room.room (ap (λ (q : DesignProblem). q.graph) c.problem.view_is) c.in_ok-room.ensures;
-      ready = ready_all c.args.problem.now c.most_places-places.result (length c.in_ok-costs.costs.items) c.args.sets.items count c.requires.trees (search rules);
+      ready = ready_all c.args.problem.now c.most_places-places.result (length c.in_ok-costs.costs.items)
+          c.args.sets.items count c.requires.trees (search rules);
     }

@@ -13,6 +13,7 @@ returns-clause-forms g c =
     let one = form_of_tie p.graph (length p.low) (edges_of p first) (edges_of p second) in
     let other = form_of_tie p.graph (length p.low) (edges_of p second) (edges_of p first) in
     c.in_ok-push_tie-2.ensures.form
-    ∙ ap (λ (q : DesignProblem). c.push_tie.new.pool ++ form_of_tie q.graph (length q.low) (edges_of q second) (edges_of q first) ∷ []) (ap (λ (s : KnownSets). s.problem) c.in_ok-push_tie.ensures.row)
+    ∙ ap (λ (q : DesignProblem). c.push_tie.new.pool ++ form_of_tie q.graph (length q.low) (edges_of q second)
+    (edges_of q first) ∷ []) (ap (λ (s : KnownSets). s.problem) c.in_ok-push_tie.ensures.row)
     ∙ ap (λ (fs : List Form). fs ++ other ∷ []) c.in_ok-push_tie.ensures.form
     ∙ append_assoc c.args.pool.now (one ∷ []) (other ∷ [])

@@ -11,11 +11,14 @@ pub form_of_tie-requires-clause-second : goal.form_of_tie-requires-clause-second
 form_of_tie-requires-clause-second g c =
     let s = c.args.self.now in
     let set = set_at s.sets c.args.place in
-    subst (λ (t : KnownSets). c.args.second < length t.problem.paths) (sym c.self.view_is) (member_known s.problem set c.args.second (c.keeps.ensures.sets c.args.place [] c.requires.place) c.requires.second)
+    subst (λ (t : KnownSets). c.args.second < length t.problem.paths) (sym c.self.view_is)
+    (member_known s.problem set c.args.second (c.keeps.ensures.sets c.args.place [] c.requires.place)
+    c.requires.second)
 
 pub form_of_tie-requires-clause-same_ends : goal.form_of_tie-requires-clause-same_ends
 form_of_tie-requires-clause-same_ends g c =
     let s = c.args.self.now in
     let set = set_at s.sets c.args.place in
     subst (λ (t : KnownSets). IsRouteOf t.problem.graph (slice_get t.problem.paths c.args.first) (edges_of t.problem c.args.second)) (sym c.self.view_is)
-    (tie_route s.problem set c.args.first c.args.second c.keeps.ensures.kept.problem (c.keeps.ensures.sets c.args.place [] c.requires.place) c.requires.first c.requires.second)
+    (tie_route s.problem set c.args.first c.args.second c.keeps.ensures.kept.problem
+    (c.keeps.ensures.sets c.args.place [] c.requires.place) c.requires.first c.requires.second)
