@@ -14,13 +14,22 @@ mod stop;
 use crate::answer::{Scene, answer};
 use std::io;
 
-fn main(rt: HostRuntime) -> io::Result<()> {
-    let alloc = rt.alloc();
-    let mut scene = Scene::new(alloc);
-    for line in rt.lines(alloc) {
+/// Writes a line, and behind it what is answered.
+fn play(rt: HostRuntime, scene: &mut Scene, line: &str) -> io::Result<()> {
+    let text = answer(rt.alloc(), scene, line)?;
+    println!(rt; "{line}{text}")
+}
+
+/// Plays each line of standard input.
+fn play_all(rt: HostRuntime, scene: &mut Scene) -> io::Result<()> {
+    for line in rt.lines(rt.alloc()) {
         let line = line?;
-        let text = answer(alloc, &mut scene, line.as_str())?;
-        println!(rt; "{line}{text}")?;
+        play(rt, scene, line.as_str())?;
     }
     Ok(())
+}
+
+fn main(rt: HostRuntime) -> io::Result<()> {
+    let mut scene = Scene::new(rt.alloc());
+    play_all(rt, &mut scene)
 }

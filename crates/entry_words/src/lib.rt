@@ -1,6 +1,8 @@
-//! Steps, members, multipliers and entries of trees, as the programs that run scripts write them. No contract speaks of
-//! these words: tests alone read them.
+//! Steps, members, multipliers and entries of trees, as the programs that run scripts write them.
 #![tactic(auto)]
+
+ghost use Rattle.std.specs.Prelude.{◌≡◌};
+ghost use Rattle.path_rows.specs.Text.{step_word};
 
 use cost_base::{Ratio, StepName};
 use path_rows::{Entry, Member, Parts, Side, WideAt};
@@ -8,7 +10,9 @@ use std::fmt;
 use wide_fraction::Wide;
 
 /// The word of a step.
-fn step_word(step: StepName) -> &'static str {
+fn step_word(step: StepName) -> &'static str
+    ensures { result.now ≡ step_word step }
+{
     match step {
         StepName::Add => "add",
         StepName::Sub => "sub",
@@ -43,6 +47,11 @@ impl fmt::Display for Step {
 pub struct Named(pub Member);
 
 impl fmt::Display for Named {
+    ghost use Rattle.std.specs.Prelude.{Some};
+    ghost use Rattle.entry_words.specs.WrittenWords.{member_text};
+
+    ghost output = { λ named. Some (member_text named.0) };
+
     fn fmt<W: fmt::Write>(&self, f: &mut fmt::Formatter<W>) -> fmt::Result {
         match self.0 {
             Member::Low(var, bound) => write!(f, " low{var}={bound}"),
@@ -57,6 +66,11 @@ impl fmt::Display for Named {
 pub struct Part(pub u64, pub u128);
 
 impl fmt::Display for Part {
+    ghost use Rattle.std.specs.Prelude.{Some};
+    ghost use Rattle.entry_words.specs.WrittenWords.{part_text};
+
+    ghost output = { λ part. Some (part_text part.0 part.1) };
+
     fn fmt<W: fmt::Write>(&self, f: &mut fmt::Formatter<W>) -> fmt::Result {
         write!(f, " {}*row{}", self.1, self.0)
     }

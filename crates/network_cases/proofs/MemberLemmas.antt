@@ -18,7 +18,8 @@ use Rattle.network_cases.specs.Members.{TiesWith, wanted_of}
 
 -- the tree of the first path
 pub one_grown : (edges : List ℕ) (others : List Path) (old new : List Step) (inserted : List ℕ) → old ≡ [] → inserted ≡ edges →
-    ((wanted done : List (List ℕ)) → Contains wanted inserted → IsGrown wanted done old → IsGrown wanted (done ++ inserted ∷ []) new) → IsGrown (wanted_of edges others) (edges ∷ []) new
+    ((wanted done : List (List ℕ)) → Contains wanted inserted → IsGrown wanted done old →
+    IsGrown wanted (done ++ inserted ∷ []) new) → IsGrown (wanted_of edges others) (edges ∷ []) new
 one_grown edges others old new inserted none is insert =
     let wanted = wanted_of edges others in
     let has : Contains wanted inserted = subst (Contains wanted) (sym is) (0, omega arith, refl) in
@@ -34,22 +35,33 @@ other_listed first others k d inside = (
 )
 
 -- one path more
-pub tree_more : (first : List ℕ) (others : List Path) (k : ℕ) (d : Path) (old new : List Step) (edges : List ℕ) → k < length others → edges ≡ (get_or others k d).edges → IsGrown (wanted_of first others) (wanted_of first (take k others)) old →
-    ((wanted done : List (List ℕ)) → Contains wanted edges → IsGrown wanted done old → IsGrown wanted (done ++ edges ∷ []) new) → IsGrown (wanted_of first others) (wanted_of first (take (k + 1) others)) new
+pub tree_more : (first : List ℕ) (others : List Path) (k : ℕ) (d : Path) (old new : List Step) (edges : List ℕ) →
+    k < length others → edges ≡ (get_or others k d).edges →
+    IsGrown (wanted_of first others) (wanted_of first (take k others)) old →
+    ((wanted done : List (List ℕ)) → Contains wanted edges → IsGrown wanted done old →
+    IsGrown wanted (done ++ edges ∷ []) new) →
+    IsGrown (wanted_of first others) (wanted_of first (take (k + 1) others)) new
 tree_more first others k d old new edges inside is tree insert =
     let wanted = wanted_of first others in
     let has : Contains wanted edges = subst (Contains wanted) (sym is) (other_listed first others k d inside) in
     let more : map (λ (path : Path). path.edges) (take k others) ++ (get_or others k d).edges ∷ [] ≡ map (λ (path : Path). path.edges) (take (k + 1) others) =
-    sym (ap (map (λ (path : Path). path.edges)) (take_more others k d inside) ∙ map-append (λ (path : Path). path.edges) (take k others) (get_or others k d ∷ [])) in
+    sym (ap (map (λ (path : Path). path.edges)) (take_more others k d inside)
+    ∙ map-append (λ (path : Path). path.edges) (take k others) (get_or others k d ∷ [])) in
     subst (λ (done : List (List ℕ)). IsGrown wanted done new)
     (ap (λ (es : List ℕ). wanted_of first (take k others) ++ es ∷ []) is ∙ ap (λ (rest : List (List ℕ)). first ∷ rest) more)
     (insert wanted (wanted_of first (take k others)) has tree)
 
-pub tree_whole : (first : List ℕ) (others : List Path) (k : ℕ) (tree : List Step) → length others ≤ k → IsGrown (wanted_of first others) (wanted_of first (take k others)) tree → IsGrown (wanted_of first others) (wanted_of first others) tree
-tree_whole first others k tree ended grown = subst (λ (paths : List Path). IsGrown (wanted_of first others) (wanted_of first paths) tree) (take_all k others ended) grown
+pub tree_whole : (first : List ℕ) (others : List Path) (k : ℕ) (tree : List Step) → length others ≤ k →
+    IsGrown (wanted_of first others) (wanted_of first (take k others)) tree →
+    IsGrown (wanted_of first others) (wanted_of first others) tree
+tree_whole first others k tree ended grown =
+    subst (λ (paths : List Path). IsGrown (wanted_of first others) (wanted_of first paths) tree)
+    (take_all k others ended) grown
 
 -- what the separation needs of the tree
-pub tied_tree : (g : Area) (p : Point) (r : Request) (others : List Path) (tree : List Step) → IsPathOf g (ends_of r) r.path.edges → All (TiesWith g p r) others → IsGrown (wanted_of r.path.edges others) (wanted_of r.path.edges others) tree →
+pub tied_tree : (g : Area) (p : Point) (r : Request) (others : List Path) (tree : List Step) →
+    IsPathOf g (ends_of r) r.path.edges → All (TiesWith g p r) others →
+    IsGrown (wanted_of r.path.edges others) (wanted_of r.path.edges others) tree →
     IsTiedTree g p (ends_of r) (cost g p r.path.edges) (wanted_of r.path.edges others) tree
 tied_tree g p r others tree first tie grown = record {
   tree = record {

@@ -1,4 +1,4 @@
--- Several paths of a request that tie.
+-- Several paths of a request that tie. No public clause cites it.
 use Rattle.std.specs.Prelude.{◌≡◌, ℕ, List, ◌∷◌, map}
 use Rattle.area_graph.specs.declared.Path.{Path}
 use Rattle.area_graph.specs.declared.Point.{Point}

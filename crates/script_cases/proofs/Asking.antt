@@ -6,8 +6,8 @@ use Rattle.std.proofs.lemmas.Bool.{cases_lt}
 use Rattle.std.proofs.lemmas.List.{get_or_default}
 use Rattle.std.proofs.lemmas.List.Elements.{All-append, All-cons, All-nil, Contains-push}
 use Rattle.area_graph.specs.declared.Point.{Point}
-use Rattle.path_rows.specs.Forms.{Form, form_at, no_form, value_at}
-use Rattle.form_search.specs.Sources.{AreMet, Grows, HasNewRival, IsAnswered}
+use Rattle.path_rows.specs.Forms.{Form, form_at, no_form, value_at, AreMet}
+use Rattle.form_search.specs.Sources.{Grows, HasNewRival, IsAnswered}
 use Rattle.form_search.specs.declared.source.Asked.{Asked}
 use Rattle.form_search.specs.declared.source.Asked.TheVariants.{Nothing, Added}
 use Rattle.script_cases.specs.SmallForms.{AnswersBelow, AreAsked, IsAskedOf, IsTiny, IsTrueOf, SmallForms, joined}
@@ -25,19 +25,26 @@ listed list k tiny k_in = record {
   tiny = tiny k no_form k_in;
 }
 
-all_below : (forms : List Form) (point : Point) (count : ℕ) → ((k : ℕ) → k < count → pos 0 ≤ℤ value_at (form_at forms k) point) → pos 0 ≤ℤ value_at (form_at forms count) point → (k : ℕ) → k < count + 1 → pos 0 ≤ℤ value_at (form_at forms k) point
+all_below : (forms : List Form) (point : Point) (count : ℕ) →
+    ((k : ℕ) → k < count → pos 0 ≤ℤ value_at (form_at forms k) point) → pos 0 ≤ℤ value_at (form_at forms count) point →
+    (k : ℕ) → k < count + 1 → pos 0 ≤ℤ value_at (form_at forms k) point
 all_below forms point count before here k k_in =
     elim (cases_lt k count) [
       | inl less ↦ before k less
       | inr not ↦ subst (λ (i : ℕ). pos 0 ≤ℤ value_at (form_at forms i) point) (let e : count ≡ k = omega (arith, k_in, not) in e) here
     ]
 
-kept : (list : SmallForms) (point : Point) (count : ℕ) (old mid new : List Form) (asked : Asked) → AnswersBelow list.forms point count old mid asked → pos 0 ≤ℤ value_at (form_at list.forms count) point → new ≡ mid → AnswersBelow list.forms point (count + 1) old new asked
+kept : (list : SmallForms) (point : Point) (count : ℕ) (old mid new : List Form) (asked : Asked) →
+    AnswersBelow list.forms point count old mid asked → pos 0 ≤ℤ value_at (form_at list.forms count) point → new ≡ mid →
+    AnswersBelow list.forms point (count + 1) old new asked
 kept list point count old mid new Nothing answer here same = (same ∙ answer.0, all_below list.forms point count answer.1 here)
 kept list point count old mid new Added answer here same = (answer.0, subst (λ (fs : List Form). HasNewRival point old fs) (sym same) answer.1)
 
 -- one more form
-pub asked_more : (list : SmallForms) (point : Point) (count : ℕ) (old mid new : List Form) (asked : Asked) (added : Bool) → All (IsTiny list.variables) list.forms → AreMet old point → count < length list.forms → AreAsked list point count old mid asked → IsAskedOf point (form_at list.forms count) mid new added → AreAsked list point (count + 1) old new (joined asked added)
+pub asked_more : (list : SmallForms) (point : Point) (count : ℕ) (old mid new : List Form) (asked : Asked)
+    (added : Bool) → All (IsTiny list.variables) list.forms → AreMet old point → count < length list.forms →
+    AreAsked list point count old mid asked → IsAskedOf point (form_at list.forms count) mid new added →
+    AreAsked list point (count + 1) old new (joined asked added)
 asked_more list point count old mid new asked false tiny met count_in before one = record {
   grows = subst (λ (fs : List Form). Grows (IsTrueOf list) old fs) (sym one.1) before.grows;
   answer = kept list point count old mid new asked before.answer one.0 one.1;
@@ -45,7 +52,8 @@ asked_more list point count old mid new asked false tiny met count_in before one
 asked_more list point count old mid new asked true tiny met count_in before one = record {
   grows = record {
     more = before.grows.more ++ form_at list.forms count ∷ [];
-    same = one.1 ∙ ap (λ (fs : List Form). fs ++ form_at list.forms count ∷ []) before.grows.same ∙ append_assoc old before.grows.more (form_at list.forms count ∷ []);
+    same = one.1 ∙ ap (λ (fs : List Form). fs ++ form_at list.forms count ∷ []) before.grows.same
+        ∙ append_assoc old before.grows.more (form_at list.forms count ∷ []);
     more_true =
         All-append (IsTrueOf list) before.grows.more (form_at list.forms count ∷ []) before.grows.more_true
         (All-cons (IsTrueOf list) (form_at list.forms count) [] (listed list count tiny count_in) (All-nil (IsTrueOf list)));
@@ -67,7 +75,9 @@ asked_more list point count old mid new asked true tiny met count_in before one 
     never v negative not = omega (arith, ints)
 
 -- all were asked
-pub asked_all : (list : SmallForms) (point : Point) (count : ℕ) (old new : List Form) (asked : Asked) → length list.forms ≤ count → AreAsked list point count old new asked → IsAnswered (AreMet list.forms) point old new asked
+pub asked_all : (list : SmallForms) (point : Point) (count : ℕ) (old new : List Form) (asked : Asked) →
+    length list.forms ≤ count → AreAsked list point count old new asked →
+    IsAnswered (AreMet list.forms) point old new asked
 asked_all list point count old new Nothing all are = (
   λ k d k_in. subst (λ (f : Form). pos 0 ≤ℤ value_at f point) (sym (get_or_default list.forms k d no_form k_in)) (are.answer.1 k (omega (arith, k_in, all))),
   are.answer.0,

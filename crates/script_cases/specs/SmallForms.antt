@@ -1,8 +1,8 @@
 -- Lists of small forms.
 use Rattle.std.specs.Prelude.{◌≡◌, ℕ, ◌^◌, ◌<◌, ◌≤◌, List, [], ◌∷◌, ◌++◌, pos, ◌<ℤ◌, ◌≤ℤ◌, nat_abs, length, All, Contains, Bool, true, false}
 use Rattle.area_graph.specs.declared.Point.{Point}
-use Rattle.path_rows.specs.Forms.{Form, form_at, terms_of, value_at}
-use Rattle.form_search.specs.Sources.{AreMet, Grows, HasNewRival}
+use Rattle.path_rows.specs.Forms.{Form, form_at, terms_of, value_at, AreMet}
+use Rattle.form_search.specs.Sources.{Grows, HasNewRival}
 use Rattle.form_search.specs.declared.source.Asked.{Asked}
 use Rattle.form_search.specs.declared.source.Asked.TheVariants.{Nothing, Added}
 

@@ -9,19 +9,25 @@ use Rattle.fraction_table.proofs.Solutions.{high_number}
 use Rattle.area_graph.specs.declared.Point.{Point}
 use Rattle.area_graph.specs.Costs.{at_costs}
 use Rattle.path_rows.specs.declared.form.Term.{Term}
-use Rattle.path_rows.specs.Forms.{Form, dot, size_of, terms_from, terms_of, value, value_at}
+use Rattle.path_rows.specs.Forms.{Form, dot, size_of, terms_from, terms_of, value, value_at, AreMet}
 use Rattle.path_rows.proofs.FormSizes.{value_size}
 use Rattle.path_rows.proofs.TermLaws.{sizes_from}
-use Rattle.form_search.specs.Sources.{AreMet, IsTrueForm, scaled}
+use Rattle.form_search.specs.Sources.{IsTrueForm, scaled}
 use Rattle.script_cases.specs.SmallForms.{IsTiny, IsTrueOf, SmallForms}
 
 each_coefficient : (P : ℤ → Type 0) (first : ℕ) (cs : List ℤ) → P (pos 0) → All (λ (t : Term). P t.coefficient) (terms_from first cs) → All P cs
 each_coefficient P first [] none each = All-nil P
 each_coefficient P first (pos zero ∷ cs) none each = All-cons P (pos zero) cs none (each_coefficient P (suc first) cs none each)
 each_coefficient P first (pos (suc n) ∷ cs) none each =
-    All-cons P (pos (suc n)) cs (each 0 (record { var = 0; coefficient = pos 0 }) (omega arith)) (each_coefficient P (suc first) cs none (All-tail (λ (t : Term). P t.coefficient) (record { var = first; coefficient = pos (suc n) }) (terms_from (suc first) cs) each))
+    All-cons P (pos (suc n)) cs (each 0 (record { var = 0; coefficient = pos 0 }) (omega arith))
+    (each_coefficient P (suc first) cs none
+    (All-tail (λ (t : Term). P t.coefficient) (record { var = first; coefficient = pos (suc n) })
+    (terms_from (suc first) cs) each))
 each_coefficient P first (negsuc n ∷ cs) none each =
-    All-cons P (negsuc n) cs (each 0 (record { var = 0; coefficient = pos 0 }) (omega arith)) (each_coefficient P (suc first) cs none (All-tail (λ (t : Term). P t.coefficient) (record { var = first; coefficient = negsuc n }) (terms_from (suc first) cs) each))
+    All-cons P (negsuc n) cs (each 0 (record { var = 0; coefficient = pos 0 }) (omega arith))
+    (each_coefficient P (suc first) cs none
+    (All-tail (λ (t : Term). P t.coefficient) (record { var = first; coefficient = negsuc n })
+    (terms_from (suc first) cs) each))
 
 sum_most : (ts : List Term) → All (λ (t : Term). nat_abs t.coefficient ≤ 4) ts → sum_by (λ (t : Term). nat_abs t.coefficient) ts ≤ 4 * length ts
 sum_most [] each = omega arith
@@ -48,7 +54,8 @@ pub true_forms_hold : (s : SmallForms) (form : Form) → IsTrueOf s form → IsT
 true_forms_hold s form is = record {
   count = is.tiny.count;
   sizes =
-      λ k d k_in. below_four (slice_index_or form.coefficients k d) (each_coefficient (λ (z : ℤ). nat_abs z ≤ 4) 0 form.coefficients (omega arith) is.tiny.sizes k d k_in);
+      λ k d k_in. below_four (slice_index_or form.coefficients k d)
+      (each_coefficient (λ (z : ℤ). nat_abs z ≤ 4) 0 form.coefficients (omega arith) is.tiny.sizes k d k_in);
   values = λ w count each. let size = value_size form w (values_small w each) in let small = small_form s.variables form is.tiny in omega arith;
   met = λ point count met. subst (λ (f : Form). pos 0 ≤ℤ value_at f point) is.listed.2 (met is.listed.0 form is.listed.1);
 }

@@ -143,7 +143,7 @@ impl FormList {
 
 impl RowSource for FormList {
     ghost use Rattle.std.specs.Prelude.{All};
-    ghost use Rattle.form_search.specs.Sources.{AreMet};
+    ghost use Rattle.path_rows.specs.Forms.{AreMet};
     ghost use Rattle.script_cases.specs.SmallForms.{IsTrueOf};
     ghost use Rattle.script_cases.specs.SourceLaws.{scale_is_free, true_forms_hold, true_forms_listed};
 

@@ -10,7 +10,9 @@ loop-path-preserved c =
     let ties = TiesWith c.args.graph.now c.args.point.now c.args.request.now in
     let item : c.path-item.result ≡ get_or c.args.others.now c.loop-path.path-index c.path-item.result = search rules in
     let told : IsTrue c.ties_with.result = search rules in
-    All-more ties c.args.others.now c.loop-path.path-index c.path-item.result c.loop-path-test.true c.loop-path.invariant (subst ties item (c.ties_with.ensures told))
+    All-more ties c.args.others.now c.loop-path.path-index c.path-item.result c.loop-path-test.true
+    c.loop-path.invariant (subst ties item (c.ties_with.ensures told))
 
 pub returns : goal.returns
-returns c = λ told. subst (All (TiesWith c.args.graph.now c.args.point.now c.args.request.now)) (take_all c.loop-path.path-index c.args.others.now c.loop-path-test.false) c.loop-path.invariant
+returns c = λ told. subst (All (TiesWith c.args.graph.now c.args.point.now c.args.request.now))
+    (take_all c.loop-path.path-index c.args.others.now c.loop-path-test.false) c.loop-path.invariant

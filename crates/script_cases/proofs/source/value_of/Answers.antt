@@ -18,7 +18,8 @@ below_four n small = omega arith
 few_steps : (k n : ℕ) → k < n → n ≤ 32 → 2 ^ 120 + k * 2 ^ 118 < 2 ^ 124
 few_steps k n less few = omega arith
 
-sum_small : (sum part : ℤ) (steps : ℕ) → steps < 2 ^ 124 → sum ≤ℤ pos steps → pos 0 ≤ℤ (sum +ℤ pos steps) → nat_abs part ≤ 2 ^ 118 → nat_abs (sum +ℤ part) ≤ 2 ^ 125
+sum_small : (sum part : ℤ) (steps : ℕ) → steps < 2 ^ 124 → sum ≤ℤ pos steps → pos 0 ≤ℤ (sum +ℤ pos steps) →
+    nat_abs part ≤ 2 ^ 118 → nat_abs (sum +ℤ part) ≤ 2 ^ 125
 sum_small sum part steps few most least small = omega (arith, ints)
 
 small_fits : (z : ℤ) → nat_abs z ≤ 2 ^ 125 → SFits w128 z
@@ -31,7 +32,8 @@ loop-term-preserved c =
     let values = c.as_slice-values.result.now in
     let t = get_or ts c.loop-term.term-index none in
     let size : nat_abs t.coefficient ≤ 4 =
-    All-same (λ (u : Term). nat_abs u.coefficient ≤ 4) ts (terms_of c.args.form.now) c.terms-terms.ensures.terms c.requires.tiny.sizes c.loop-term.term-index none c.loop-term-test.true in
+    All-same (λ (u : Term). nat_abs u.coefficient ≤ 4) ts (terms_of c.args.form.now) c.terms-terms.ensures.terms
+    c.requires.tiny.sizes c.loop-term.term-index none c.loop-term-test.true in
     let read = small_read t.coefficient (below_four (nat_abs t.coefficient) size) in
     let term = c.product-sum.ensures.value ∙ ap (λ (z : ℤ). z *ℤ pos (get_or values t.var 0)) read in
     let more = total_more (product_in values) ts c.loop-term.term-index none c.loop-term-test.true in
@@ -42,7 +44,9 @@ loop-term-preserved c =
     let steps = few_steps c.loop-term.term-index (length ts) c.loop-term-test.true count in
     let sum_fits : SFits w128 (to_z w128 c.loop-term.sum-bits +ℤ to_z w128 (of_z w128 c.product-sum.result)) =
     subst (λ (part : ℤ). SFits w128 (to_z w128 c.loop-term.sum-bits +ℤ part)) (sym added)
-    (small_fits _ (sum_small (to_z w128 c.loop-term.sum-bits) c.product-sum.result (2 ^ 120 + c.loop-term.term-index * 2 ^ 118) steps c.loop-term.invariant.most c.loop-term.invariant.least small)) in
+    (small_fits _ (sum_small (to_z w128 c.loop-term.sum-bits) c.product-sum.result
+    (2 ^ 120 + c.loop-term.term-index * 2 ^ 118) steps c.loop-term.invariant.most
+    c.loop-term.invariant.least small)) in
     let whole_sum = to_z-of_z w128 _ sum_fits in
     record {
       whole = omega (arith, ints, whole_sum, added, term, more, c.loop-term.invariant.whole);
