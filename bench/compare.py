@@ -116,7 +116,8 @@ def ratio(run, base):
     if base.found == 'over':
         return '-'
     times = max(run.seconds, LEAST) / max(base.seconds, LEAST)
-    return '%s%.*f' % ('> ' if run.found == 'over' else '', 0 if times >= 10 else 1, times)
+    is_bound = run.found == 'over' or base.seconds < LEAST
+    return '%s%.*f' % ('> ' if is_bound else '', 0 if times >= 10 else 1, times)
 
 
 def line_of(label, problem, runs):
