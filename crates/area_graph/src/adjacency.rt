@@ -1,12 +1,30 @@
 //! Graphs: how one is made, read and copied.
 
 ghost use Rattle.std.specs.Prelude.{◌≡◌, ℕ, ◌<◌, ◌≤◌, ◌^◌, ◌++◌, List, [], ◌∷◌, All, IfOk, OnErr, OnOk, length, replicate, slice_index_or, vec_len};
-ghost use Rattle.area_graph.specs.Area.{FitsGraph, HasMetrics, IsMetric, edges_out, edges_in};
+ghost use Rattle.area_graph.specs.Area.{FitsGraph, HasMetrics, IsMetric, edges_out, edges_in, vertices_of};
 ghost use Rattle.area_graph.specs.Adjacency.{end_on, listed_below};
 
 use crate::{Edge, Graph, Price, Vertex};
 use cost_base::{Listed, OutOfMemory};
 use std::alloc::Global;
+
+/// So many routers and then so many transit subnets, each by its number among its kind.
+///
+/// # Errors
+///
+/// `OutOfMemory` where memory runs out, and never else.
+pub fn vertices_of(alloc: Global, routers: u32, subnets: u32) -> Result<Vec<Vertex>, OutOfMemory>
+    ensures { IfOk result (λ made. made.items ≡ vertices_of routers subnets) }
+{
+    let mut vertices = Vec::new(alloc);
+    for router in 0..routers {
+        vertices.push(Vertex::Router(router))?;
+    }
+    for subnet in 0..subnets {
+        vertices.push(Vertex::Subnet(subnet))?;
+    }
+    Ok(vertices)
+}
 
 /// On which side of a vertex its edges are listed: those out of it, or those into it.
 #[derive(Clone, Copy)]

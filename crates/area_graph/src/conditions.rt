@@ -6,8 +6,17 @@ ghost use Rattle.area_graph.specs.Costs.{FitsPoint, IsPriced};
 
 use crate::{Edge, Graph, Point, Price, Vertex};
 
-/// The most routers that a graph may have.
-const MOST_ROUTERS: usize = 1000;
+/// The most routers that a graph may have: a limit of this program.
+pub const MOST_ROUTERS: usize = 1000;
+
+/// Vertices and edges are fewer than this: they are numbered by 32 bits.
+const NUMBERS: usize = 1 << 32;
+
+/// The scale of a point is less than this: a limit of this program, under which sums of costs don't overflow.
+const SCALES: u128 = 1 << 100;
+
+/// The greatest interface cost: a link's metric has 16 bits (RFC 2328, A.4.2).
+const GREATEST_COST: u128 = 65_535;
 
 /// Whether vertices and edges make a graph: the ends of each edge are vertices; the price is nothing exactly on edges
 /// out of a subnet, and no fixed price is 0 (RFC 2328, A.4.3); each edge out of a subnet leads to a router; there are
@@ -15,8 +24,8 @@ const MOST_ROUTERS: usize = 1000;
 pub fn fits_graph(vertices: &[Vertex], edges: &[Edge]) -> bool
     ensures { IsTrue result ↔ FitsGraph (record { vertices = vertices.now; edges = edges.now }) }
 {
-    vertices.len() < 1 << 32
-        && edges.len() < 1 << 32
+    vertices.len() < NUMBERS
+        && edges.len() < NUMBERS
         && count_routers(vertices) <= MOST_ROUTERS
         && edges_fit(vertices, edges)
 }
@@ -90,9 +99,11 @@ pub fn point_fits(graph: &Graph, point: &Point) -> bool
 {
     let values = point.values.as_slice();
     0 < point.scale
-        && point.scale < 1 << 100
+        && point.scale < SCALES
         && values.iter().all(|value| point.scale <= *value)
-        && values.iter().all(|value| *value <= 65535 * point.scale)
+        && values
+            .iter()
+            .all(|value| *value <= GREATEST_COST * point.scale)
         && graph
             .edges()
             .iter()

@@ -15,6 +15,9 @@ use crate::{Graph, Path, Point};
 use cost_base::OutOfMemory;
 use std::alloc::Global;
 
+/// What no path costs at scale 1: one over at most 1,000 routers, each left at a cost of at most 65535, costs less.
+const FAR: u128 = 1 << 26;
+
 /// The least costs of the vertices to a target: a vertex from which no path leads there has 2^26 times the scale.
 fn distances_to(
     alloc: Global,
@@ -36,7 +39,7 @@ fn distances_to(
         point,
         removal,
         target,
-        (1 << 26) * point.scale,
+        FAR * point.scale,
         &mut distances,
     );
     Ok(distances)

@@ -15,6 +15,16 @@ pub fn edge_of(graph: &Graph, number: u32) -> Edge
     graph.edges()[number as usize]
 }
 
+/// The vertex where an edge ends, 0 where there is no edge of that number. Takes no memory.
+pub fn far_end(graph: &Graph, number: u32) -> u32
+    ensures { result ≡ (edge_at graph.now number).to }
+{
+    match graph.edges().get(number as usize) {
+        Some(edge) => edge.to,
+        None => 0,
+    }
+}
+
 /// Whether a path is a simple path to `end`: its start and end are vertices, its edges are edges of the graph that
 /// join from start to end, and no vertex comes twice. Takes no memory: it looks back along the path at each edge.
 pub fn is_simple(graph: &Graph, path: &Path, end: u32) -> bool

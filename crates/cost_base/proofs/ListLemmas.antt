@@ -1,10 +1,11 @@
 -- Lists: numbers in a row, maps and filters over them, tests of images, a list with one more element, what a list lacks, and two lists together.
 use Rattle.std.proofs.Common.{◌≡◌, ◌≢◌, ℕ, zero, suc, ◌+◌, ◌<◌, ◌≤◌, refl, sym, ◌∙◌, ap, subst, List, [], ◌∷◌, ◌++◌, All, Bool, true, false, cond, ◌||◌, filter, map, length, get_or, arith, Option, None, Some, append_assoc, zero-add}
-use Rattle.std.specs.List.{AllZip, list_any}
+use Rattle.std.specs.List.{AllZip, cons_option, list_any}
 use Rattle.std.specs.Option.{option_or}
-use Rattle.std.proofs.lemmas.Bool.{false≢true}
+use Rattle.std.proofs.lemmas.Bool.{false_from_ne_true, false≢true}
 use Rattle.std.proofs.lemmas.List.{length-map, map-append}
 use Rattle.std.proofs.lemmas.List.Elements.{All-cons, All-head, All-nil, All-tail}
+use Rattle.std.proofs.lemmas.List.Folds.{list_any_at}
 use native.Mathlib.Decide.{ℕ_discrete}
 use Rattle.cost_base.specs.Lists.{numbers_from, first_of, last_of, Lacks, NoneTwice}
 
@@ -106,6 +107,15 @@ same_test true b there back = sym (there refl)
 same_test false true there back = back refl
 same_test false false there back = refl
 
+-- a test that no element passes, at one of them
+pub none_passes : {X : Type 0} (p : X → Bool) (xs : List X) → list_any p xs ≡ false → (k : ℕ) (d : X) → k < length xs → p (get_or xs k d) ≡ false
+none_passes p xs none k d within = false_from_ne_true (p (get_or xs k d)) (λ passes. false≢true (sym none ∙ list_any_at p xs k d within passes))
+
+-- a list of which a function makes none is none
+pub none_mapped : {X Y : Type 0} (f : X → Y) (xs : List X) → map f xs ≡ [] → xs ≡ []
+none_mapped f [] none = refl
+none_mapped f (x ∷ xs) none = cc
+
 -- One more element, and none.
 
 pub length-push : {X : Type 0} (xs : List X) (x : X) → length (xs ++ x ∷ []) ≡ suc (length xs)
@@ -120,6 +130,12 @@ append-none (x ∷ xs) ys none = absurd (cc)
 pub first_of-push : {X : Type 0} (xs : List X) (x : X) → first_of (xs ++ x ∷ []) ≡ option_or (first_of xs) (Some x)
 first_of-push [] x = refl
 first_of-push (y ∷ xs) x = refl
+
+-- the first of a list with one more or none
+pub first_of-push_option : {X : Type 0} (o : Option X) (xs : List X) → first_of (xs ++ cons_option o []) ≡ option_or (first_of xs) o
+first_of-push_option None [] = refl
+first_of-push_option None (x ∷ xs) = refl
+first_of-push_option (Some x) xs = first_of-push xs x
 
 pub last_of-push : {X : Type 0} (xs : List X) (x : X) → last_of (xs ++ x ∷ []) ≡ Some x
 last_of-push [] x = refl
@@ -189,6 +205,13 @@ All-left P (x ∷ xs) ys all = All-cons P x xs (All-head P x (xs ++ ys) all) (Al
 pub All-right : {X : Type 0} (P : X → Type 0) (xs ys : List X) → All P (xs ++ ys) → All P ys
 All-right P [] ys all = all
 All-right P (x ∷ xs) ys all = All-right P xs ys (All-tail P x (xs ++ ys) all)
+
+-- two lists side by side are as long as each other
+pub length_zip : {X Y : Type 0} (R : X → Y → Type 0) (xs : List X) (ys : List Y) → AllZip R xs ys → length xs ≡ length ys
+length_zip R [] [] zip = refl
+length_zip R [] (y ∷ ys) zip = absurd zip
+length_zip R (x ∷ xs) [] zip = absurd zip
+length_zip R (x ∷ xs) (y ∷ ys) zip = ap suc (length_zip R xs ys zip.1)
 
 -- one more of both lists
 pub zip_push : {X Y : Type 0} (R : X → Y → Type 0) (xs : List X) (ys : List Y) (x : X) (y : Y) → AllZip R xs ys → R x y → AllZip R (xs ++ x ∷ []) (ys ++ y ∷ [])

@@ -83,6 +83,13 @@ pub with_ends-append : (xs ys : List (List ℕ)) → with_ends (xs ++ ys) ≡ wi
 with_ends-append [] ys = refl
 with_ends-append (x ∷ xs) ys = ap (λ bytes. (x ++ 10 ∷ []) ++ bytes) (with_ends-append xs ys) ∙ sym (append_assoc (x ++ 10 ∷ []) (with_ends xs) (with_ends ys))
 
+-- lines behind a text, in two parts
+pub lines_behind : (old middle new : List ℕ) (first later : List (List ℕ)) → middle ≡ old ++ with_ends first →
+    new ≡ middle ++ with_ends later → new ≡ old ++ with_ends (first ++ later)
+lines_behind old middle new first later one two =
+    two ∙ ap (λ (bytes : List ℕ). bytes ++ with_ends later) one ∙ append_assoc old (with_ends first) (with_ends later)
+    ∙ ap (λ (bytes : List ℕ). old ++ bytes) (sym (with_ends-append first later))
+
 -- the lines of a text that is ended, and then those of what follows
 pub lines-ended : (bytes rest : List ℕ) → lines (ended bytes ++ rest) ≡ lines bytes ++ lines rest
 lines-ended [] rest = refl

@@ -5,9 +5,8 @@ use Prim.Native.Nat.{◌∣◌}
 use native.Mathlib.Nat.{div-mul_cancel, dvd-mul_left, dvd-mul_right, mul_comm, mul_assoc}
 use Rattle.whole_numbers.specs.Fractions.{Fraction, StandsFor, gcd, lcm, plus, minus}
 use Rattle.whole_numbers.proofs.Ring.{var, ◌⊕◌, ◌⊖◌, ◌⊗◌, ring}
-use Rattle.whole_numbers.proofs.Divisors.{gcd_is}
+use Rattle.whole_numbers.proofs.Divisors.{gcd_is, quotient_positive}
 use Rattle.whole_numbers.proofs.FractionLaws.{plus_stands, minus_stands, stands_less, product_positive}
-use Rattle.whole_numbers.proofs.Sums.{quotient_positive}
 
 -- the least common multiple is a multiple of both
 pub right_divides_lcm : (a b : ℕ) → b ∣ lcm a b
@@ -27,7 +26,7 @@ pub lcm_positive : (a b : ℕ) → 0 < a → 0 < b → 0 < lcm a b
 lcm_positive a b a_positive b_positive =
     let g = gcd a b in
     let divides = gcd_is a b in
-    product_positive (a / g) b (quotient_positive (a / g) g (subst (λ (n : ℕ). 0 < n) (sym (div-mul_cancel g divides.0)) a_positive)) b_positive
+    product_positive (a / g) b (quotient_positive a g a_positive divides.0) b_positive
 
 -- over a multiple of its denominator a fraction stands for a whole number
 pub stands_over : (q : Fraction) (L : ℕ) → q.denominator ∣ L → StandsFor q (q.numerator *ℤ pos (L / q.denominator)) L

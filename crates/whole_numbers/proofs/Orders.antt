@@ -29,20 +29,6 @@ same_int_cmp x y z w less equal greater =
     int_cmp_is z w (int_cmp x y) (match_moved (int_cmp x y) (x <ℤ y) (x ≡ y) (y <ℤ x) (z <ℤ w) (z ≡ w)
     (w <ℤ z) less equal greater (int_ranked x y (int_cmp x y) refl))
 
--- numbers and whole numbers are ordered alike, and the other way round with the other sign
-pub nat_int_cmp : (x y : ℕ) → nat_cmp x y ≡ int_cmp (pos x) (pos y)
-nat_int_cmp x y =
-    int_cmp_is (pos x) (pos y) (nat_cmp x y)
-    (match_moved (nat_cmp x y) (x < y) (x ≡ y) (y < x) (pos x <ℤ pos y) (pos x ≡ pos y) (pos y <ℤ pos x)
-    (λ h. omega (arith, ints, h)) (λ e. ap pos e) (λ h. omega (arith, ints, h)) (ranked x y (nat_cmp x y) refl))
-
-pub nat_int_cmp-neg : (x y : ℕ) → nat_cmp y x ≡ int_cmp (neg_ℤ (pos x)) (neg_ℤ (pos y))
-nat_int_cmp-neg x y =
-    int_cmp_is (neg_ℤ (pos x)) (neg_ℤ (pos y)) (nat_cmp y x)
-    (match_moved (nat_cmp y x) (y < x) (y ≡ x) (x < y) (neg_ℤ (pos x) <ℤ neg_ℤ (pos y))
-    (neg_ℤ (pos x) ≡ neg_ℤ (pos y)) (neg_ℤ (pos y) <ℤ neg_ℤ (pos x)) (λ h. omega (arith, ints, h))
-    (λ e. ap (λ (n : ℕ). neg_ℤ (pos n)) (sym e)) (λ h. omega (arith, ints, h)) (ranked y x (nat_cmp y x) refl))
-
 -- whole parts that differ decide the order of a/b and c/d
 wholes_decide : (a b c d : ℕ) → 0 < b → 0 < d → a / b < c / d → a * d < c * b
 wholes_decide a b c d b_positive d_positive less =
@@ -92,36 +78,10 @@ pub reciprocals_cmp : (a b c d : ℕ) → 0 < b → 0 < d → a / b ≡ c / d �
 reciprocals_cmp a b c d b_positive d_positive same =
     ap₂ nat_cmp (mul_comm d (a % b)) (mul_comm b (c % d)) ∙ rests_cmp a b c d b_positive d_positive same
 
--- a/b and c/d by signs and sizes
-pub positive_cmp : (a c : ℤ) (b d : ℕ) → pos 0 ≤ℤ a → pos 0 ≤ℤ c → nat_cmp (nat_abs a * d) (nat_abs c * b) ≡ int_cmp (a *ℤ pos d) (c *ℤ pos b)
-positive_cmp (pos m) (pos n) b d h k = nat_int_cmp (m * d) (n * b)
-positive_cmp (pos m) (negsuc n) b d h k = absurd (omega (arith, ints))
-positive_cmp (negsuc m) c b d h k = absurd (omega (arith, ints))
-
-pub negative_cmp : (a c : ℤ) (b d : ℕ) → a <ℤ pos 0 → c <ℤ pos 0 → nat_cmp (nat_abs c * b) (nat_abs a * d) ≡ int_cmp (a *ℤ pos d) (c *ℤ pos b)
-negative_cmp (pos m) c b d h k = absurd (omega (arith, ints))
-negative_cmp (negsuc m) (pos n) b d h k = absurd (omega (arith, ints))
-negative_cmp (negsuc m) (negsuc n) b d h k = nat_int_cmp-neg (suc m * d) (suc n * b)
-
+-- a positive factor keeps a sign
 pub negative_product : (a : ℤ) (d : ℕ) → a <ℤ pos 0 → 0 < d → (a *ℤ pos d) <ℤ pos 0
 negative_product (pos m) d h d_positive = absurd (omega (arith, ints))
 negative_product (negsuc m) d h d_positive = let p = product_positive (suc m) d (omega arith) d_positive in omega (arith, ints, p)
-
-positive_product : (a : ℤ) (d : ℕ) → pos 0 ≤ℤ a → pos 0 ≤ℤ (a *ℤ pos d)
-positive_product (pos m) d h = omega (arith, ints)
-positive_product (negsuc m) d h = absurd (omega (arith, ints))
-
-pub less_cmp : (a c : ℤ) (b d : ℕ) → 0 < d → a <ℤ pos 0 → pos 0 ≤ℤ c → Less ≡ int_cmp (a *ℤ pos d) (c *ℤ pos b)
-less_cmp a c b d d_positive h k =
-    let left = negative_product a d h d_positive in
-    let right = positive_product c b k in
-    int_cmp_is (a *ℤ pos d) (c *ℤ pos b) Less (omega (arith, ints, left, right))
-
-pub greater_cmp : (a c : ℤ) (b d : ℕ) → 0 < b → pos 0 ≤ℤ a → c <ℤ pos 0 → Greater ≡ int_cmp (a *ℤ pos d) (c *ℤ pos b)
-greater_cmp a c b d b_positive h k =
-    let left = positive_product a d h in
-    let right = negative_product c b k b_positive in
-    int_cmp_is (a *ℤ pos d) (c *ℤ pos b) Greater (omega (arith, ints, left, right))
 
 -- a positive factor keeps the order
 scaled_less : (a c : ℤ) (b : ℕ) → 0 < b → a <ℤ c → (a *ℤ pos b) <ℤ (c *ℤ pos b)
@@ -160,14 +120,7 @@ sign_stands q m D q_positive D_positive is =
     ∙ ap₂ int_cmp is (ring (pos D ∷ pos q.denominator ∷ []) (num (pos 0) ⊗ var 0) (num (pos 0) ⊗ var 1) refl)
     ∙ sym (scaled_cmp m (pos 0) q.denominator q_positive)
 
--- the whole number below a fraction that isn't negative, and below one that is
-pub floor_positive : (n : ℤ) (d : ℕ) → 0 < d → pos 0 ≤ℤ n → IsFloor (record { numerator = n; denominator = d }) (pos (nat_abs n / d))
-floor_positive (pos n) d d_positive h =
-    let below : n / d * d ≤ n = div-mul-le_self n d in
-    let above : n < n / d * d + d = lt-div-mul-add d_positive in
-    record { not_above = omega (arith, ints, below); greatest = omega (arith, ints, above) }
-floor_positive (negsuc n) d d_positive h = absurd (omega (arith, ints))
-
+-- the whole number below a fraction that is negative
 pub floor_negative : (n : ℤ) (d : ℕ) → 0 < d → n <ℤ pos 0 → IsFloor (record { numerator = n; denominator = d }) (negsuc ((nat_abs n - 1) / d))
 floor_negative (pos n) d d_positive h = absurd (omega (arith, ints))
 floor_negative (negsuc n) d d_positive h =

@@ -6,13 +6,9 @@ use Prim.Native.Nat.{◌∣◌}
 use native.Mathlib.Nat.{div-mul_cancel, mul-div_assoc, dvd-mul_right, mul-zero}
 use Rattle.whole_numbers.specs.Fractions.{Fraction, IsLowest, StandsFor, gcd, over, plus, times}
 use Rattle.whole_numbers.proofs.Ring.{var, num, ◌⊕◌, ◌⊖◌, ◌⊗◌, neg, ring_by, nothing, using}
-use Rattle.whole_numbers.proofs.Divisors.{gcd_is, gcd_positive}
+use Rattle.whole_numbers.proofs.Divisors.{gcd_is, gcd_positive, quotient_positive}
 use Rattle.whole_numbers.proofs.FractionLaws.{cancel, over-mul, nat_abs-over, product_positive, reduced_lowest, reduced_stands}
-use Rattle.whole_numbers.proofs.Sums.{Apart, apart_from_gcd, gcd_from_apart, apart-swap, apart-product, apart-part, quotients_apart, quotient_positive, sum_lowest, lowest_unique}
-
--- a number over a divisor of it is positive where the number is
-part_positive : (n g : ℕ) → (n / g) * g ≡ n → 0 < n → 0 < n / g
-part_positive n g e n_positive = quotient_positive (n / g) g (subst (λ (m : ℕ). 0 < m) (sym e) n_positive)
+use Rattle.whole_numbers.proofs.Sums.{Apart, apart_from_gcd, gcd_from_apart, apart-swap, apart-product, apart-part, quotients_apart, sum_lowest, lowest_unique}
 
 -- the numbers of a sum: with g = gcd(b, d), s = a(d/g) + c(b/g) and h = gcd(s, g) the sum is s/h over (b/g)(d/h)
 pub sum_exact : (p q : Fraction) → IsLowest p → IsLowest q → (s : ℤ) →
@@ -36,9 +32,9 @@ sum_exact p q p_lowest q_lowest s s_is =
     let b_is = div-mul_cancel g g_divides.0 in
     let d_is = div-mul_cancel g g_divides.1 in
     let k_is = div-mul_cancel h h_divides.1 in
-    let b_positive : 0 < b = part_positive p.denominator g b_is p_lowest.positive in
-    let d_positive : 0 < d = part_positive q.denominator g d_is q_lowest.positive in
-    let k_positive : 0 < k = part_positive g h k_is g_positive in
+    let b_positive : 0 < b = quotient_positive p.denominator g p_lowest.positive g_divides.0 in
+    let d_positive : 0 < d = quotient_positive q.denominator g q_lowest.positive g_divides.1 in
+    let k_positive : 0 < k = quotient_positive g h g_positive h_divides.1 in
     let whole_part : q.denominator / h ≡ d * k = ap (λ (n : ℕ). n / h) (sym d_is) ∙ mul-div_assoc h d h_divides.1 in
     let p_apart : Apart (nat_abs p.numerator) (b * g) =
     subst (λ (n : ℕ). Apart (nat_abs p.numerator) n) (sym b_is)
@@ -104,8 +100,8 @@ product_exact p q p_lowest q_lowest =
     let h_positive : 0 < h = gcd_positive (nat_abs q.numerator) p.denominator p_lowest.positive in
     let b_is = div-mul_cancel h h_divides.1 in
     let d_is = div-mul_cancel g g_divides.1 in
-    let b_positive : 0 < b = part_positive p.denominator h b_is p_lowest.positive in
-    let d_positive : 0 < d = part_positive q.denominator g d_is q_lowest.positive in
+    let b_positive : 0 < b = quotient_positive p.denominator h p_lowest.positive h_divides.1 in
+    let d_positive : 0 < d = quotient_positive q.denominator g q_lowest.positive g_divides.1 in
     let a_part : a ∣ nat_abs p.numerator = subst (λ (n : ℕ). a ∣ n) (div-mul_cancel g g_divides.0) (dvd-mul_right a g) in
     let c_part : c ∣ nat_abs q.numerator = subst (λ (n : ℕ). c ∣ n) (div-mul_cancel h h_divides.0) (dvd-mul_right c h) in
     let b_part : b ∣ p.denominator = subst (λ (n : ℕ). b ∣ n) b_is (dvd-mul_right b h) in

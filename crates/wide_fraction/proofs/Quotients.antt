@@ -3,16 +3,9 @@ use Rattle.std.proofs.Common.{◌≡◌, ◌≢◌, ℕ, zero, suc, ◌*◌, ◌
 use Rattle.std.specs.Prelude.{◌↔◌, ℤ, pos, negsuc, ◌*ℤ◌, neg_ℤ, nat_abs}
 use native.Mathlib.Nat.{mul_comm}
 use Rattle.whole_numbers.specs.Fractions.{Fraction, StandsFor, reduced, divided, negated}
-use Rattle.whole_numbers.proofs.Ring.{var, num, ◌⊗◌, neg, ring, ring_by, nothing, using}
-use Rattle.whole_numbers.proofs.FractionLaws.{cancel, product_positive, negated_stands, divided_stands}
+use Rattle.whole_numbers.proofs.Ring.{var, num, ◌⊗◌, neg, ring}
+use Rattle.whole_numbers.proofs.FractionLaws.{cancel, product_positive, stands_more, negated_stands, divided_stands}
 use Rattle.wide_fraction.specs.Laws.{signed_by}
-
--- a fraction stands for the number over its denominator also where both are multiplied
-stands_more : (q : Fraction) (m : ℤ) (D k : ℕ) → StandsFor q m D → StandsFor q (m *ℤ pos k) (D * k)
-stands_more q m D k is =
-    ring_by (q.numerator ∷ pos q.denominator ∷ m ∷ pos D ∷ pos k ∷ [])
-    (var 0 ⊗ (var 3 ⊗ var 4)) ((var 2 ⊗ var 4) ⊗ var 1)
-    (using (var 4) (var 0 ⊗ var 3) (var 2 ⊗ var 1) is nothing) refl
 
 -- the signs of both leave the quotient as it is
 both_negated : (a : ℤ) (b : ℕ) (n : ℤ) (d : ℕ) →

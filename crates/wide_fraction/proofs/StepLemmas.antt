@@ -2,11 +2,12 @@
 use Rattle.std.proofs.Common.{◌≡◌, ℕ, suc, ◌^◌, ◌<◌, ◌≤◌, ◌*◌, ◌/◌, refl, sym, ◌∙◌, ap, subst, inl, inr, arith, List, [], ◌∷◌}
 use Rattle.std.specs.Prelude.{ℤ, pos, negsuc, neg_ℤ, nat_abs, ◌+ℤ◌, ◌*ℤ◌, Any, All, Some}
 use Rattle.std.proofs.lemmas.List.Elements.{All-cons, All-nil}
-use Rattle.std.proofs.lemmas.Int.{ints, unsigned_abs-mul}
+use Rattle.std.proofs.lemmas.Int.{unsigned_abs-mul}
 use native.Mathlib.Nat.{div-le_self, div-one}
 use mathlib.Core.Path.{ap₂}
+use Rattle.whole_numbers.proofs.Laws.{times_one}
 use Rattle.whole_numbers.specs.Fractions.{Fraction, IsLowest, gcd, over, plus, times, whole, listed_of_sum, listed_of_product}
-use Rattle.whole_numbers.proofs.FractionLaws.{nat_abs-over, product_positive, reduced_lowest}
+use Rattle.whole_numbers.proofs.FractionLaws.{nat_abs-over, product_positive, reduced_lowest, whole_lowest}
 use Rattle.whole_numbers.proofs.Divisors.{gcd-one}
 use Rattle.whole_numbers.proofs.Steps.{sum_exact, product_exact}
 use Rattle.wide_fraction.specs.Widths.{IsKept, IsAnswer, IsCrossWide, IsCrossWithin, IsWithin}
@@ -269,12 +270,6 @@ product_kept top p q g h x y b d z m top_fits p_lowest q_lowest multiplies above
       denominator = omega arith;
     }
 
-whole_lowest : (a : ℤ) → IsLowest (whole a)
-whole_lowest a = record { positive = omega arith; lowest = gcd-one (nat_abs a) }
-
-times_one : (a : ℤ) → (a *ℤ pos 1) ≡ a
-times_one a = omega (arith, ints)
-
 over_one : (a : ℤ) → over a 1 ≡ a
 over_one (pos n) = ap pos (div-one n)
 over_one (negsuc n) = ap (λ (m : ℕ). neg_ℤ (pos m)) (div-one (suc n))
@@ -330,7 +325,3 @@ pub whole_answer : (most top : ℕ) (made : List ℕ) (exact q : Fraction) (n : 
     IsAnswer most made exact (Some (whole n)) → IsAnswer top made exact (Some q)
 whole_answer most top made exact q n top_is q_is answer =
     subst (λ (r : Fraction). IsAnswer top made exact (Some r)) (sym q_is) (subst (λ (t : ℕ). IsAnswer t made exact (Some (whole n))) top_is answer)
-
--- a fraction over 1 is whole
-pub whole_seen : (q : Fraction) → q.denominator ≡ 1 → whole q.numerator ≡ q
-whole_seen q e = ap (λ (d : ℕ). record { numerator = q.numerator; denominator = d }) (sym e)
