@@ -12,7 +12,7 @@ use Rattle.path_rows.specs.Boxes.{upper, upper_sum, greatest, with_low, with_hig
 use Rattle.path_rows.specs.Trees.{IsSmaller, removed, TightensAt}
 use Rattle.path_rows.specs.Earnest.{at_bound}
 use Rattle.bound_propagation.specs.Ranges.{IsExactBound, HasNoBound}
-use Rattle.bound_propagation.specs.Tightening.{IsExactTightening, NoneBefore}
+use Rattle.bound_propagation.specs.Tightening.{IsExactTightening, NoneAt, NoneBefore}
 use Rattle.bound_propagation.proofs.Ranges.{no_bound}
 use Rattle.path_rows.proofs.TermLaws.{terms_known, term_coefficient, term_or_zero}
 use Rattle.std.proofs.lemmas.Bool.{cases_lt}
@@ -146,10 +146,6 @@ tightens_at forms box side var value row known step =
       row_known = known;
       refuted = step.refuted;
     }
-
--- of a variable the form refutes no part at an end that leaves something of its range
-abbrev pub NoneAt : Form → CostBox → ℕ → Type 0
-NoneAt f box var = (side : Side) (value : ℕ) → IsSmaller box side var value → greatest f (removed box side var value) <ℤ pos 0 → ⊥
 
 -- with coefficient 0 no part is refuted
 none_of_zero : (f : Form) (box : CostBox) (var slack : ℕ) → var < length f.coefficients →

@@ -15,7 +15,10 @@ pub record IsExactTightening (form : Form) (box : CostBox) (side : Side) (var va
   pub refuted : greatest form (removed box side var value) <ℤ pos 0
   pub exact : pos 0 ≤ℤ greatest form (at_bound box var value)
 
--- of each variable before the given number, the form refutes no part at an end that leaves something of its range
+-- of a variable the form refutes no part at an end that leaves something of its range
+abbrev pub NoneAt : Form → CostBox → ℕ → Type 0
+NoneAt form box var = (side : Side) (value : ℕ) → IsSmaller box side var value → greatest form (removed box side var value) <ℤ pos 0 → ⊥
+
+-- and so of each variable before the given number
 abbrev pub NoneBefore : Form → CostBox → ℕ → Type 0
-NoneBefore form box count =
-    (var : ℕ) → var < count → (side : Side) (value : ℕ) → IsSmaller box side var value → greatest form (removed box side var value) <ℤ pos 0 → ⊥
+NoneBefore form box count = (var : ℕ) → var < count → NoneAt form box var

@@ -21,7 +21,7 @@ use Rattle.path_rows.specs.Rows.{IsFit, IsRivalOf, IsRow, LeadsEach, box_of, for
 use Rattle.path_rows.specs.Boxes.{capped}
 use Rattle.path_rows.specs.Answers.{greatest_bound}
 use Rattle.path_rows.proofs.OpenPlaces.{earnest_tree_sound}
-use Rattle.path_rows.proofs.ProblemTrees.{le_greatest, tree_leaves_none}
+use Rattle.path_rows.proofs.ProblemTrees.{low_below, tree_leaves_none}
 use Rattle.path_rows.proofs.RestrictedProblems.{restricted_kept}
 use Rattle.conflict_core.specs.declared.deciding.SetTree.{SetTree}
 use Rattle.conflict_core.specs.Conflicts.{IsConflict, IsRequestSet, all_requests}
@@ -111,14 +111,6 @@ all_set p members is = subst (IsRequestSet p) (sym is) (record {
       let here = get_or-numbers_from 0 n k d within in
       omega arith;
 })
-
--- no lower bound is above the greatest upper bound
-pub low_below : (p : DesignProblem) → IsProblem p → All (λ low. low ≤ greatest_bound p) p.low
-low_below p kept k d k_in =
-    let ordered = (kept.ordered k k_in).1 in
-    let most = le_greatest p.high k (omega (arith, kept.low_count)) in
-    let same = get_or_default p.low k 0 d k_in in
-    omega arith
 
 -- Rows of a restricted problem.
 

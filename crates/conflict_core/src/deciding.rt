@@ -7,8 +7,7 @@ ghost use Rattle.conflict_core.specs.Deciding.{IsSetDecided};
 use advisor_box::Advisor;
 use cost_base::OutOfMemory;
 use cost_branching::{Found, Pool, decide, keeps_conditions};
-use path_rows::{CostList, Problem, Tree};
-use printed_rows::greatest_of;
+use path_rows::{CostList, Problem, Tree, greatest_of};
 use std::alloc::Global;
 use wide_fraction::Limits;
 

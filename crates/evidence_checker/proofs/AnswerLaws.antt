@@ -3,7 +3,6 @@ use Rattle.std.proofs.Common.{◌≡◌, ℕ, ◌+◌, ◌≤◌, refl, sym, ◌
 use Rattle.std.specs.Prelude.{slice_index, Option, Some, None, All}
 use Rattle.std.specs.List.{AllZip}
 use native.Mathlib.Decide.{ℕ_discrete}
-use Rattle.std.proofs.lemmas.List.{get_or_default}
 use Rattle.std.proofs.lemmas.List.Elements.{All-tail}
 use Rattle.std.proofs.lemmas.Bool.{cases_lt}
 use Rattle.cost_base.specs.Order.{NoneOf}
@@ -21,7 +20,7 @@ use Rattle.path_rows.specs.declared.problem.VarName.{VarName}
 use Rattle.path_rows.specs.declared.tree.Entry.{Entry}
 use Rattle.path_rows.specs.Problems.{DesignProblem, IsProblem}
 use Rattle.path_rows.specs.Boxes.{capped}
-use Rattle.path_rows.proofs.ProblemTrees.{le_greatest}
+use Rattle.path_rows.proofs.ProblemTrees.{low_below}
 use Rattle.path_rows.specs.Rows.{IsRow, box_of, forms_of_rows}
 use Rattle.path_rows.specs.Trees.{Sound, IsSoundTree, IsClosed, subboxes}
 use Rattle.path_rows.specs.Answers.{AnswerParts, Proves, ShowsLeast, ClaimHolds, IsValid, greatest_bound}
@@ -31,19 +30,11 @@ use Rattle.evidence_checker.specs.declared.stop.CheckStop.TheVariants.{Refused, 
 use Rattle.evidence_checker.specs.Refusals.{Fault, OnWhole, AtFirstItem, StopsBy}
 use Rattle.evidence_checker.specs.Laws.{IsAcceptedAs, RefusesInvalid, CostsHold, ProofHolds}
 use Rattle.evidence_checker.specs.Tests.{ClaimsNothing, ShapeOfLeast, ShapeOfClaim, HasWrongShape, NamesPlaces, IsFalseFloor, cost_tests, row_tests, line_tests, AtFirstLine, proof_tests, tests}
-use Rattle.evidence_checker.proofs.CostLaws.{names_written}
+use Rattle.path_rows.proofs.GivenCosts.{names_written}
 use Rattle.evidence_checker.proofs.CostTests.{TestsAt, passes}
 use Rattle.evidence_checker.proofs.LineLaws.{sound_meets_none}
 use Rattle.evidence_checker.proofs.RowLaws.{row_meets_none}
 use Rattle.evidence_checker.proofs.StopLaws.{none_first, none_left_right, none_refused, stop_left, stop_right}
-
--- no lower bound is above the greatest upper bound
-no_higher : (p : DesignProblem) → IsProblem p → All (λ low. low ≤ greatest_bound p) p.low
-no_higher p kept k d k_in =
-    let ordered = kept.ordered k k_in in
-    let most = le_greatest p.high k (omega (arith, kept.low_count)) in
-    let same = get_or_default p.low k d 0 k_in in
-    omega (arith, ordered.1)
 
 least_is_shown : (p : DesignProblem) (rows : List Row) (k : ℕ) (floor : Floor) (proof : Option CapTree) →
     ShapeOfLeast p k floor proof → (IsFalseFloor p k floor → ⊥) → ProofHolds p rows proof →
@@ -69,7 +60,7 @@ claim_of p rows (Optimal k) None floor proof kept shape costs_hold holds = absur
 claim_of p rows Impossible None Absent (Some proof) kept shape costs_hold holds =
     record {
       at_cap = shape;
-      no_higher = no_higher p kept;
+      no_higher = low_below p kept;
       sound = subst (λ (cap : ℕ). IsSoundTree (forms_of_rows p rows) (capped (box_of p) cap) proof.tree) shape holds.0;
       closed = holds.1;
     }

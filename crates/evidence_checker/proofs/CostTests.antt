@@ -1,7 +1,7 @@
 -- The tests of an optimal answer's costs, in their order: those that are passed, and the first that is met.
 use Rattle.std.proofs.Common.{◌≡◌, ℕ, subst, List, [], ◌∷◌, arith, inl, inr}
 use Rattle.std.specs.Prelude.{Some, All, Result, IfErr, IsErrAnd}
-use Rattle.cost_base.specs.Order.{NoneOf}
+use Rattle.cost_base.specs.Order.{FirstOf, NoneOf}
 use Rattle.path_rows.specs.declared.answer.Verdict.TheVariants.{Optimal}
 use Rattle.path_rows.specs.declared.answer.Costs.{Costs}
 use Rattle.path_rows.specs.declared.answer.CostLine.{CostLine}
@@ -13,9 +13,10 @@ use Rattle.path_rows.specs.Rows.{box_of, greatest_cost}
 use Rattle.evidence_checker.specs.Numbers.{number_of}
 use Rattle.evidence_checker.specs.declared.stop.CheckStop.{CheckStop}
 use Rattle.evidence_checker.specs.declared.stop.CheckStop.TheVariants.{Refused, OutOfMemory}
+use Rattle.path_rows.specs.GivenCosts.{costs_given}
 use Rattle.evidence_checker.specs.Costs.{IsOnlyAt}
 use Rattle.evidence_checker.specs.Refusals.{Fault, OnWhole, AtFirst, StopsBy}
-use Rattle.evidence_checker.specs.Tests.{NamesPlaces, HasUnequalEnds, IsOutside, HasWrongGreatest, IsNotOnly, IsFalseFloor, costs_given, cost_tests}
+use Rattle.evidence_checker.specs.Tests.{NamesPlaces, HasUnequalEnds, IsOutside, HasWrongGreatest, IsNotOnly, IsFalseFloor, cost_tests}
 use Rattle.evidence_checker.proofs.CostLaws.{names_equal}
 use Rattle.evidence_checker.proofs.StopLaws.{only_test, err_tells}
 
@@ -61,6 +62,14 @@ no_paths p w only f met = met.1.1 (only f.place no_request met.1.0)
 no_floor : (p : DesignProblem) (k : ℕ) (floor : Floor) → (IsFalseFloor p k floor → ⊥) → (f : Fault) → OnWhole 52 (IsFalseFloor p k floor) f → ⊥
 no_floor p k floor true_floor f met = true_floor met.2
 
+-- the first test that is met stands behind that of the bounds
+behind_bounds : (p : DesignProblem) (k printed : ℕ) (lines : List CostLine) (floor : Floor) (w : List ℕ) (f : Fault) →
+    NamesPlaces p.vars lines → Names p lines w → IsInBox (box_of p) w →
+    FirstOf (OnWhole 47 (HasWrongGreatest k printed w) ∷ AtFirst 46 (IsNotOnly p w) ∷ OnWhole 52 (IsFalseFloor p k floor) ∷ []) f →
+    FirstOf (TestsAt p k printed lines floor w) f
+behind_bounds p k printed lines floor w f named names_lines within rest =
+    inr (no_places p lines named, inr (no_ends p lines w names_lines, inr (no_bounds p w within, rest)))
+
 pub stops_ends : (p : DesignProblem) (k : ℕ) (costs : Costs) (floor : Floor) (lines : List CostLine) (w : List ℕ)
     (s : CheckStop) → lines ≡ costs.lines → w ≡ costs_given p lines → NamesPlaces p.vars lines →
     StopsBy (AtFirst 53 (HasUnequalEnds p.vars lines) ∷ []) s → StopsBy (cost_tests p (Optimal k) (Some costs) floor) s
@@ -87,13 +96,8 @@ stops_greatest p k costs floor lines w OutOfMemory lines_are given named names_l
 stops_greatest p k costs floor lines w (Refused fault place) lines_are given named names_lines within stops =
     let f : Fault = record { number = number_of fault; place = place } in
     moved p k costs floor lines w (Refused fault place) lines_are given
-    (inr (
-      no_places p lines named,
-      inr (
-        no_ends p lines w names_lines,
-        inr (no_bounds p w within, inl (only_test (OnWhole 47 (HasWrongGreatest k costs.greatest w)) f stops)),
-      ),
-    ))
+    (behind_bounds p k costs.greatest lines floor w f named names_lines within
+    (inl (only_test (OnWhole 47 (HasWrongGreatest k costs.greatest w)) f stops)))
 
 pub stops_paths : (p : DesignProblem) (k : ℕ) (costs : Costs) (floor : Floor) (lines : List CostLine) (w : List ℕ)
     (s : CheckStop) → lines ≡ costs.lines → w ≡ costs_given p lines → NamesPlaces p.vars lines → Names p lines w →
@@ -103,16 +107,8 @@ stops_paths p k costs floor lines w OutOfMemory lines_are given named names_line
 stops_paths p k costs floor lines w (Refused fault place) lines_are given named names_lines within same stops =
     let f : Fault = record { number = number_of fault; place = place } in
     moved p k costs floor lines w (Refused fault place) lines_are given
-    (inr (
-      no_places p lines named,
-      inr (
-        no_ends p lines w names_lines,
-        inr (
-          no_bounds p w within,
-          inr (no_greatest k costs.greatest w same, inl (only_test (AtFirst 46 (IsNotOnly p w)) f stops)),
-        ),
-      ),
-    ))
+    (behind_bounds p k costs.greatest lines floor w f named names_lines within
+    (inr (no_greatest k costs.greatest w same, inl (only_test (AtFirst 46 (IsNotOnly p w)) f stops))))
 
 pub stops_floor : (p : DesignProblem) (k : ℕ) (costs : Costs) (floor : Floor) (lines : List CostLine) (w : List ℕ)
     (s : CheckStop) → lines ≡ costs.lines → w ≡ costs_given p lines → NamesPlaces p.vars lines → Names p lines w →
@@ -122,19 +118,11 @@ stops_floor p k costs floor lines w OutOfMemory lines_are given named names_line
 stops_floor p k costs floor lines w (Refused fault place) lines_are given named names_lines within same only stops =
     let f : Fault = record { number = number_of fault; place = place } in
     moved p k costs floor lines w (Refused fault place) lines_are given
+    (behind_bounds p k costs.greatest lines floor w f named names_lines within
     (inr (
-      no_places p lines named,
-      inr (
-        no_ends p lines w names_lines,
-        inr (
-          no_bounds p w within,
-          inr (
-            no_greatest k costs.greatest w same,
-            inr (no_paths p w only, inl (only_test (OnWhole 52 (IsFalseFloor p k floor)) f stops)),
-          ),
-        ),
-      ),
-    ))
+      no_greatest k costs.greatest w same,
+      inr (no_paths p w only, inl (only_test (OnWhole 52 (IsFalseFloor p k floor)) f stops)),
+    )))
 
 -- none is met
 pub passes : (p : DesignProblem) (k printed : ℕ) (lines : List CostLine) (floor : Floor) (w : List ℕ) →

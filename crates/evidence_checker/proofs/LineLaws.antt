@@ -17,33 +17,10 @@ use Rattle.evidence_checker.specs.declared.fault.CheckFault.{CheckFault}
 use Rattle.evidence_checker.specs.Numbers.{number_of}
 use Rattle.evidence_checker.specs.Tests.{line_tests}
 
-pub sum_is_great : (forms : List Form) (box : CostBox) (parts : List (ℕ × ℕ)) →
-    2 ^ 100 ≤ sum_by (λ part. part.1) parts → FirstOf (line_tests forms box (Refute parts)) 48
-sum_is_great forms box parts great = inl (refl, great)
-
 pub nothing_refuted : (forms : List Form) (box : CostBox) (parts : List (ℕ × ℕ)) →
     sum_by (λ part. part.1) parts < 2 ^ 100 → Any (λ part. length forms ≤ part.0) parts
     ⊎ (pos 0 ≤ℤ greatest (weighted forms parts) box) → FirstOf (line_tests forms box (Refute parts)) 43
 nothing_refuted forms box parts small nothing = inr (λ n met. absurd (omega (arith, met.1)), inl (refl, nothing))
-
--- a Tighten, a Split or a Halve
-abbrev pub IsStep : Entry → Type 0
-IsStep (Tighten var side value row) = Unit {0}
-IsStep (Split var value) = Unit {0}
-IsStep (Halve var value wide) = Unit {0}
-IsStep (Refute parts) = ⊥
-IsStep Undone = ⊥
-
--- a line that is no sound step, and isn't a Refute or open
-pub weak_step : (forms : List Form) (box : CostBox) (entry : Entry) → IsStep entry → (SoundAt forms box entry → ⊥) → FirstOf (line_tests forms box entry) 42
-weak_step forms box (Tighten var side value row) step weak = inr (λ n met. met.1, inr (λ n met. met.1, inl (refl, weak)))
-weak_step forms box (Split var value) step weak = inr (λ n met. met.1, inr (λ n met. met.1, inl (refl, weak)))
-weak_step forms box (Halve var value wide) step weak = inr (λ n met. met.1, inr (λ n met. met.1, inl (refl, weak)))
-weak_step forms box (Refute parts) step weak = absurd step
-weak_step forms box Undone step weak = absurd step
-
-pub open_leaf : (forms : List Form) (box : CostBox) → FirstOf (line_tests forms box Undone) 44
-open_leaf forms box = inr (λ n met. met.1, inr (λ n met. met.1, inr (λ n met. met.1, inl (refl, tt))))
 
 any_past : (n : ℕ) (parts : List (ℕ × ℕ)) → All (λ part. part.0 < n) parts → Any (λ part. n ≤ part.0) parts → ⊥
 any_past n parts known past = absurd (omega (arith, known past.0 past.1 past.2, ap (λ (p : ℕ × ℕ). p.0) past.3, past.4))

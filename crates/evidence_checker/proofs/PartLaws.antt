@@ -8,7 +8,7 @@ use Rattle.std.proofs.lemmas.List.Sums.{sum_by_more, sum_by_more_le, sum_by-cons
 use Rattle.path_rows.specs.Boxes.{upper, upper_sum}
 use Rattle.path_rows.specs.Forms.{Form, IsSmallForm, added, weighted, form_at, no_form, size_of}
 use Rattle.path_rows.proofs.FormSizes.{weighted_fits}
-use Rattle.evidence_checker.proofs.Sizes.{sum_size, product_size}
+use Rattle.whole_numbers.proofs.Sizes.{scaled_size, sum_size}
 
 pub get_or-added : (cs ds : List ℤ) (i : ℕ) → get_or (added cs ds) i (pos 0) ≡ (get_or cs i (pos 0) +ℤ get_or ds i (pos 0))
 get_or-added [] ds i = omega (arith, ints)
@@ -58,7 +58,7 @@ size_of_part parts k d a x c k_in before small e =
     let m = (get_or parts k d).1 in
     let more = sum_by_more (λ (p : ℕ × ℕ). p.1) parts k d k_in in
     let both = sum_size a (pos m *ℤ c) in
-    let product = product_size m c in
+    let product = scaled_size m c in
     let most = mul-le-mul_left m small in
     let sized = ap nat_abs e in
     omega arith
@@ -71,11 +71,6 @@ room_for parts k d a size k_in sum before small =
     let m = (get_or parts k d).1 in
     let more = sum_by_more_le (λ (p : ℕ × ℕ). p.1) parts k d k_in in
     let most : m * size ≤ m * 2 ^ 27 = mul-le-mul_left m (let e : size ≤ 2 ^ 27 = omega arith in e) in
-    omega arith
-
-pub multiplier_small : (parts : List (ℕ × ℕ)) (k : ℕ) (d : ℕ × ℕ) → k < length parts → sum_by (λ p. p.1) parts < 2 ^ 100 → (get_or parts k d).1 < 2 ^ 100
-multiplier_small parts k d k_in sum =
-    let more = sum_by_more_le (λ (p : ℕ × ℕ). p.1) parts k d k_in in
     omega arith
 
 -- a form's constant and coefficients are within 2^27

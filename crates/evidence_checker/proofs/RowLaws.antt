@@ -8,13 +8,10 @@ use Rattle.area_graph.specs.Area.{Area}
 use Rattle.path_rows.specs.declared.form.Row.{Row}
 use Rattle.path_rows.specs.declared.problem.Request.{Request}
 use Rattle.path_rows.specs.Problems.{DesignProblem}
-use Rattle.path_rows.specs.Rows.{IsRow, IsRivalOf, IsRouteOf, path_edges}
+use Rattle.path_rows.specs.Rows.{IsRow, IsRivalOf, path_edges}
+use Rattle.path_rows.proofs.RowForms.{route_of_rival}
 use Rattle.evidence_checker.specs.Refusals.{Fault, AtFirstItem}
 use Rattle.evidence_checker.specs.Tests.{row_tests}
-
-rival_is_route : (g : Area) (r : Option Request) (es : List ℕ) → IsRivalOf g r es → IsRouteOf g r es
-rival_is_route g None es rival = rival
-rival_is_route g (Some r) es rival = rival.0
 
 rival_is_other : (g : Area) (r : Option Request) (es : List ℕ) → IsRivalOf g r es → es ≡ path_edges r → ⊥
 rival_is_other g None es rival same = rival
@@ -23,7 +20,7 @@ rival_is_other g (Some r) es rival same = rival.1 same
 -- a row meets no test
 pub row_meets_none : (p : DesignProblem) (row : Row) → IsRow p row → NoneOf (row_tests p row)
 row_meets_none p row is_row = (
-  λ n met. met.1 (rival_is_route p.graph (slice_get p.paths row.request) row.rival.edges is_row),
+  λ n met. met.1 (route_of_rival p.graph (slice_get p.paths row.request) row.rival.edges is_row),
   (λ n met. rival_is_other p.graph (slice_get p.paths row.request) row.rival.edges is_row met.1, tt),
 )
 

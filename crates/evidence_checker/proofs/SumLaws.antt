@@ -10,7 +10,7 @@ use Rattle.whole_numbers.proofs.Laws.{mul-add}
 use Rattle.path_rows.specs.declared.form.Term.{Term}
 use Rattle.path_rows.specs.Forms.{terms_from}
 use Rattle.path_rows.proofs.TermLaws.{total, total_from, total_is, total_more}
-use Rattle.evidence_checker.proofs.Sizes.{sum_size, product_size}
+use Rattle.whole_numbers.proofs.Sizes.{scaled_size, sum_size}
 
 -- a coefficient, where it is that of the variable
 abbrev pub at_var : ℕ → ℕ → ℤ → ℤ
@@ -94,7 +94,7 @@ size_more sums m all k i d x k_in i_in e bound =
       | yes same ↦
           let now = ap nat_abs (get_or-set_at sums t.var i x (pos 0) (sym same) (let t_in : t.var < length sums = omega arith in t_in)) in
           let both = sum_size (get_or sums t.var (pos 0)) (pos m *ℤ t.coefficient) in
-          let product = product_size m t.coefficient in
+          let product = scaled_size m t.coefficient in
           let is_here = ap (λ (j : ℕ). nat_abs (get_or sums j (pos 0))) same in
           let sized = ap nat_abs e in
           omega arith

@@ -71,11 +71,6 @@ pub walk_stops : (forms : List Form) (start : List CostBox) (whole : List Entry)
     AtFirstLine forms start 0 whole (record { number = number; place = place })
 walk_stops forms start whole box boxes place entry rest number walks met = walks.first (record { number = number; place = place }) (inl (refl, met))
 
--- a box is open while lines are left
-pub walk_goes : (forms : List Form) (start : List CostBox) (whole : List Entry) (box : CostBox) (boxes : List CostBox)
-    (place : ℕ) → Walks forms start whole box boxes place [] → ⊥
-walk_goes forms start whole box boxes place walks = walks.trees
-
 -- the line that was read, and those after it
 pub line_read : (entries : List Entry) (k : ℕ) (entry : Entry) → k < length entries → entry ≡ get_or entries k entry →
     drop k entries ≡ entry ∷ drop (k + 1) entries

@@ -1,5 +1,5 @@
 -- The tests of a checker of answers, in their order, each with its number.
-use Rattle.std.specs.Prelude.{◌≡◌, ℕ, ◌+◌, ◌^◌, ◌<◌, ◌≤◌, ◌⊎◌, List, [], ◌∷◌, ◌++◌, pos, ◌≤ℤ◌, length, replicate, slice_index, slice_set, slice_get, All, Any, Option, None, Some, sum_by}
+use Rattle.std.specs.Prelude.{◌≡◌, ℕ, ◌+◌, ◌^◌, ◌<◌, ◌≤◌, ◌⊎◌, List, [], ◌∷◌, ◌++◌, pos, ◌≤ℤ◌, length, slice_index, slice_get, All, Any, Option, None, Some, sum_by}
 use Rattle.std.specs.List.{AllZip}
 use Rattle.cost_base.specs.Order.{FirstOf, NoneOf}
 use Rattle.area_graph.specs.Costs.{at_costs, IsOnlyCheapest}
@@ -22,6 +22,7 @@ use Rattle.path_rows.specs.Forms.{weighted}
 use Rattle.path_rows.specs.Trees.{TightensAt, CutsAt, subboxes}
 use Rattle.path_rows.specs.Rows.{HasRoute, path_edges, box_of, forms_of_rows, greatest_cost}
 use Rattle.path_rows.specs.Answers.{AnswerParts, greatest_bound}
+use Rattle.path_rows.specs.GivenCosts.{GivesCost, costs_given}
 use Rattle.evidence_checker.specs.declared.fault.CheckFault.TheVariants.{NothingClaimed, WrongShape, WrongPlaces, UnequalEnds, OutOfBounds, WrongGreatest, NotOnlyCheapest, FalseFloor, NotAPath, NotARival, GreatMultipliers, NothingRefuted, WeakStep, OpenLeaf}
 use Rattle.evidence_checker.specs.Numbers.{number_of}
 use Rattle.evidence_checker.specs.Refusals.{Fault, OnWhole, AtFirst, OnItem, AtFirstItem}
@@ -64,25 +65,9 @@ HasWrongShape p a = ShapeOfClaim p a.verdict a.costs a.floor a.proof × (a.unfin
 abbrev pub NamesPlaces : List VarName → List CostLine → Type 0
 NamesPlaces names lines = AllZip (λ name line. (line.router ≡ name.router) × (line.interface ≡ name.interface)) names lines
 
--- a line gives the variable this cost
-abbrev pub GivesCost : List VarName → List CostLine → ℕ → ℕ → Type 0
-GivesCost [] lines var cost = ⊥
-GivesCost (name ∷ names) [] var cost = ⊥
-GivesCost (name ∷ names) (line ∷ lines) var cost = ((name.var ≡ var) × (line.cost ≡ cost)) ⊎ GivesCost names lines var cost
-
 -- 53: two lines of the variable have different costs
 abbrev pub HasUnequalEnds : List VarName → List CostLine → ℕ → Type 0
 HasUnequalEnds names lines var = (c : ℕ) × (d : ℕ) × GivesCost names lines var c × GivesCost names lines var d × (c ≡ d → ⊥)
-
--- the costs, each line's written at its variable
-abbrev pub written : List ℕ → List VarName → List CostLine → List ℕ
-written costs [] lines = costs
-written costs (name ∷ names) [] = costs
-written costs (name ∷ names) (line ∷ lines) = written (slice_set costs name.var line.cost) names lines
-
--- the costs that the lines give the variables
-abbrev pub costs_given : DesignProblem → List CostLine → List ℕ
-costs_given p lines = written (replicate (length p.low) 0) p.vars lines
 
 -- 45: the variable's cost is outside its bounds
 abbrev pub IsOutside : List ℕ → List ℕ → List ℕ → ℕ → Type 0

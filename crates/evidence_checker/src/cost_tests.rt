@@ -5,19 +5,20 @@ ghost use Rattle.evidence_checker.specs.Numbers.{number_of};
 ghost use Rattle.std.specs.Prelude.{◌≡◌, ℕ, ◌≤◌, [], ◌∷◌, length, All, IfOk, IfErr};
 ghost use Rattle.path_rows.specs.Answers.{Names, GivesCosts};
 ghost use Rattle.path_rows.specs.Boxes.{IsInBox};
+ghost use Rattle.path_rows.specs.GivenCosts.{costs_given};
 ghost use Rattle.path_rows.specs.Rows.{box_of, greatest_cost};
 ghost use Rattle.path_rows.specs.declared.answer.Verdict.TheVariants.{Optimal};
 ghost use Rattle.evidence_checker.specs.Costs.{IsOnlyAt};
 ghost use Rattle.evidence_checker.specs.Refusals.{OnWhole, AtFirst, StopsBy};
-ghost use Rattle.evidence_checker.specs.Tests.{NamesPlaces, HasUnequalEnds, IsOutside, HasWrongGreatest, IsNotOnly, IsFalseFloor, costs_given, cost_tests};
+ghost use Rattle.evidence_checker.specs.Tests.{NamesPlaces, HasUnequalEnds, IsOutside, HasWrongGreatest, IsNotOnly, IsFalseFloor, cost_tests};
 
-use crate::costs::{costs_given, first_outside, first_unequal, greatest_of, names_places};
+use crate::costs::{first_outside, first_unequal, names_places};
 use crate::paths::first_not_only;
 use crate::problem_parts::{high_of, keeps, low_of, names_of};
 use crate::shape::is_false_floor;
 use crate::{CheckFault, CheckStop};
 use cost_base::OutOfMemory;
-use path_rows::{CostLine, Costs, Floor, Problem};
+use path_rows::{CostLine, Costs, Floor, Problem, costs_given, greatest_of};
 use std::alloc::Global;
 
 /// Tests that the lines name the free interfaces, each once, in their order.

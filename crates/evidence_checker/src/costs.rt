@@ -5,11 +5,10 @@ ghost use Rattle.path_rows.specs.Problems.{ends_of};
 ghost use Rattle.path_rows.specs.Rows.{greatest_cost};
 ghost use Rattle.evidence_checker.specs.Refusals.{IsFirst};
 ghost use Rattle.evidence_checker.specs.Costs.{lesser_of};
-ghost use Rattle.evidence_checker.specs.Tests.{NamesPlaces, HasUnequalEnds, written, IsOutside};
+ghost use Rattle.evidence_checker.specs.Tests.{NamesPlaces, HasUnequalEnds, IsOutside};
+ghost use Rattle.path_rows.specs.GivenCosts.{written};
 
-use cost_base::OutOfMemory;
 use path_rows::{CostLine, VarName};
-use std::alloc::Global;
 
 /// Whether a line names a free interface.
 fn names_place(name: &VarName, line: &CostLine) -> bool
@@ -32,42 +31,6 @@ pub(crate) fn names_places(names: &[VarName], lines: &[CostLine]) -> bool
         }
     }
     true
-}
-
-/// The greatest of the costs, and 0 where there is none.
-pub(crate) fn greatest_of(costs: &[u16]) -> u16
-    ensures { result ≡ greatest_cost costs.now }
-{
-    let mut greatest = 0u16;
-    for cost in costs {
-        greatest = greatest.max(*cost);
-    }
-    greatest
-}
-
-/// The costs that the lines give so many variables: each line's is written at its variable.
-///
-/// # Errors
-///
-/// `OutOfMemory`.
-pub fn costs_given(
-    alloc: Global,
-    count: usize,
-    names: &[VarName],
-    lines: &[CostLine],
-) -> Result<Vec<u16>, OutOfMemory>
-    requires counts { length names.now ≡ length lines.now }
-    requires known { All (λ name. name.var < count) names.now }
-    ensures { IfOk result (λ costs. costs.items ≡ written (replicate count 0) names.now lines.now) }
-{
-    let mut costs = match vec![in alloc; 0u16; count] {
-        Ok(costs) => costs,
-        Err(_) => return Err(OutOfMemory),
-    };
-    for (index, name) in names.iter().enumerate() {
-        costs[name.var as usize] = lines[index].cost;
-    }
-    Ok(costs)
 }
 
 /// Whether a line gives its variable another cost than it has.

@@ -16,6 +16,5 @@ mod sums;
 mod tree;
 
 pub use checker::check;
-pub use costs::costs_given;
 pub use fault::CheckFault;
 pub use stop::{Accepted, CheckStop};

@@ -16,10 +16,7 @@ fn point_of(alloc: Global, costs: &[u16]) -> Result<Point, OutOfMemory>
 {
     let mut values = Vec::new(alloc);
     for cost in costs {
-        match values.push(u128::from(*cost)) {
-            Ok(()) => {}
-            Err(_) => return Err(OutOfMemory),
-        }
+        values.push(u128::from(*cost))?;
     }
     Ok(Point {
         scale: 1,

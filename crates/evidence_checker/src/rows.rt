@@ -20,10 +20,7 @@ use std::alloc::Global;
 fn copied(alloc: Global, numbers: &[u32]) -> Result<Listed<u32>, OutOfMemory>
     ensures { IfOk result (λ copy. copy ≡ numbers.now) }
 {
-    match numbers.to_vec(alloc) {
-        Ok(copy) => Ok(Listed::from_items(copy)),
-        Err(_) => Err(OutOfMemory),
-    }
+    Ok(Listed::from_items(numbers.to_vec(alloc)?))
 }
 
 /// Whether edges are a simple path of a request.
@@ -84,10 +81,8 @@ fn form_of_rival(alloc: Global, problem: &Problem, row: &Row) -> Result<Form, Ou
 fn push_form(forms: &mut Vec<Form>, form: Form) -> Result<(), OutOfMemory>
     ensures { OnOk result (forms.new.items ≡ forms.old.items ++ form ∷ []) }
 {
-    match forms.push(form) {
-        Ok(()) => Ok(()),
-        Err(_) => Err(OutOfMemory),
-    }
+    forms.push(form)?;
+    Ok(())
 }
 
 /// The forms of the rows. The rows are tested in order.

@@ -8,9 +8,8 @@ ghost use Rattle.evidence_checker.specs.Laws.{IsAcceptedAs};
 ghost use Rattle.evidence_checker.specs.Refusals.{OnWhole, StopsBy};
 ghost use Rattle.evidence_checker.specs.Tests.{ClaimsNothing, ShapeOfClaim, ShapeOfLeast, ShapeOfNone, IsFalseFloor};
 
-use crate::costs::greatest_of;
 use crate::{Accepted, CheckFault, CheckStop};
-use path_rows::{CapTree, Costs, Floor, Problem, Verdict};
+use path_rows::{CapTree, Costs, Floor, Problem, Verdict, greatest_of};
 
 /// What a verdict claims.
 pub(crate) fn claimed(verdict: Verdict) -> Result<Accepted, CheckStop>

@@ -10,18 +10,15 @@ ghost use Rattle.evidence_checker.specs.Tests.{AtFirstLine, line_tests};
 
 use crate::lines::line_fault;
 use crate::{CheckFault, CheckStop};
-use cost_base::{Listed, OutOfMemory};
-use path_rows::{CapTree, CostBox, Entry, Form, OpenBoxes};
+use cost_base::OutOfMemory;
+use path_rows::{CapTree, CostBox, Entry, Form, OpenBoxes, capped_box};
 use std::alloc::Global;
 
 /// Room for the sums of so many variables.
 fn room_for_sums(alloc: Global, count: usize) -> Result<Vec<i128>, OutOfMemory>
     ensures { IfOk result (λ sums. length sums.items ≡ count) }
 {
-    match vec![in alloc; 0i128; count] {
-        Ok(sums) => Ok(sums),
-        Err(_) => Err(OutOfMemory),
-    }
+    Ok(vec![in alloc; 0i128; count]?)
 }
 
 /// Goes on after a line that is sound at the present box, and says whether a box is still open.
@@ -91,26 +88,6 @@ pub(crate) fn check_tree(
     Ok(())
 }
 
-/// The lower bounds of a problem.
-fn lower_bounds(alloc: Global, low: &[u16]) -> Result<Vec<u16>, OutOfMemory>
-    ensures { IfOk result (λ bounds. bounds.items ≡ low.now) }
-{
-    match low.to_vec(alloc) {
-        Ok(bounds) => Ok(bounds),
-        Err(_) => Err(OutOfMemory),
-    }
-}
-
-/// The upper bounds of a problem, each cut to the cap.
-fn upper_bounds(alloc: Global, high: &[u16], cap: u16) -> Result<Vec<u16>, OutOfMemory>
-    ensures { IfOk result (λ bounds. bounds.items ≡ map (λ h. min h cap) high.now) }
-{
-    high.iter()
-        .map(|bound| (*bound).min(cap))
-        .collect(alloc)
-        .map_err(|_| OutOfMemory)
-}
-
 /// Whether a tree is closed and sound over the box at its cap.
 pub(crate) fn check_cap_tree(
     alloc: Global,
@@ -126,11 +103,6 @@ pub(crate) fn check_cap_tree(
     ensures first { IfErr result (StopsBy
         (AtFirstLine forms.now (capped (record { low = low.now; high = high.now }) proof.now.cap ∷ []) 0 proof.now.tree ∷ [])) }
 {
-    let low = lower_bounds(alloc, low)?;
-    let high = upper_bounds(alloc, high, proof.cap)?;
-    let costs = CostBox {
-        low: Listed::from_items(low),
-        high: Listed::from_items(high),
-    };
+    let costs = capped_box(alloc, low, high, proof.cap)?;
     check_tree(alloc, forms, costs, proof.tree.as_slice())
 }

@@ -10,8 +10,7 @@ use crate::progress::{Best, Progress};
 use advisor_box::Advisor;
 use cost_base::OutOfMemory;
 use cost_branching::{Found, Pool, decide, keeps_conditions};
-use path_rows::{Answer, CapTree, Problem};
-use printed_rows::greatest_of;
+use path_rows::{Answer, CapTree, Problem, greatest_of};
 use std::alloc::Global;
 use wide_fraction::Limits;
 

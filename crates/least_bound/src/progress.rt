@@ -7,8 +7,7 @@ ghost use Rattle.cost_branching.specs.Decisions.{IsDecided};
 ghost use Rattle.least_bound.specs.Caps.{BestHolds, IsLeastFound, IsProgress, IsSpent};
 
 use cost_branching::Found;
-use path_rows::{CapTree, CostList, Problem, Tree};
-use printed_rows::greatest_of;
+use path_rows::{CapTree, CostList, Problem, Tree, greatest_of};
 
 /// The best that the caps so far have come to.
 #[derive(Drop)]

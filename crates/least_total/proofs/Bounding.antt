@@ -1,7 +1,7 @@
 -- What asking the source with a bound of the total does to the pool.
 use Rattle.std.proofs.Common.{◌≡◌, ℕ, zero, suc, ◌+◌, ◌<◌, ◌≤◌, refl, sym, ◌∙◌, ap, subst, List, [], ◌∷◌, ◌++◌, length, length-append, map, take, drop, arith, append_assoc, append-nil, inl, inr}
 use Rattle.std.specs.Prelude.{ℤ, pos, ◌<ℤ◌, ◌≤ℤ◌, ◌⊎◌, All, Contains, Option, None, Some}
-use Rattle.std.proofs.lemmas.Int.{ints}
+use Rattle.std.specs.Int.Signed.{clash_ℤ}
 use Rattle.std.proofs.lemmas.List.{length-map, append_cancel_left, take_all}
 use Rattle.std.proofs.lemmas.List.Elements.{All-nil, All-cons, All-append, All-head, All-tail, All-contains, All-push, All-weaker, Contains-append_cases, Contains-append_right, Contains-push}
 use Rattle.area_graph.specs.declared.Point.{Point}
@@ -17,9 +17,6 @@ use Rattle.cost_branching.specs.Pools.{AreRows}
 use Rattle.cost_branching.specs.Rivals.{IsKept, IsTrueOf, KnownRows}
 use Rattle.least_total.specs.Totals.{LeadsWithin, form_of_total}
 use Rattle.least_total.specs.Bounded.{AreInStep, BoundedRows, IsPlaceIn, IsTrueTotal, IsTrueWithin, forms_with_total, with_form}
-
-not_both : (z : ℤ) → pos 0 ≤ℤ z → z <ℤ pos 0 → ⊥
-not_both z above below = omega (arith, ints)
 
 -- Forms with one among them.
 
@@ -53,9 +50,9 @@ not_come old pool point in_step met negative = by_place old.before refl (subst (
         All (Met point) (forms_with_total old.known.problem old.most old.known.rows before) → old.before ≡ None
     by_place None is all = is
     by_place (Some k) is all = absurd
-        (not_both (value_at (form_of_total old.known.problem old.most) point)
+        (clash_ℤ negative
         (all_without (Met point) (forms_of_rows old.known.problem old.known.rows)
-        (form_of_total old.known.problem old.most) k all).1 negative)
+        (form_of_total old.known.problem old.most) k all).1)
 
 with_more : (fs more : List Form) (f : Form) (k : ℕ) → k ≤ length fs → (take k fs ++ f ∷ drop k fs) ++ more ≡ take k (fs ++ more) ++ f ∷ drop k (fs ++ more)
 with_more fs more f zero within = refl
@@ -104,7 +101,7 @@ none_more fs more same = append_cancel_left fs more [] (same ∙ sym (append-nil
 
 -- a form of a pool whose forms are at least 0 isn't negative
 not_in : (pool : List Form) (point : Point) (form : Form) → AreMet pool point → value_at form point <ℤ pos 0 → Contains pool form → ⊥
-not_in pool point form met negative has = not_both (value_at form point) (All-contains (Met point) pool form met has) negative
+not_in pool point form met negative has = clash_ℤ negative (All-contains (Met point) pool form met has)
 
 the_second : {A B : Type 0} → A ⊎ B → (A → ⊥) → B
 the_second (inl a) no_a = absurd (no_a a)
@@ -151,7 +148,7 @@ pub answered_over : (old : BoundedRows) (pool : List Form) (point : Point) (grow
     IsAnswered (LeadsWithin old.known.problem old.most) point pool more Added
 answered_over old pool point grown more met negative same =
     let total = form_of_total old.known.problem old.most in (
-      λ accepted. not_both (value_at total point) accepted.within negative,
+      λ accepted. clash_ℤ negative accepted.within,
       record {
         form = total;
         is_new = subst (λ (fs : List Form). Contains fs total) (sym same) (Contains-push grown total);

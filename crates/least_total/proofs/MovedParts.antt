@@ -2,7 +2,7 @@
 use Rattle.std.proofs.Common.{◌≡◌, ◌≢◌, ℕ, suc, ◌+◌, ◌-◌, ◌<◌, ◌≤◌, refl, sym, ◌∙◌, ap, subst, List, [], ◌∷◌, ◌++◌, map, length, length-append, append-nil, arith, Bool, true, false, not, cond, inl, inr, eqb}
 use Rattle.std.specs.Prelude.{ℤ, pos, ◌+ℤ◌, ◌*ℤ◌, ◌<ℤ◌, ◌==◌, ◌⊎◌, All, AllPairs, sum_by, slice_index_or, if◌then◌else◌}
 use Rattle.std.proofs.lemmas.Int.{ints}
-use Rattle.std.proofs.lemmas.Bool.{cases_lt, eq-eqb, eqb-true, lt-ltb, le-ltb}
+use Rattle.std.proofs.lemmas.Bool.{cases_lt, eq-eqb, eqb-true, lt-ltb, le-ltb, not-true}
 use Rattle.std.proofs.lemmas.Bool.Decides.{eqb_tells}
 use Rattle.std.proofs.lemmas.List.{map-append}
 use Rattle.std.proofs.lemmas.List.Elements.{All-head, All-tail, All-filter, All-append, All-map, filter_passes}
@@ -219,15 +219,11 @@ others_rise place others (part ∷ parts) other pairs =
     (All-map (Rises (new part)) new parts (λ k d k_in. numbers_rise place others part.0 (slice_index_or parts k d).0 here (rest k d k_in) (above k d k_in)))
     (others_rise place others parts rest (pairs_tail part parts pairs))
 
-not_own : (b : Bool) → not b ≡ true → b ≡ false
-not_own false is = refl
-not_own true is = sym is
-
 others_differ : (place : ℕ) (parts : List (ℕ × ℕ)) → All (λ part. part.0 ≢ place) (picked false place parts)
 others_differ place parts k d k_in =
     let passes = filter_passes (is_picked false place) parts k d k_in in
     let part = slice_index_or (picked false place parts) k d in
-    λ same. true_not_false (sym (eq-eqb part.0 place same) ∙ not_own (part.0 == place) passes)
+    λ same. true_not_false (sym (eq-eqb part.0 place same) ∙ not-true (part.0 == place) passes)
   where
     true_not_false : true ≡ false → ⊥
     true_not_false same = cc

@@ -1,9 +1,11 @@
 -- Trees once the form of the total has been moved behind those of the rows.
 use Rattle.std.proofs.Common.{◌≡◌, ◌≢◌, ℕ, zero, suc, ◌+◌, ◌-◌, ◌^◌, ◌<◌, ◌≤◌, refl, sym, ◌∙◌, ap, subst, List, [], ◌∷◌, ◌++◌, map, length, length-append, take, drop, get_or, arith, false, inl, inr}
 use Rattle.std.specs.Prelude.{◌⊎◌, All, Contains, slice_index_or}
+use Rattle.std.proofs.Math.Seq.{get_or-append_seam}
 use Rattle.std.proofs.lemmas.Bool.{cases_lt}
 use Rattle.std.proofs.lemmas.List.{length-map, map-append, get_or-map}
 use Rattle.std.proofs.lemmas.List.Elements.{All-map}
+use Rattle.cost_base.proofs.ListLemmas.{none_mapped}
 use Rattle.area_graph.specs.declared.Point.{Point}
 use Rattle.path_rows.specs.declared.form.CostBox.{CostBox}
 use Rattle.path_rows.specs.declared.tree.Member.{Member}
@@ -16,7 +18,11 @@ use Rattle.path_rows.specs.OpenPlaces.{UndoneLast, undones}
 use Rattle.path_rows.specs.Renumbering.{KeepsForms, renumbered, renumbered_member, renumbered_part}
 use Rattle.path_rows.proofs.Renumbering.{renumbered_tree}
 use Rattle.form_search.specs.Finds.{IsSearchTree, IsShort}
-use Rattle.least_total.specs.Moving.{moved, moved_number, put_last, with_last}
+use Rattle.printed_rows.specs.NamedRows.{NamesBelow}
+use Rattle.printed_rows.specs.NewNumbers.{KeepsOrder, number_in}
+use Rattle.printed_rows.proofs.NamedLaws.{entry_agrees}
+use Rattle.printed_rows.proofs.NumberLaws.{number_at, numbers_counted}
+use Rattle.least_total.specs.Moving.{AreMovedNumbers, moved, moved_number, put_last, with_last}
 use Rattle.least_total.proofs.MovedParts.{all_last, length_last, number_before, number_behind, number_own, refutes_last}
 
 -- Entries with the parts of the moved form last.
@@ -62,10 +68,6 @@ get_first : (fs gs : List Form) (k : ℕ) → k < length fs → form_at (fs ++ g
 get_first [] gs k k_in = absurd (omega arith)
 get_first (f ∷ fs) gs zero k_in = refl
 get_first (f ∷ fs) gs (suc k) k_in = get_first fs gs k (omega arith)
-
-get_last : (fs : List Form) (f : Form) → form_at (fs ++ f ∷ []) (length fs) ≡ f
-get_last [] f = refl
-get_last (g ∷ fs) f = get_last fs f
 
 -- a form before the place, the one at it, and one behind
 get_before : (fs : List Form) (f : Form) (place row : ℕ) → place ≤ length fs → row < place → form_at (take place fs ++ f ∷ drop place fs) row ≡ form_at fs row
@@ -120,7 +122,7 @@ move_kept fs f place row within known = elim (cases_lt row place) [
         let same : row ≡ place = omega arith in
         let number = number_own place (length fs) row same in (
           omega (arith, number),
-          ap (form_at (fs ++ f ∷ [])) number ∙ get_last fs f ∙ sym (get_own fs f place within)
+          ap (form_at (fs ++ f ∷ [])) number ∙ get_or-append_seam fs f [] no_form ∙ sym (get_own fs f place within)
               ∙ ap (form_at (take place fs ++ f ∷ drop place fs)) (sym same),
         )
 
@@ -136,6 +138,41 @@ moved_twice : (place others : ℕ) (entries : List Entry) →
     map (renumbered (moved_number place others)) (map (with_last place) entries) ≡ map (moved place others) entries
 moved_twice place others [] = refl
 moved_twice place others (e ∷ entries) = ap (λ (es : List Entry). moved place others e ∷ es) (moved_twice place others entries)
+
+-- The list of the new numbers.
+
+pub moved_counted : (place others : ℕ) (numbers : List ℕ) → AreMovedNumbers place others numbers → length numbers ≡ others + 1
+moved_counted place others = numbers_counted (moved_number place others) (others + 1)
+
+-- an entry that is no Refute: a move changes but its numbers
+abbrev pub IsOther : Entry → Type 0
+IsOther (Tighten var side value row) = Unit {0}
+IsOther (Split var value) = Unit {0}
+IsOther (Halve var value wide) = Unit {0}
+IsOther (Refute parts) = ⊥
+IsOther Undone = Unit {0}
+
+pub order_other : (numbers : List ℕ) (entry : Entry) → IsOther entry → KeepsOrder (number_in numbers) entry
+order_other numbers (Tighten var side value row) is = tt
+order_other numbers (Split var value) is = tt
+order_other numbers (Halve var value wide) is = tt
+order_other numbers (Refute parts) is = absurd is
+order_other numbers Undone is = tt
+
+same_parts : (place : ℕ) (entry : Entry) → IsOther entry → with_last place entry ≡ entry
+same_parts place (Tighten var side value row) is = refl
+same_parts place (Split var value) is = refl
+same_parts place (Halve var value wide) is = refl
+same_parts place (Refute parts) is = absurd is
+same_parts place Undone is = refl
+
+-- with the numbers of the list it is moved
+pub moved_other : (place others : ℕ) (numbers : List ℕ) (entry : Entry) → AreMovedNumbers place others numbers →
+    NamesBelow (others + 1) entry → IsOther entry → renumbered (number_in numbers) entry ≡ moved place others entry
+moved_other place others numbers entry are below is =
+    entry_agrees (number_in numbers) (moved_number place others) (λ row. row < others + 1) entry
+    (λ row within. number_at (moved_number place others) (others + 1) numbers row are within) below
+    ∙ ap (renumbered (moved_number place others)) (sym (same_parts place entry is))
 
 -- What an entry keeps.
 
@@ -175,10 +212,6 @@ moved_last place others tree last = record {
       ∙ map-append (moved place others) last.done (undones last.undone)
       ∙ ap (λ (es : List Entry). map (moved place others) last.done ++ es) (undones_moved place others last.undone);
 }
-
-none_mapped : {X Y : Type 0} (f : X → Y) (xs : List X) → map f xs ≡ [] → xs ≡ []
-none_mapped f [] none = refl
-none_mapped f (x ∷ xs) none = cc
 
 none_last : (place : ℕ) (parts : List (ℕ × ℕ)) → put_last place parts ≡ [] → parts ≡ []
 none_last place [] none = refl

@@ -1,10 +1,9 @@
 -- The answer with other costs is valid again, and its text is in the grammar.
 use Rattle.std.proofs.Common.{◌≡◌, ℕ, ◌+◌, ◌≤◌, refl, sym, ◌∙◌, ap, subst, List, [], ◌∷◌, ◌++◌, map, length, arith}
 use Rattle.std.specs.Prelude.{All, Option, None, Some, codes, replicate}
-use Rattle.std.specs.List.{AllZip}
 use Rattle.std.proofs.lemmas.List.Elements.{All-append}
 use Rattle.cost_base.specs.Decimal.{decimal}
-use Rattle.cost_base.proofs.ListLemmas.{All-left, All-right}
+use Rattle.cost_base.proofs.ListLemmas.{All-left, All-right, length_zip}
 use Rattle.path_rows.specs.declared.problem.VarName.{VarName}
 use Rattle.path_rows.specs.declared.answer.CapTree.{CapTree}
 use Rattle.path_rows.specs.declared.answer.CostLine.{CostLine}
@@ -18,8 +17,8 @@ use Rattle.path_rows.specs.Rows.{IsBest, greatest_cost}
 use Rattle.path_rows.specs.Answers.{AnswerParts, ClaimHolds, GivesCosts, IsValid, lines_in}
 use Rattle.path_rows.specs.ProblemLaws.{GivesBest, IsTrueVerdict}
 use Rattle.path_rows.proofs.ProblemTrees.{valid_holds}
-use Rattle.evidence_checker.specs.Tests.{costs_given, written}
-use Rattle.evidence_checker.proofs.CostLaws.{names_written}
+use Rattle.path_rows.specs.GivenCosts.{costs_given, written}
+use Rattle.path_rows.proofs.GivenCosts.{names_written}
 use Rattle.path_rows.specs.Text.{IsAnswer, costs_lines, floor_word, row_line, spaced, tree_lines, verdict_words}
 use Rattle.printed_rows.specs.PrintedCosts.{ArePrintedCosts}
 use Rattle.printed_rows.proofs.AnswerLines.{costs_fit, costs_short}
@@ -31,18 +30,12 @@ use Rattle.least_total.specs.Results.{IsRecosted}
 pub gives_best : (p : DesignProblem) (a : AnswerParts) (k : ℕ) → IsProblem p → IsValid p a → a.verdict ≡ Optimal k → GivesBest p k a.costs
 gives_best p a k problem valid is = subst (λ (v : Verdict). IsTrueVerdict p v a.costs) is (valid_holds p a problem valid)
 
-zip_length : {A B : Type 0} (R : A → B → Type 0) (xs : List A) (ys : List B) → AllZip R xs ys → length xs ≡ length ys
-zip_length R [] [] zip = refl
-zip_length R [] (y ∷ ys) zip = absurd zip
-zip_length R (x ∷ xs) [] zip = absurd zip
-zip_length R (x ∷ xs) (y ∷ ys) zip = let rest = zip_length R xs ys zip.1 in omega arith
-
 -- as many lines as free interfaces
 pub lines_counted : (p : DesignProblem) (a : AnswerParts) (k : ℕ) → IsProblem p → IsValid p a → a.verdict ≡ Optimal k →
     length p.vars ≡ length (lines_in a.costs)
 lines_counted p a k problem valid is =
     let gives = gives_best p a k problem valid is in
-    zip_length _ p.vars gives.costs.lines gives.names ∙ ap (λ (o : Option Costs). length (lines_in o)) (sym gives.is_printed)
+    length_zip _ p.vars gives.costs.lines gives.names ∙ ap (λ (o : Option Costs). length (lines_in o)) (sym gives.is_printed)
 
 -- costs that are written by the lines of a problem's interfaces
 pub given_by : (p : DesignProblem) (lows : List ℕ) (names : List VarName) (lines others : List CostLine) →

@@ -1,7 +1,7 @@
 -- The printed tree of a round stands over the forms of the printed rows and that of the total behind them.
-use Rattle.std.proofs.Common.{◌≡◌, ℕ, zero, suc, ◌+◌, ◌<◌, ◌≤◌, refl, sym, ◌∙◌, ap, subst, List, [], ◌∷◌, ◌++◌, map, length, length-append, append-nil, arith, Bool, true, false, if◌then◌else◌, inl, inr}
+use Rattle.std.proofs.Common.{◌≡◌, ℕ, zero, suc, ◌+◌, ◌<◌, ◌≤◌, refl, sym, ◌∙◌, ap, subst, List, [], ◌∷◌, ◌++◌, map, length, arith, Bool, true, false, if◌then◌else◌, inl, inr}
 use Rattle.std.specs.Prelude.{◌^◌, ◌⊎◌, All, Contains, Option, None, Some, codes, slice_index_or}
-use Rattle.std.proofs.lemmas.List.{length-map, map-append}
+use Rattle.std.proofs.lemmas.List.{length-map}
 use Rattle.std.proofs.lemmas.List.Elements.{All-nil, All-cons, All-append, All-head, All-map, All-tail, All-weaker}
 use Rattle.cost_base.specs.Decimal.{decimal}
 use Rattle.area_graph.specs.declared.Point.{Point}
@@ -10,7 +10,7 @@ use Rattle.path_rows.specs.declared.form.Row.{Row}
 use Rattle.path_rows.specs.declared.tree.Entry.{Entry}
 use Rattle.path_rows.specs.declared.tree.Entry.TheVariants.{Undone}
 use Rattle.path_rows.specs.Problems.{DesignProblem}
-use Rattle.path_rows.specs.Forms.{Form, form_at, no_form}
+use Rattle.path_rows.specs.Forms.{Form, form_at}
 use Rattle.path_rows.specs.Boxes.{capped}
 use Rattle.path_rows.specs.Rows.{IsRow, box_of, form_of_row, forms_of_rows}
 use Rattle.path_rows.specs.Trees.{IsClosed, Sound, SoundAt, entry_count, subboxes}
@@ -84,9 +84,6 @@ forms_last p most (row ∷ rows) = ap (λ (fs : List Form). form_of_row p row �
 pub forms_alone : (p : DesignProblem) (most : ℕ) (rows : List Row) → map (form_in p most) (map OfRow rows) ≡ forms_of_rows p rows
 forms_alone p most [] = refl
 forms_alone p most (row ∷ rows) = ap (λ (fs : List Form). form_of_row p row ∷ fs) (forms_alone p most rows)
-
-pub length_last : (rows : List Row) → length (with_total_last rows) ≡ length rows + 1
-length_last rows = length-append (map OfRow rows) (OfTotal ∷ []) ∙ ap (λ (n : ℕ). n + 1) (length-map rows OfRow)
 
 -- each is a true form
 pub forms_true : (p : DesignProblem) (most : ℕ) (rows : List Row) → All (IsRow p) rows →

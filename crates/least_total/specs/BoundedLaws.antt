@@ -11,6 +11,7 @@ use Rattle.area_graph.specs.declared.Point.{Point}
 use Rattle.area_graph.specs.Costs.{at_costs}
 use Rattle.path_rows.specs.Forms.{Form, dot, value, value_at}
 use Rattle.path_rows.specs.Problems.{DesignProblem}
+use Rattle.path_rows.proofs.AtCosts.{dot_scaled}
 use Rattle.form_search.specs.Sources.{IsTrueForm, scaled}
 use Rattle.cost_branching.specs.Candidates.{candidate_forms}
 use Rattle.cost_branching.specs.SourceLaws as rivals
@@ -92,16 +93,6 @@ true_forms_listed p most form (inr of_total) = (0, omega arith, sym of_total.sam
 
 one_more : (c z d : ℤ) (s : ℤ) → z ≡ (d *ℤ s) → ((c *ℤ s) +ℤ z) ≡ ((c +ℤ d) *ℤ s)
 one_more c z d s rest = ap (λ (y : ℤ). (c *ℤ s) +ℤ y) rest ∙ ring (c ∷ d ∷ s ∷ []) (var 0 ⊗ var 2 ⊕ var 1 ⊗ var 2) ((var 0 ⊕ var 1) ⊗ var 2) refl
-
-product_scaled : (c : ℤ) (x s : ℕ) → (c *ℤ pos (x * s)) ≡ ((c *ℤ pos x) *ℤ pos s)
-product_scaled c x s = ring (c ∷ pos x ∷ pos s ∷ []) (var 0 ⊗ (var 1 ⊗ var 2)) ((var 0 ⊗ var 1) ⊗ var 2) refl
-
-dot_scaled : (cs : List ℤ) (w : List ℕ) (s : ℕ) → dot cs (map (λ x. x * s) w) ≡ (dot cs w *ℤ pos s)
-dot_scaled [] w s = omega (arith, ints)
-dot_scaled (c ∷ cs) [] s = omega (arith, ints)
-dot_scaled (c ∷ cs) (x ∷ w) s =
-    ap (λ (z : ℤ). z +ℤ dot cs (map (λ x. x * s) w)) (product_scaled c x s)
-    ∙ one_more (c *ℤ pos x) (dot cs (map (λ x. x * s) w)) (dot cs w) (pos s) (dot_scaled cs w s)
 
 negative_product : (z : ℤ) (n : ℕ) → 0 < n → pos 0 ≤ℤ (z *ℤ pos n) → pos 0 ≤ℤ z
 negative_product (pos m) n some high = omega (arith, ints)

@@ -1,7 +1,8 @@
 -- The form of the total is moved behind those of the rows: new numbers of forms, and entries with these numbers. No
 -- public clause cites it.
-use Rattle.std.specs.Prelude.{ℕ, ◌-◌, ◌==◌, List, ◌++◌, Bool, true, false, not, if◌then◌else◌, map, length, ltb}
+use Rattle.std.specs.Prelude.{◌≡◌, ℕ, ◌+◌, ◌-◌, ◌==◌, List, ◌++◌, Bool, true, false, not, if◌then◌else◌, map, ltb}
 use Rattle.std.specs.List.{filter}
+use Rattle.cost_base.specs.Lists.{numbers_from}
 use Rattle.path_rows.specs.declared.tree.Entry.{Entry}
 use Rattle.path_rows.specs.declared.tree.Entry.TheVariants.{Tighten, Split, Halve, Refute, Undone}
 use Rattle.path_rows.specs.Renumbering.{renumbered}
@@ -9,6 +10,10 @@ use Rattle.path_rows.specs.Renumbering.{renumbered}
 -- the number of a form, where the form at a place is moved behind all others, of which there are so many
 abbrev pub moved_number : ℕ → ℕ → ℕ → ℕ
 moved_number place others row = if ltb row place then row else (if row == place then others else row - 1)
+
+-- the new numbers of all these forms
+abbrev pub AreMovedNumbers : ℕ → ℕ → List ℕ → Type 0
+AreMovedNumbers place others numbers = numbers ≡ map (moved_number place others) (numbers_from 0 (others + 1))
 
 -- whether a part of a Refute is of the form at the place, or of another one
 abbrev pub is_picked : Bool → ℕ → ℕ × ℕ → Bool

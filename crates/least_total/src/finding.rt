@@ -12,8 +12,7 @@ use crate::rounds::{Round, TotalTree, one_round};
 use crate::standing::Standing;
 use cost_base::OutOfMemory;
 use cost_branching::keeps_conditions;
-use path_rows::{Answer, Problem, Row, Tree};
-use printed_rows::greatest_of;
+use path_rows::{Answer, Problem, Row, Tree, greatest_of};
 use std::alloc::Global;
 use wide_fraction::Limits;
 

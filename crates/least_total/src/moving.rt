@@ -1,11 +1,12 @@
 //! The form of the total is moved behind the forms of the rows.
 ghost use Rattle.std.specs.Prelude.{◌≡◌, ◌+◌, ◌<◌, ◌≤◌, ◌++◌, map, All, IfOk, OnOk};
-ghost use Rattle.path_rows.specs.Renumbering.{renumbered_member, renumbered_part, renumbered_wide};
-ghost use Rattle.printed_rows.specs.NamedRows.{MemberBelow, NamesBelow};
-ghost use Rattle.least_total.specs.Moving.{moved, moved_number, picked, put_last};
+ghost use Rattle.path_rows.specs.Renumbering.{renumbered_part};
+ghost use Rattle.printed_rows.specs.NamedRows.{NamesBelow};
+ghost use Rattle.least_total.specs.Moving.{AreMovedNumbers, moved, moved_number, picked, put_last};
 
-use cost_base::{Listed, OutOfMemory};
-use path_rows::{Entry, Member, Parts, Tree, WideAt};
+use cost_base::OutOfMemory;
+use path_rows::{Entry, Parts, Tree};
+use printed_rows::renumbered_entry;
 use std::alloc::Global;
 
 /// The form at a place is moved behind the others.
@@ -63,86 +64,50 @@ impl Move {
         Ok(Parts::from_items(pairs))
     }
 
-    /// The member of a basis with the new number of its form.
-    fn member(self, member: &Member) -> Member
-        requires { MemberBelow (self.others + 1) member.now }
-        ensures { result ≡ renumbered_member (moved_number self.place self.others) member.now }
+    /// The new numbers of all forms.
+    fn numbers(self, alloc: Global) -> Result<Vec<u64>, OutOfMemory>
+        ensures { IfOk result (λ numbers. AreMovedNumbers self.place self.others numbers.items) }
     {
-        match member {
-            Member::Row(row) => Member::Row(self.number(*row)),
-            Member::Low(..) | Member::High(..) => *member,
+        let mut numbers = Vec::new(alloc);
+        for row in 0..self.others {
+            numbers.push(self.number(row))?;
         }
-    }
-
-    /// The basis with the new numbers of its forms.
-    fn basis(self, alloc: Global, basis: &[Member]) -> Result<Vec<Member>, OutOfMemory>
-        requires { All (MemberBelow (self.others + 1)) basis.now }
-        ensures { IfOk result (λ members. members.items ≡ map (renumbered_member (moved_number self.place self.others)) basis.now) }
-    {
-        let mut members = Vec::new(alloc);
-        for member in basis {
-            members.push(self.member(member))?;
-        }
-        Ok(members)
-    }
-
-    /// The step with the new numbers of its basis.
-    fn wide(self, alloc: Global, wide: &WideAt) -> Result<WideAt, OutOfMemory>
-        requires { All (MemberBelow (self.others + 1)) wide.now.basis }
-        ensures { IfOk result (λ new. new ≡ renumbered_wide (moved_number self.place self.others) wide.now) }
-    {
-        let basis = self.basis(alloc, wide.basis.as_slice())?;
-        Ok(WideAt {
-            step: wide.step,
-            left: wide.left,
-            right: wide.right,
-            basis: Listed::from_items(basis),
-        })
+        numbers.push(self.number(self.others))?;
+        Ok(numbers)
     }
 
     /// The entry with the new numbers of its forms.
-    fn entry(self, alloc: Global, entry: &Entry) -> Result<Entry, OutOfMemory>
+    fn entry(self, alloc: Global, entry: &Entry, numbers: &[u64]) -> Result<Entry, OutOfMemory>
         requires place { self.place ≤ self.others }
+        requires numbers { AreMovedNumbers self.place self.others numbers.now }
         requires known { NamesBelow (self.others + 1) entry.now }
         ensures { IfOk result (λ new. new ≡ moved self.place self.others entry.now) }
     {
         match entry {
-            Entry::Tighten {
-                var,
-                side,
-                value,
-                row,
-            } => Ok(Entry::Tighten {
-                var: *var,
-                side: *side,
-                value: *value,
-                row: self.number(*row),
-            }),
-            Entry::Split { var, value } => Ok(Entry::Split {
-                var: *var,
-                value: *value,
-            }),
-            Entry::Halve { var, value, wide } => Ok(Entry::Halve {
-                var: *var,
-                value: *value,
-                wide: self.wide(alloc, wide)?,
-            }),
             Entry::Refute { parts } => Ok(Entry::Refute {
                 parts: self.parts(alloc, parts)?,
             }),
-            Entry::Undone => Ok(Entry::Undone),
+            Entry::Tighten { .. } | Entry::Split { .. } | Entry::Halve { .. } | Entry::Undone => {
+                renumbered_entry(alloc, entry, numbers)
+            }
         }
     }
 
     /// The entries with the new numbers of their forms.
-    fn entries(self, alloc: Global, entries: &[Entry]) -> Result<Vec<Entry>, OutOfMemory>
+    fn entries(
+        self,
+        alloc: Global,
+        entries: &[Entry],
+        numbers: &[u64],
+    ) -> Result<Vec<Entry>, OutOfMemory>
         requires place { self.place ≤ self.others }
+        requires numbers { AreMovedNumbers self.place self.others numbers.now }
         requires known { All (NamesBelow (self.others + 1)) entries.now }
         ensures { IfOk result (λ new. new.items ≡ map (moved self.place self.others) entries.now) }
     {
         let mut new = Vec::new(alloc);
         for entry in entries {
-            new.push(self.entry(alloc, entry)?)?;
+            new.push(self.entry(alloc, entry, numbers)?)?;
         }
         Ok(new)
     }
@@ -157,7 +122,8 @@ impl Move {
         requires known { All (NamesBelow (self.others + 1)) tree.now }
         ensures { IfOk result (λ new. new ≡ map (moved self.place self.others) tree.now) }
     {
-        let entries = self.entries(alloc, tree.as_slice())?;
+        let numbers = self.numbers(alloc)?;
+        let entries = self.entries(alloc, tree.as_slice(), numbers.as_slice())?;
         Ok(Tree::from_items(entries))
     }
 }

@@ -9,8 +9,7 @@ ghost use Rattle.least_total.specs.Given.{AreGiven};
 
 use cost_base::OutOfMemory;
 use cost_branching::keeps_conditions;
-use evidence_checker::costs_given;
-use path_rows::{Answer, CostLine, CostList, Costs, Problem};
+use path_rows::{Answer, CostLine, CostList, Costs, Problem, costs_given};
 use printed_rows::printed_costs;
 use std::alloc::Global;
 

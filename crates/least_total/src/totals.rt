@@ -31,10 +31,7 @@ pub(crate) fn total_form(alloc: Global, variables: usize, most: u32) -> Result<F
     requires { variables ≤ 1000 }
     ensures { IfOk result (λ form. form ≡ total_form variables most) }
 {
-    let coefficients = match vec![in alloc; -1i64; variables] {
-        Ok(coefficients) => coefficients,
-        Err(_) => return Err(OutOfMemory),
-    };
+    let coefficients = vec![in alloc; -1i64; variables]?;
     Form::from_coefficients(alloc, i64::from(most), &coefficients)
 }
 

@@ -97,6 +97,20 @@ longer n place v side bound kept v_in absent = record {
   below = (code_below n v side (omega (arith, kept.count)), kept.below);
 }
 
+-- the open places once the first has been cut in two
+abbrev cut_places : Place → ℕ → ℕ → List Place → List Place
+cut_places place v bound places =
+    record { box = with_high place.box v bound; since = [] } ∷ record { box = with_low place.box v (bound + 1); since = [] } ∷ places
+
+cut_counts : (n : ℕ) (place : Place) (places : List Place) (v bound cuts count mark : ℕ) → Kept n place → AllKept n places →
+    (AllKept n (cut_places place v bound places) → count + mark + all_since (cut_places place v bound places)
+    ≤ (2 * n + 1) * length (cut_places place v bound places) + (4 * n + 2) * cuts) →
+    (1 + count) + mark + (length place.since + all_since places) ≤ (2 * n + 1) * suc (length places) + (4 * n + 2) * (1 + cuts)
+cut_counts n place places v bound cuts count mark kept all rest =
+    let lower = fresh n (with_high place.box v bound) kept.count in
+    let upper = fresh n (with_low place.box v (bound + 1)) (length-set place.box.low v (bound + 1) ∙ kept.count) in
+    cut_step n (length place.since) (length places) cuts count mark (all_since places) (since-le n place kept) (rest (lower, (upper, all)))
+
 pub earnest_counts : (accepts : Point → Type 0) (top n : ℕ) (rows : List Form) (places : List Place)
     (entries : List Entry) → AllKept n places → Earnest accepts top rows places entries →
     entry_count entries + undone_mark entries + all_since places ≤ (2 * n + 1) * length places
@@ -111,23 +125,11 @@ earnest_counts accepts top n rows (place ∷ places) (Tighten v side bound row �
     (next, kept.1) earnest.2 in
     omega arith
 earnest_counts accepts top n rows (place ∷ places) (Split v bound ∷ entries) kept earnest =
-    let lower = fresh n (with_high place.box v bound) kept.0.count in
-    let upper = fresh n (with_low place.box v (bound + 1)) (length-set place.box.low v (bound + 1) ∙ kept.0.count) in
-    cut_step n (length place.since) (length places) (cut_count entries) (entry_count entries) (undone_mark entries) (all_since places) (since-le n place kept.0)
-    (earnest_counts accepts top n rows
-    (record { box = with_high place.box v bound; since = [] } ∷ record {
-      box = with_low place.box v (bound + 1);
-      since = [];
-    } ∷ places) entries (lower, (upper, kept.1)) earnest.2)
+    cut_counts n place places v bound (cut_count entries) (entry_count entries) (undone_mark entries) kept.0 kept.1
+    (λ all. earnest_counts accepts top n rows (cut_places place v bound places) entries all earnest.2)
 earnest_counts accepts top n rows (place ∷ places) (Halve v bound wide ∷ entries) kept earnest =
-    let lower = fresh n (with_high place.box v bound) kept.0.count in
-    let upper = fresh n (with_low place.box v (bound + 1)) (length-set place.box.low v (bound + 1) ∙ kept.0.count) in
-    cut_step n (length place.since) (length places) (cut_count entries) (entry_count entries) (undone_mark entries) (all_since places) (since-le n place kept.0)
-    (earnest_counts accepts top n rows
-    (record { box = with_high place.box v bound; since = [] } ∷ record {
-      box = with_low place.box v (bound + 1);
-      since = [];
-    } ∷ places) entries (lower, (upper, kept.1)) earnest.2)
+    cut_counts n place places v bound (cut_count entries) (entry_count entries) (undone_mark entries) kept.0 kept.1
+    (λ all. earnest_counts accepts top n rows (cut_places place v bound places) entries all earnest.2)
 earnest_counts accepts top n rows (place ∷ places) (Refute parts ∷ entries) kept earnest =
     leaf_step n (length place.since) (length places) (cut_count entries) (entry_count entries) (undone_mark entries)
     (all_since places) (since-le n place kept.0)

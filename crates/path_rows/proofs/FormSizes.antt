@@ -1,26 +1,13 @@
 -- The size of a form bounds its values and those of weighted sums.
 use Rattle.std.proofs.Common.{◌≡◌, ℕ, suc, ◌+◌, ◌-◌, ◌*◌, ◌^◌, ◌<◌, ◌≤◌, refl, sym, subst, List, [], ◌∷◌, map, length, arith, inl, inr}
-use Rattle.std.specs.Prelude.{ℤ, pos, negsuc, ◌+ℤ◌, ◌*ℤ◌, nat_abs, All, sum_by}
+use Rattle.std.specs.Prelude.{ℤ, pos, ◌+ℤ◌, ◌*ℤ◌, nat_abs, All, sum_by}
 use Rattle.std.proofs.Math.Nat.{mul-le-mul_left}
-use Rattle.std.proofs.lemmas.Int.{ints}
 use Rattle.std.proofs.lemmas.Bool.{cases_lt}
 use Rattle.std.proofs.lemmas.List.{get_or_past}
 use Rattle.std.proofs.lemmas.List.Sums.{sum_by-cons}
+use Rattle.whole_numbers.proofs.Sizes.{product_size, scaled_size, sum_size}
 use Rattle.path_rows.specs.declared.form.Form.{Form}
 use Rattle.path_rows.specs.Forms.{dot, value, added, weighted, form_at, no_form, size_of}
-
--- the size of a sum is at most the sum of the sizes
-sum_size : (a b : ℤ) → nat_abs (a +ℤ b) ≤ nat_abs a + nat_abs b
-sum_size a b = omega (arith, ints)
-
--- the size of a product with a number is the product
-product_size : (c : ℤ) (x : ℕ) → nat_abs (c *ℤ pos x) ≡ nat_abs c * x
-product_size (pos n) x = refl
-product_size (negsuc n) x = omega (arith, ints)
-
-scaled_size : (m : ℕ) (c : ℤ) → nat_abs (pos m *ℤ c) ≡ m * nat_abs c
-scaled_size m (pos n) = refl
-scaled_size m (negsuc n) = omega (arith, ints)
 
 dot_size : (cs : List ℤ) (ws : List ℕ) → All (λ x. x < 2 ^ 16) ws → nat_abs (dot cs ws) ≤ 65535 * sum_by nat_abs cs
 dot_size [] ws small = omega arith

@@ -1,7 +1,7 @@
 -- Marks of what was tightened, and the places of a tree that is built.
 use Rattle.std.proofs.Common.{◌≡◌, ℕ, zero, suc, ◌+◌, ◌<◌, ◌≤◌, refl, sym, ◌∙◌, ap, subst, List, [], ◌∷◌, ◌++◌, map, length, length-set, reverse, arith}
 use Rattle.std.specs.Prelude.{Bool, true, false, MatchBool, All, Contains, slice_index, slice_index_or, slice_set}
-use Rattle.std.proofs.lemmas.List.{append_assoc, length-append, reverse-append}
+use Rattle.std.proofs.lemmas.List.{length-append, reverse-append}
 use Rattle.std.proofs.lemmas.List.Elements.{All-cons, All-tail}
 use Rattle.std.proofs.lemmas.Grind.{get_or-set_at}
 use Rattle.std.proofs.Common.{get_or-set_other}
@@ -15,7 +15,7 @@ use Rattle.path_rows.specs.Earnest.{Place, subplaces}
 use Rattle.path_rows.specs.declared.form.CostBox.{CostBox}
 use Rattle.path_rows.specs.Boxes.{with_high, with_low}
 use Rattle.path_rows.specs.Trees.{subboxes, tightened}
-use Rattle.path_rows.specs.OpenPlaces.{Growing, first_place, fresh, grown, places_after, undones}
+use Rattle.path_rows.specs.OpenPlaces.{Growing, first_place, fresh, grown, places_after}
 use Rattle.path_rows.specs.Stack.{OpenBoxes}
 use Rattle.path_rows.specs.Builders.{AreMarks, IsBuilt, IsMarked, last_run, opened, places_of, run_of}
 
@@ -251,17 +251,3 @@ built_more entries news entry true more boxes new old marks longer some went mar
   marked = subst (λ (es : List Entry). IsMarked (length marks.low.items) es marks) (sym longer)
       (subst (λ (n : ℕ). IsMarked n (entries ++ entry ∷ []) marks) (sym marked.low_count) marked);
 }
-
--- an Undone more at one place fewer
-pub undone_step : (entries : List Entry) (places : List Place) → 0 < length places →
-    (entries ++ Undone ∷ []) ++ undones (length (places_after places Undone)) ≡ entries ++ undones (length places)
-undone_step entries [] some = absurd (omega arith)
-undone_step entries (place ∷ places) some = append_assoc entries (Undone ∷ []) (undones (length places))
-
-pub fewer_places : (places : List Place) → 0 < length places → length (places_after places Undone) < length places
-fewer_places [] some = absurd (omega arith)
-fewer_places (place ∷ places) some = omega arith
-
-pub no_places : (places : List Place) → (0 < length places → ⊥) → places ≡ []
-no_places [] none = refl
-no_places (place ∷ places) none = absurd (none (omega arith))

@@ -76,7 +76,9 @@ pub all_of_more : (Keeps : CostBox → Type 0) (boxes more : List CostBox) → A
 all_of_more Keeps [] more all rest = rest
 all_of_more Keeps (box ∷ boxes) more all rest = (all.0, all_of_more Keeps boxes more all.1 rest)
 
-same_boxes : (place : Place) (entry : Entry) (places : List Place) → boxes_of (subplaces place entry ++ places) ≡ subboxes place.box entry ++ boxes_of places
+-- the boxes that are open behind an entry
+pub same_boxes : (place : Place) (entry : Entry) (places : List Place) →
+    boxes_of (subplaces place entry ++ places) ≡ subboxes place.box entry ++ boxes_of places
 same_boxes place (Tighten var side value row) places = refl
 same_boxes place (Split var value) places = refl
 same_boxes place (Halve var value wide) places = refl
@@ -94,33 +96,6 @@ opens_all accepts top forms Keeps hands (p ∷ places) (e ∷ entries) left all 
     opens_all accepts top forms Keeps hands (subplaces p e ++ places) entries left
     (subst (AllOf Keeps) (sym (same_boxes p e places)) (all_of_more Keeps (subboxes p.box e) (boxes_of places) (hands p.box e all.0 opens.0) all.1))
     opens.2
-
--- at places that wait nothing was tightened since the last cut
-abbrev pub AllFresh : List Place → Type 0
-AllFresh [] = Unit {0}
-AllFresh (place ∷ places) = (place.since ≡ []) × AllFresh places
-
-abbrev pub FreshBehind : List Place → Type 0
-FreshBehind [] = Unit {0}
-FreshBehind (place ∷ places) = AllFresh places
-
-fresh_behind : (places : List Place) → AllFresh places → FreshBehind places
-fresh_behind [] all = tt
-fresh_behind (p ∷ places) all = all.1
-
-fresh_after : (place : Place) (entry : Entry) (places : List Place) → AllFresh places → FreshBehind (subplaces place entry ++ places)
-fresh_after place (Tighten var side value row) places all = all
-fresh_after place (Split var value) places all = (refl, all)
-fresh_after place (Halve var value wide) places all = (refl, all)
-fresh_after place (Refute parts) places all = fresh_behind places all
-fresh_after place Undone places all = fresh_behind places all
-
-pub opens_fresh : (accepts : Point → Type 0) (top : ℕ) (forms : List Form) (places : List Place) (entries : List Entry)
-    (left : List Place) → FreshBehind places → Opens accepts top forms places entries left → FreshBehind left
-opens_fresh accepts top forms places [] left all opens = subst FreshBehind opens all
-opens_fresh accepts top forms [] (e ∷ entries) left all opens = absurd opens
-opens_fresh accepts top forms (p ∷ places) (e ∷ entries) left all opens =
-    opens_fresh accepts top forms (subplaces p e ++ places) entries left (fresh_after p e places all) opens.2
 
 -- entries without an Undone are counted by their number
 pub closed_count : (entries : List Entry) → IsClosed entries → entry_count entries ≡ length entries

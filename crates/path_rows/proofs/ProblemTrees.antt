@@ -2,7 +2,7 @@
 use Rattle.std.proofs.Common.{◌≡◌, ◌≢◌, ℕ, zero, suc, ◌<◌, ◌≤◌, refl, sym, ◌∙◌, subst, List, [], ◌∷◌, length, get_or, arith, inl, inr}
 use Rattle.std.specs.Prelude.{pos, ◌≤ℤ◌, max, min, fold, All, slice_get, slice_index, Option, Some, None}
 use Rattle.std.proofs.lemmas.Bool.{cases_lt}
-use Rattle.std.proofs.lemmas.List.{length-map, get_or-map, get_or_past}
+use Rattle.std.proofs.lemmas.List.{length-map, get_or-map, get_or_default, get_or_past}
 use Rattle.std.proofs.lemmas.Int.{ints}
 use Rattle.area_graph.specs.Area.{Area}
 use Rattle.area_graph.specs.Paths.{IsPathOf}
@@ -83,11 +83,19 @@ pub le_greatest : (w : List ℕ) (k : ℕ) → k < length w → slice_index w k 
 le_greatest w k k_in = le_fold w k 0 k_in
 
 -- a bound of each cost, and of the start, bounds the greatest
-fold_le : (w : List ℕ) (start most : ℕ) → start ≤ most → ((k : ℕ) → k < length w → slice_index w k ≤ most) → fold max start w ≤ most
+pub fold_le : (w : List ℕ) (start most : ℕ) → start ≤ most → ((k : ℕ) → k < length w → slice_index w k ≤ most) → fold max start w ≤ most
 fold_le [] start most first each = first
 fold_le (x ∷ w) start most first each =
     let here = each 0 (omega arith) in
     fold_le w (max start x) most (omega arith) (λ k k_in. each (suc k) (omega arith))
+
+-- no lower bound is above the greatest upper bound
+pub low_below : (p : DesignProblem) → IsProblem p → All (λ low. low ≤ greatest_bound p) p.low
+low_below p kept k d k_in =
+    let ordered = (kept.ordered k k_in).1 in
+    let most = le_greatest p.high k (omega (arith, kept.low_count)) in
+    let same = get_or_default p.low k 0 d k_in in
+    omega arith
 
 -- costs of the box whose greatest is within the cap lie in the box at the cap
 in_capped : (box : CostBox) (cap : ℕ) (w : List ℕ) → IsInBox box w → greatest_cost w ≤ cap → IsInBox (capped box cap) w

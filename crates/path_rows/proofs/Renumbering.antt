@@ -1,6 +1,6 @@
 -- Trees whose rows have got other numbers are sound and earnest again.
 use Rattle.std.proofs.Common.{◌≡◌, ℕ, zero, suc, ◌<◌, ◌≤◌, refl, sym, ◌∙◌, ap, subst, List, [], ◌∷◌, ◌++◌, map, length, arith, take, drop, fold}
-use Rattle.std.specs.Prelude.{pos, ◌+ℤ◌, ◌*ℤ◌, ◌<ℤ◌, ◌≤ℤ◌, All, AllPairs, Some, slice_get, slice_index_or, sum_by}
+use Rattle.std.specs.Prelude.{pos, ◌+ℤ◌, ◌*ℤ◌, ◌<ℤ◌, ◌≤ℤ◌, All, Some, slice_get, slice_index_or, sum_by}
 use Rattle.std.proofs.lemmas.List.{length-map, length-append, get_or_append_left}
 use Rattle.std.proofs.lemmas.List.Sums.{sum_by-cons}
 use Rattle.area_graph.specs.declared.Point.{Point}
@@ -340,19 +340,3 @@ pub too_wide_kept : (top : ℕ) (box : CostBox) (forms more : List Form) (wide :
 too_wide_kept top box forms more wide too_wide =
     subst (IsTooWide top box (forms ++ more)) (same_wide wide)
     (renumbered_too_wide (λ row. row) forms (forms ++ more) top box wide (forms_kept forms more) too_wide)
-
-part_at : (number : ℕ → ℕ) (parts : List (ℕ × ℕ)) (i : ℕ) (d : ℕ × ℕ) → i < length parts →
-    slice_index_or (map (renumbered_part number) parts) i d ≡ renumbered_part number (slice_index_or parts i d)
-part_at number [] i d i_in = absurd (omega arith)
-part_at number (part ∷ parts) zero d i_in = refl
-part_at number (part ∷ parts) (suc i) d i_in = part_at number parts i d (omega arith)
-
--- strictly rising numbers keep a Refute's rows rising
-pub rising_parts : (number : ℕ → ℕ) (parts : List (ℕ × ℕ)) → ((a b : ℕ) → a < b → number a < number b) →
-    AllPairs (λ a b. a.0 < b.0) parts → AllPairs (λ a b. a.0 < b.0) (map (renumbered_part number) parts)
-rising_parts number parts rises rising i j d before j_in =
-    let counted = length-map parts (renumbered_part number) in
-    let j_known : j < length parts = omega arith in
-    let i_known : i < length parts = omega arith in
-    rw (part_at number parts i d i_known, part_at number parts j d j_known)
-    (rises (slice_index_or parts i d).0 (slice_index_or parts j d).0 (rising i j d before j_known))

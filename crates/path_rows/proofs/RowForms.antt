@@ -1,12 +1,18 @@
 -- The paths of a row, and its form.
 use Rattle.std.proofs.Common.{◌≡◌, ℕ, sym, ◌∙◌, ap, subst, get_or, List, length}
-use Rattle.std.specs.Prelude.{slice_get}
+use Rattle.std.specs.Prelude.{slice_get, Option, None, Some}
+use Rattle.area_graph.specs.Area.{Area}
 use Rattle.area_graph.specs.Paths.{IsPathOf}
 use Rattle.path_rows.specs.declared.form.Row.{Row}
 use Rattle.path_rows.specs.declared.problem.Request.{Request}
 use Rattle.path_rows.specs.Problems.{DesignProblem, IsProblem, ends_of}
-use Rattle.path_rows.specs.Rows.{HasRoute, form_between, form_of_row, path_edges}
+use Rattle.path_rows.specs.Rows.{HasRoute, IsRivalOf, IsRouteOf, form_between, form_of_row, path_edges}
 use Rattle.path_rows.proofs.PathBounds.{request_of_route}
+
+-- a rival is a route
+pub route_of_rival : (g : Area) (r : Option Request) (es : List ℕ) → IsRivalOf g r es → IsRouteOf g r es
+route_of_rival g None es rival = absurd rival
+route_of_rival g (Some r) es rival = rival.0
 
 -- the wanted path and the rival of a row, as edges that code has read
 pub record RowPaths (p : DesignProblem) (row : Row) (d : Request) (wanted rival : List ℕ) : Type 0 where

@@ -88,10 +88,11 @@ sizes_from first (negsuc n ∷ cs) =
     )
     (ap (λ m. suc n + m) (sizes_from (suc first) cs))
 
--- one coefficient more puts its term at the end
-moved : (first v : ℕ) → suc first + v ≡ first + suc v
+-- a place counted from the next one
+pub moved : (first v : ℕ) → suc first + v ≡ first + suc v
 moved first v = omega arith
 
+-- one coefficient more puts its term at the end
 terms_suc : (first : ℕ) (cs : List ℤ) (v : ℕ) → v < length cs →
     terms_from first (take (suc v) cs) ≡ terms_from first (take v cs) ++ term_of (first + v) (get_or cs v (pos 0))
 terms_suc first [] v v_in = absurd (omega arith)

@@ -1,5 +1,5 @@
 -- Lists of entries as whole trees.
-use Rattle.std.proofs.Common.{◌≡◌, ℕ, zero, suc, ◌+◌, ◌<◌, refl, sym, ◌∙◌, ap, subst, List, [], ◌∷◌, ◌++◌, append_assoc, length, arith, ◌↔◌}
+use Rattle.std.proofs.Common.{◌≡◌, ℕ, zero, suc, ◌+◌, ◌<◌, refl, sym, ◌∙◌, ap, subst, List, [], ◌∷◌, ◌++◌, append-nil, append_assoc, length, arith, ◌↔◌}
 use Rattle.std.specs.Prelude.{Contains, slice_index_or}
 use Rattle.path_rows.specs.declared.form.Form.{Form}
 use Rattle.path_rows.specs.declared.form.CostBox.{CostBox}
@@ -104,20 +104,16 @@ trees_from_whole (suc n) (Halve i v wide ∷ entries) whole =
 trees_from_whole (suc n) (Refute parts ∷ entries) whole = none_under n (Refute parts) entries (refute parts) refl (trees_from_whole (0 + n) entries whole)
 trees_from_whole (suc n) (Undone ∷ entries) whole = none_under n Undone entries undone refl (trees_from_whole (0 + n) entries whole)
 
-append_nil : (es : List Entry) → es ++ [] ≡ es
-append_nil [] = refl
-append_nil (e ∷ es) = ap (λ xs. e ∷ xs) (append_nil es)
-
 -- a list is one whole tree exactly where it is the preorder of a tree
 pub whole-iff : (entries : List Entry) → IsWholeTree entries ↔ IsPreorder entries
 whole-iff entries = (
   λ whole. let found = trees_from_whole 1 entries whole in go found.trees found.same found.count,
-  λ order. subst (λ (es : List Entry). WholeTrees 1 es) (append_nil (preorder order.tree) ∙ order.same) (whole_preorder order.tree 0 [] tt),
+  λ order. subst (λ (es : List Entry). WholeTrees 1 es) (append-nil (preorder order.tree) ∙ order.same) (whole_preorder order.tree 0 [] tt),
 )
   where
     go : (ts : List CaseTree) → preorders ts ≡ entries → length ts ≡ 1 → IsPreorder entries
     go [] same count = absurd (omega arith)
-    go (t ∷ []) same count = record { tree = t; same = sym (append_nil (preorder t)) ∙ same }
+    go (t ∷ []) same count = record { tree = t; same = sym (append-nil (preorder t)) ∙ same }
     go (t ∷ u ∷ ts) same count = absurd (omega arith)
 
 -- no whole trees go on

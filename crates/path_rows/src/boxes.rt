@@ -18,17 +18,28 @@ fn cut_to(alloc: Global, numbers: &[u16], cap: u16) -> Result<Vec<u16>, OutOfMem
         .map_err(|_| OutOfMemory)
 }
 
-/// The same numbers.
-fn copied(alloc: Global, numbers: &[u16]) -> Result<Vec<u16>, OutOfMemory>
-    ensures { IfOk result (λ copy. copy.items ≡ numbers.now) }
+/// The box of these bounds at a cap: each upper bound is the lesser of itself and the cap.
+///
+/// # Errors
+///
+/// `OutOfMemory`.
+pub fn capped_box(
+    alloc: Global,
+    low: &[u16],
+    high: &[u16],
+    cap: u16,
+) -> Result<CostBox, OutOfMemory>
+    ensures { IfOk result (λ costs. costs ≡ capped (record { low = low.now; high = high.now }) cap) }
 {
-    match numbers.to_vec(alloc) {
-        Ok(copy) => Ok(copy),
-        Err(_) => Err(OutOfMemory),
-    }
+    let low = low.to_vec(alloc)?;
+    let high = cut_to(alloc, high, cap)?;
+    Ok(CostBox {
+        low: Listed::from_items(low),
+        high: Listed::from_items(high),
+    })
 }
 
-/// The box of the problem at a cap: each upper bound is the lesser of itself and the cap.
+/// The box of the problem at a cap.
 ///
 /// # Errors
 ///
@@ -38,10 +49,6 @@ pub fn box_at(alloc: Global, problem: &Problem, cap: u16) -> Result<CostBox, Out
     ensures cut { IfOk result (λ costs. costs ≡ capped (box_of problem.now) cap) }
     ensures ranges { IfOk result (λ costs. IsBox (length problem.now.low) costs) }
 {
-    let low = copied(alloc, problem.low.as_slice())?;
-    let high = cut_to(alloc, problem.high.as_slice(), cap)?;
-    Ok(CostBox {
-        low: Listed::from_items(low),
-        high: Listed::from_items(high),
-    })
+    let costs = capped_box(alloc, problem.low.as_slice(), problem.high.as_slice(), cap)?;
+    Ok(costs)
 }

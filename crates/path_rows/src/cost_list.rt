@@ -1,5 +1,6 @@
 //! Lists of costs.
 ghost use Rattle.std.specs.Prelude.{◌≡◌};
+ghost use Rattle.path_rows.specs.Rows.{greatest_cost};
 
 use std::marker::Model;
 
@@ -31,4 +32,15 @@ impl CostList {
     {
         self.items.as_slice()
     }
+}
+
+/// The greatest of some costs, and 0 where there is none.
+pub fn greatest_of(costs: &[u16]) -> u16
+    ensures { result ≡ greatest_cost costs.now }
+{
+    let mut greatest = 0;
+    for cost in costs {
+        greatest = greatest.max(*cost);
+    }
+    greatest
 }

@@ -21,10 +21,7 @@ pub(crate) struct Marks {
 fn zeros(alloc: Global, count: usize) -> Result<Vec<usize>, OutOfMemory>
     ensures { IfOk result (λ counts. counts.items ≡ replicate count 0) }
 {
-    match vec![in alloc; 0usize; count] {
-        Ok(counts) => Ok(counts),
-        Err(_) => Err(OutOfMemory),
-    }
+    Ok(vec![in alloc; 0usize; count]?)
 }
 
 impl Marks {

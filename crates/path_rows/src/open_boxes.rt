@@ -41,10 +41,8 @@ fn push(changes: &mut Vec<Change>, change: Change) -> Result<(), OutOfMemory>
     ensures done { OnOk result (changes.new.items ≡ changes.old.items ++ change ∷ []) }
     ensures same { OnErr result (changes.new.items ≡ changes.old.items) }
 {
-    match changes.push(change) {
-        Ok(()) => Ok(()),
-        Err(_) => Err(OutOfMemory),
-    }
+    changes.push(change)?;
+    Ok(())
 }
 
 /// Puts changes back until a second part is met, goes on with it, and says whether there was one.

@@ -12,20 +12,14 @@ use std::alloc::Global;
 fn copied_numbers(alloc: Global, numbers: &[u32]) -> Result<Listed<u32>, OutOfMemory>
     ensures { IfOk result (λ copy. copy ≡ numbers.now) }
 {
-    match numbers.to_vec(alloc) {
-        Ok(copy) => Ok(Listed::from_items(copy)),
-        Err(_) => Err(OutOfMemory),
-    }
+    Ok(Listed::from_items(numbers.to_vec(alloc)?))
 }
 
 /// The same bounds.
 fn copied_bounds(alloc: Global, bounds: &[u16]) -> Result<Listed<u16>, OutOfMemory>
     ensures { IfOk result (λ copy. copy ≡ bounds.now) }
 {
-    match bounds.to_vec(alloc) {
-        Ok(copy) => Ok(Listed::from_items(copy)),
-        Err(_) => Err(OutOfMemory),
-    }
+    Ok(Listed::from_items(bounds.to_vec(alloc)?))
 }
 
 /// An equal request.
@@ -61,11 +55,7 @@ fn copied_names(alloc: Global, names: &[VarName]) -> Result<Vec<VarName>, OutOfM
 {
     let mut copies = Vec::new(alloc);
     for name in names {
-        let copy = copied_name(alloc, name)?;
-        match copies.push(copy) {
-            Ok(()) => {}
-            Err(_) => return Err(OutOfMemory),
-        }
+        copies.push(copied_name(alloc, name)?)?;
     }
     Ok(copies)
 }
@@ -81,11 +71,7 @@ fn requests_of(
 {
     let mut kept = Vec::new(alloc);
     for member in members {
-        let copy = copied_request(alloc, &requests[*member as usize])?;
-        match kept.push(copy) {
-            Ok(()) => {}
-            Err(_) => return Err(OutOfMemory),
-        }
+        kept.push(copied_request(alloc, &requests[*member as usize])?)?;
     }
     Ok(kept)
 }

@@ -18,11 +18,7 @@ fn differences(alloc: Global, paid: &[u32], saved: &[u32]) -> Result<Vec<i64>, O
 {
     let mut more = Vec::new(alloc);
     for (v, paid) in paid.iter().enumerate() {
-        let difference = i64::from(*paid) - i64::from(saved[v]);
-        match more.push(difference) {
-            Ok(()) => {}
-            Err(_) => return Err(OutOfMemory),
-        }
+        more.push(i64::from(*paid) - i64::from(saved[v]))?;
     }
     Ok(more)
 }

@@ -50,10 +50,7 @@ fn count_price(price: Price, counts: &mut [u32])
 fn zeros(alloc: Global, count: usize) -> Result<Vec<u32>, OutOfMemory>
     ensures { IfOk result (λ counts. counts.items ≡ replicate count 0) }
 {
-    match vec![in alloc; 0u32; count] {
-        Ok(counts) => Ok(counts),
-        Err(_) => Err(OutOfMemory),
-    }
+    Ok(vec![in alloc; 0u32; count]?)
 }
 
 /// How often a path pays each of the variables.

@@ -41,10 +41,8 @@ impl Model for TreeBuilder {
 fn push(entries: &mut Vec<Entry>, entry: Entry) -> Result<(), OutOfMemory>
     ensures { OnOk result (entries.new.items ≡ entries.old.items ++ entry ∷ []) }
 {
-    match entries.push(entry) {
-        Ok(()) => Ok(()),
-        Err(_) => Err(OutOfMemory),
-    }
+    entries.push(entry)?;
+    Ok(())
 }
 
 impl TreeBuilder {

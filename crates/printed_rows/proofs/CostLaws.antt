@@ -12,17 +12,12 @@ use Rattle.path_rows.specs.Problems.{DesignProblem, IsProblem}
 use Rattle.path_rows.specs.Boxes.{IsInBox}
 use Rattle.path_rows.specs.Rows.{IsFit, box_of, greatest_cost}
 use Rattle.path_rows.specs.Answers.{Names}
+use Rattle.path_rows.proofs.ProblemTrees.{fold_le}
 use Rattle.printed_rows.specs.PrintedCosts.{ArePrintedCosts, CostLinesOf, IsNamedCost}
-
-greatest_from : (w : List ℕ) (start most : ℕ) → start ≤ most → ((k : ℕ) → k < length w → slice_index w k ≤ most) → fold max start w ≤ most
-greatest_from [] start most first each = first
-greatest_from (x ∷ w) start most first each =
-    let here : x ≤ most = each 0 (omega arith) in
-    greatest_from w (max start x) most (omega arith) (λ k k_in. each (suc k) (omega arith))
 
 -- the greatest is at most what each is at most
 pub greatest-le : (w : List ℕ) (most : ℕ) → ((k : ℕ) → k < length w → slice_index w k ≤ most) → greatest_cost w ≤ most
-greatest-le w most each = greatest_from w 0 most (omega arith) each
+greatest-le w most each = fold_le w 0 most (omega arith) each
 
 -- a greatest from a on is a, or one of the others
 greatest-reached_from : (a : ℕ) (w : List ℕ) → (fold max a w ≡ a) ⊎ ((k : ℕ) × (k < length w) × (slice_index w k ≡ fold max a w))

@@ -1,5 +1,5 @@
 -- The rows that are kept, with those that are left out behind them.
-use Rattle.std.proofs.Common.{◌≡◌, ℕ, zero, suc, ◌+◌, ◌<◌, ◌≤◌, refl, sym, ◌∙◌, ap, List, [], ◌∷◌, ◌++◌, map, length, get_or, length-append, arith, Bool, true, false, cond, if◌then◌else◌, inl, inr}
+use Rattle.std.proofs.Common.{◌≡◌, ℕ, zero, suc, ◌+◌, ◌<◌, refl, sym, ◌∙◌, ap, List, [], ◌∷◌, ◌++◌, map, length, get_or, length-append, arith, Bool, true, false, cond, if◌then◌else◌, inl, inr}
 use Rattle.std.specs.Prelude.{All, Contains, Option, slice_get}
 use Rattle.std.specs.Option.{option_map, unwrap_or}
 use Rattle.std.proofs.lemmas.Bool.{cases_Bool}
@@ -10,7 +10,7 @@ use Rattle.path_rows.specs.declared.form.Form.{Form}
 use Rattle.path_rows.specs.Forms.{no_form}
 use Rattle.path_rows.specs.Renumbering.{KeepsForms}
 use Rattle.printed_rows.specs.NewNumbers.{KeepsRows, kept_from, kept_rows, new_number}
-use Rattle.printed_rows.proofs.NumberLaws.{new_number-small, numbers_rise}
+use Rattle.printed_rows.proofs.NumberLaws.{numbers_rise}
 
 -- what holds of all rows holds of those that are kept
 kept_all : {R : Type 0} (P : R → Type 0) (named : ℕ → Bool) (first : ℕ) (rows : List R) → All P rows → All P (kept_from named first rows)
@@ -85,10 +85,6 @@ length-kept_rows {R} named (x ∷ rows) =
 pub number_known : {R : Type 0} (named : ℕ → Bool) (rows : List R) (row : ℕ) → row < length rows → named row ≡ true →
     new_number named row < length (kept_rows named rows)
 number_known named rows row within is = let rise = numbers_rise named row (length rows) within is in omega (arith, rise, length-kept_rows named rows)
-
--- no more rows are kept than there are
-pub fewer_kept : {R : Type 0} (named : ℕ → Bool) (rows : List R) → length (kept_rows named rows) ≤ length rows
-fewer_kept named rows = omega (arith, length-kept_rows named rows, new_number-small named (length rows))
 
 -- what stands at a place of one list and then another one
 get_left : {X : Type 0} (xs ys : List X) (k : ℕ) → k < length xs → slice_get (xs ++ ys) k ≡ slice_get xs k

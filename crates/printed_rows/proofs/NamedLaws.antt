@@ -81,7 +81,7 @@ parts_agree f g P (part ∷ parts) agree names =
     let rest = parts_agree f g P parts agree (All-tail Q part parts names) in
     ap (λ (p : ℕ × ℕ). p ∷ map (renumbered_part f) parts) here ∙ ap (λ (ps : List (ℕ × ℕ)). renumbered_part g part ∷ ps) rest
 
-entry_agrees : (f g : ℕ → ℕ) (P : ℕ → Type 0) (entry : Entry) → ((k : ℕ) → P k → f k ≡ g k) → EachNamed P entry → renumbered f entry ≡ renumbered g entry
+pub entry_agrees : (f g : ℕ → ℕ) (P : ℕ → Type 0) (entry : Entry) → ((k : ℕ) → P k → f k ≡ g k) → EachNamed P entry → renumbered f entry ≡ renumbered g entry
 entry_agrees f g P (Tighten var side value row) agree names = ap (λ (k : ℕ). Tighten var side value k) (agree row names)
 entry_agrees f g P (Split var value) agree names = refl
 entry_agrees f g P (Halve var value wide) agree names =

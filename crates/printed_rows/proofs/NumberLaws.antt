@@ -5,13 +5,13 @@ use Rattle.cost_base.specs.Lists.{numbers_from}
 use Rattle.cost_base.proofs.ListLemmas.{length-map-numbers_from, get_or-map-numbers_from, numbers_from-push}
 use Rattle.std.proofs.lemmas.Bool.{cases_Bool}
 use Rattle.std.proofs.lemmas.List.{length-map, map-append, get_or-map}
-use Rattle.std.proofs.lemmas.List.Elements.{All-map, All-weaker}
+use Rattle.std.proofs.lemmas.List.Elements.{All-map}
 use Rattle.path_rows.specs.declared.tree.Entry.{Entry}
 use Rattle.path_rows.specs.declared.tree.Entry.TheVariants.{Tighten, Split, Halve, Refute, Undone}
 use Rattle.path_rows.specs.Trees.{WholeTrees, subtree_count}
 use Rattle.path_rows.specs.Renumbering.{renumbered, renumbered_part}
-use Rattle.printed_rows.specs.NamedRows.{PartKnown}
-use Rattle.printed_rows.specs.NewNumbers.{AreNumbers, new_number, number_in}
+use Rattle.printed_rows.specs.NamedRows.{NamesKnown, PartKnown}
+use Rattle.printed_rows.specs.NewNumbers.{AreNumbers, KeepsOrder, new_number, number_in}
 
 -- where a row is kept, those behind it have greater numbers
 step_kept : (named : ℕ → Bool) (row : ℕ) → named row ≡ true → new_number named (suc row) ≡ new_number named row + 1
@@ -38,14 +38,6 @@ numbers_rise named a b below is =
     let rest = numbers_le named (suc a) b (b - suc a) (omega arith) in
     omega (arith, step_kept named a is, rest)
 
--- a number is at most the row's own
-pub new_number-small : (named : ℕ → Bool) (row : ℕ) → new_number named row ≤ row
-new_number-small named zero = omega arith
-new_number-small named (suc row) = let rest = new_number-small named row in elim (cases_Bool (named row)) [
-  | inl is ↦ omega (arith, step_kept named row is)
-  | inr is ↦ omega (arith, step_left named row is)
-]
-
 first : (n : ℕ) → 0 + n ≡ n
 first n = omega arith
 
@@ -57,13 +49,14 @@ numbers_more named numbers i are =
     ∙ ap (λ (k : ℕ). map (new_number named) (numbers_from 0 i ++ k ∷ [])) (sym (first i))
     ∙ ap (map (new_number named)) (sym (numbers_from-push 0 i))
 
-pub numbers_counted : (named : ℕ → Bool) (n : ℕ) (numbers : List ℕ) → AreNumbers named n numbers → length numbers ≡ n
-numbers_counted named n numbers are = ap length are ∙ length-map-numbers_from (new_number named) 0 n
+-- as many numbers as rows
+pub numbers_counted : (f : ℕ → ℕ) (n : ℕ) (numbers : List ℕ) → numbers ≡ map f (numbers_from 0 n) → length numbers ≡ n
+numbers_counted f n numbers are = ap length are ∙ length-map-numbers_from f 0 n
 
 -- the number of a row
-pub number_at : (named : ℕ → Bool) (n : ℕ) (numbers : List ℕ) (row : ℕ) → AreNumbers named n numbers → row < n → number_in numbers row ≡ new_number named row
-number_at named n numbers row are within =
-    ap (λ (ns : List ℕ). get_or ns row 0) are ∙ get_or-map-numbers_from (new_number named) 0 n row 0 within ∙ ap (new_number named) (first row)
+pub number_at : (f : ℕ → ℕ) (n : ℕ) (numbers : List ℕ) (row : ℕ) → numbers ≡ map f (numbers_from 0 n) → row < n → number_in numbers row ≡ f row
+number_at f n numbers row are within =
+    ap (λ (ns : List ℕ). get_or ns row 0) are ∙ get_or-map-numbers_from f 0 n row 0 within ∙ ap f (first row)
 
 -- the step of the loop that numbers the rows
 pub numbered_more : (named : ℕ → Bool) (numbers more : List ℕ) (i next after : ℕ) (is : Bool) →
@@ -82,11 +75,8 @@ numbered_more named numbers more i next after is next_is are more_is is_named af
     after_number true e a = a ∙ ap (λ (n : ℕ). n + 1) next_is ∙ sym (step_kept named i (sym e)) ∙ ap (new_number named) (sym one_more)
     after_number false e a = a ∙ next_is ∙ sym (step_left named i (sym e)) ∙ ap (new_number named) (sym one_more)
 
-pub parts_known : (named : ℕ → Bool) (n : ℕ) (parts : List (ℕ × ℕ)) → All (PartKnown named n) parts → All (λ part. part.0 < n) parts
-parts_known named n parts = All-weaker (PartKnown named n) (λ part. part.0 < n) (λ part is. is.0) parts
-
 -- the rows of a Refute rise again
-pub parts_rise : (named : ℕ → Bool) (n : ℕ) (numbers : List ℕ) (parts : List (ℕ × ℕ)) → AreNumbers named n numbers →
+parts_rise : (named : ℕ → Bool) (n : ℕ) (numbers : List ℕ) (parts : List (ℕ × ℕ)) → AreNumbers named n numbers →
     All (PartKnown named n) parts → AllPairs (λ a b. a.0 < b.0) parts
     → AllPairs (λ a b. a.0 < b.0) (map (renumbered_part (number_in numbers)) parts)
 parts_rise named n numbers parts are names rising i j d before j_in =
@@ -100,8 +90,17 @@ parts_rise named n numbers parts are names rising i j d before j_in =
     let b_is = names j d j_known in
     let rise = numbers_rise named a.0 b.0 (rising i j d before j_known) a_is.1 in
     let less : number_in numbers a.0 < number_in numbers b.0 =
-    omega (arith, rise, number_at named n numbers a.0 are a_is.0, number_at named n numbers b.0 are b_is.0) in
+    omega (arith, rise, number_at (new_number named) n numbers a.0 are a_is.0, number_at (new_number named) n numbers b.0 are b_is.0) in
     rw (get_or-map (renumbered_part f) parts i d d i_known, get_or-map (renumbered_part f) parts j d d j_known) less
+
+-- the new numbers keep the order of the rows of an entry
+pub order_kept : (named : ℕ → Bool) (n : ℕ) (numbers : List ℕ) (entry : Entry) → AreNumbers named n numbers → NamesKnown named n entry →
+    KeepsOrder (number_in numbers) entry
+order_kept named n numbers (Tighten var side value row) are known = tt
+order_kept named n numbers (Split var value) are known = tt
+order_kept named n numbers (Halve var value wide) are known = tt
+order_kept named n numbers (Refute parts) are known = parts_rise named n numbers parts are known
+order_kept named n numbers Undone are known = tt
 
 pub parts_positive : (number : ℕ → ℕ) (parts : List (ℕ × ℕ)) → All (λ part. 0 < part.1) parts → All (λ part. 0 < part.1) (map (renumbered_part number) parts)
 parts_positive number parts positive = All-map (λ (part : ℕ × ℕ). 0 < part.1) (renumbered_part number) parts positive

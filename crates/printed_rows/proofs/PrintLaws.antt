@@ -25,7 +25,7 @@ pub numbers_agree : (test named : ℕ → Bool) (n : ℕ) (numbers : List ℕ) (
     AreNumbers test n numbers → All (NamesKnown test n) entries →
     map (renumbered (number_in numbers)) entries ≡ with_new_numbers named entries
 numbers_agree test named n numbers entries same are known =
-    entries_agree (number_in numbers) (new_number test) (IsKnown test n) entries (λ row is. number_at test n numbers row are is.0) known
+    entries_agree (number_in numbers) (new_number test) (IsKnown test n) entries (λ row is. number_at (new_number test) n numbers row are is.0) known
     ∙ ap (λ (t : ℕ → Bool). with_new_numbers t entries) same
 
 pub tree_agrees : (test named : ℕ → Bool) (n : ℕ) (numbers : List ℕ) (tree new : Option CapTree) → test ≡ named →
@@ -46,7 +46,7 @@ are_numbered : (test : ℕ → Bool) (n : ℕ) (made marks : List Bool) (all num
     length made ≡ n → marks ≡ made → AreNumbers (is_marked marks) (length marks) all → numbers ≡ all →
     AreNumbered test n marks numbers
 are_numbered test n made marks all numbers same made_count marks_is are numbers_is =
-    let counted : length numbers ≡ length marks = ap length numbers_is ∙ numbers_counted (is_marked marks) (length marks) all are in
+    let counted : length numbers ≡ length marks = ap length numbers_is ∙ numbers_counted (new_number (is_marked marks)) (length marks) all are in
     record {
       same = ap is_marked marks_is ∙ same;
       counted = counted ∙ ap length marks_is ∙ made_count;

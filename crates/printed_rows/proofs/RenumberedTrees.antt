@@ -3,6 +3,7 @@ use Rattle.std.proofs.Common.{◌≡◌, ℕ, zero, suc, ◌^◌, ◌<◌, refl,
 use Rattle.std.specs.Prelude.{pos, ◌+ℤ◌, ◌*ℤ◌, ◌<ℤ◌, All, Contains, slice_index_or}
 use Rattle.std.proofs.lemmas.List.{length-map, map-append, get_or-map, get_or_append_left}
 use Rattle.std.proofs.lemmas.List.Elements.{All-nil, All-cons, All-head, All-tail, All-map}
+use Rattle.cost_base.proofs.ListLemmas.{none_mapped}
 use Rattle.area_graph.specs.declared.Point.{Point}
 use Rattle.path_rows.specs.declared.form.Form.{Form}
 use Rattle.path_rows.specs.declared.form.CostBox.{CostBox}
@@ -114,10 +115,6 @@ last_kept number tree last = record {
       ∙ map-append (renumbered number) last.done (undones last.undone)
       ∙ ap (λ (es : List Entry). map (renumbered number) last.done ++ es) (undones_kept number last.undone);
 }
-
-none_mapped : {X Y : Type 0} (f : X → Y) (xs : List X) → map f xs ≡ [] → xs ≡ []
-none_mapped f [] none = refl
-none_mapped f (x ∷ xs) none = cc
 
 short_entry : (number : ℕ → ℕ) (n : ℕ) (entry : Entry) → IsShort n entry → IsShort n (renumbered number entry)
 short_entry number n (Tighten var side value row) short = short

@@ -1,5 +1,5 @@
 -- The lines of a tree are short enough: each is some words, and each word some digits.
-use Rattle.std.proofs.Common.{◌≡◌, ℕ, ◌+◌, ◌*◌, ◌^◌, ◌<◌, ◌≤◌, refl, sym, subst, List, [], ◌∷◌, ◌++◌, length, length-append, arith}
+use Rattle.std.proofs.Common.{◌≡◌, ℕ, ◌+◌, ◌*◌, ◌^◌, ◌<◌, ◌≤◌, sym, subst, List, [], ◌∷◌, ◌++◌, length, length-append, arith}
 use Rattle.std.specs.Prelude.{ℤ, pos, negsuc, nat_abs, codes, All, slice_index, slice_index_or}
 use Rattle.std.proofs.lemmas.List.Elements.{All-nil, All-cons, All-head, All-tail}
 use Rattle.cost_base.specs.Decimal.{decimal}
@@ -24,7 +24,7 @@ use Rattle.path_rows.specs.Trees.{SoundAt, subboxes}
 use Rattle.path_rows.specs.Earnest.{Place, Earnest, EarnestAt, IsEarnestTree, subplaces}
 use Rattle.path_rows.specs.Text.{FitsEntry, IsPrinted, entry_line, integer, member_words, members_words, part_words, ratio_word, side_word, spaced, step_word}
 use Rattle.path_rows.proofs.BoxParts.{IsBoxIn, part_whole, subboxes_in}
-use Rattle.path_rows.proofs.OpenPlaces.{AllOf, all_of_more, boxes_of}
+use Rattle.path_rows.proofs.OpenPlaces.{AllOf, all_of_more, boxes_of, same_boxes}
 use Rattle.form_search.specs.Finds.{IsShort}
 use Rattle.printed_rows.specs.NamedRows.{MemberBelow, NamesBelow}
 
@@ -195,13 +195,6 @@ entry_short accepts top n rows forms outer place (Refute parts) bounds some kept
     refute_line parts (λ k d k_in. (let below = names k d k_in in omega arith, short.0.1 k d k_in)) (omega (arith, short.1, bounds.few))
 entry_short accepts top n rows forms outer place Undone bounds some kept sound earnest short names = omega arith
 
-boxes_after : (place : Place) (entry : Entry) (places : List Place) → boxes_of (subplaces place entry ++ places) ≡ subboxes place.box entry ++ boxes_of places
-boxes_after place (Tighten var side value row) places = refl
-boxes_after place (Split var value) places = refl
-boxes_after place (Halve var value wide) places = refl
-boxes_after place (Refute parts) places = refl
-boxes_after place Undone places = refl
-
 -- the lines of the entries
 entries_short : (accepts : Point → Type 0) (top n rows : ℕ) (forms : List Form) (outer : CostBox) (places : List Place)
     (entries : List Entry) → IsCostBounds n outer → rows < 2 ^ 64 → AllOf (IsBoxIn n outer) (boxes_of places) →
@@ -215,7 +208,7 @@ entries_short accepts top n rows forms outer (p ∷ places) (e ∷ entries) boun
     (entry_short accepts top n rows forms outer p e bounds some kept.0 earnest.0 earnest.1
     (All-head (IsShort n) e entries short) (All-head (NamesBelow rows) e entries names))
     (entries_short accepts top n rows forms outer (subplaces p e ++ places) entries bounds some
-    (subst (AllOf (IsBoxIn n outer)) (sym (boxes_after p e places))
+    (subst (AllOf (IsBoxIn n outer)) (sym (same_boxes p e places))
     (all_of_more (IsBoxIn n outer) (subboxes p.box e) (boxes_of places)
     (subboxes_in n outer forms p.box e kept.0 earnest.0) kept.1))
     earnest.2 (All-tail (IsShort n) e entries short) (All-tail (NamesBelow rows) e entries names))

@@ -1,9 +1,10 @@
 -- The rows that are printed, and trees that name them by their new numbers.
-use Rattle.std.specs.Prelude.{◌≡◌, ℕ, zero, suc, ◌+◌, ◌^◌, ◌<◌, ◌||◌, List, [], ◌∷◌, Bool, false, if◌then◌else◌, map, length, slice_get, slice_index, slice_index_or, All, Contains, Option, None, Some}
+use Rattle.std.specs.Prelude.{◌≡◌, ℕ, zero, suc, ◌+◌, ◌^◌, ◌<◌, ◌||◌, List, [], ◌∷◌, Bool, false, if◌then◌else◌, map, length, slice_get, slice_index, slice_index_or, All, AllPairs, Contains, Option, None, Some}
 use Rattle.cost_base.specs.Lists.{numbers_from}
 use Rattle.path_rows.specs.declared.answer.CapTree.{CapTree}
 use Rattle.path_rows.specs.declared.tree.Entry.{Entry}
-use Rattle.path_rows.specs.Renumbering.{renumbered}
+use Rattle.path_rows.specs.declared.tree.Entry.TheVariants.{Tighten, Split, Halve, Refute, Undone}
+use Rattle.path_rows.specs.Renumbering.{renumbered, renumbered_part}
 use Rattle.printed_rows.specs.NamedRows.{entries_in, is_named}
 
 -- whether the row has a mark
@@ -34,6 +35,18 @@ AreNumbers named n numbers = numbers ≡ map (new_number named) (numbers_from 0 
 
 abbrev pub number_in : List ℕ → ℕ → ℕ
 number_in numbers row = slice_index numbers row
+
+-- parts whose rows rise do so by the new numbers of these rows
+abbrev pub PartsKeepOrder : (ℕ → ℕ) → List (ℕ × ℕ) → Type 0
+PartsKeepOrder number parts = AllPairs (λ a b. a.0 < b.0) parts → AllPairs (λ a b. a.0 < b.0) (map (renumbered_part number) parts)
+
+-- the new numbers keep the order of a Refute's rows
+abbrev pub KeepsOrder : (ℕ → ℕ) → Entry → Type 0
+KeepsOrder number (Tighten var side value row) = Unit {0}
+KeepsOrder number (Split var value) = Unit {0}
+KeepsOrder number (Halve var value wide) = Unit {0}
+KeepsOrder number (Refute parts) = PartsKeepOrder number parts
+KeepsOrder number Undone = Unit {0}
 
 -- the entries with the new numbers of the rows that are kept
 abbrev pub with_new_numbers : (ℕ → Bool) → List Entry → List Entry

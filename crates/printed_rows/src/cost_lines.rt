@@ -1,22 +1,10 @@
 //! The printed lines of costs.
 ghost use Rattle.std.specs.Prelude.{◌≡◌, ℕ, ◌<◌, ◌≤◌, length, slice_index, All, IfOk};
-ghost use Rattle.path_rows.specs.Rows.{greatest_cost};
 ghost use Rattle.printed_rows.specs.PrintedCosts.{ArePrintedCosts, CostLinesOf};
 
 use cost_base::{Listed, Name, OutOfMemory};
-use path_rows::{CostLine, Costs, Problem, VarName};
+use path_rows::{CostLine, Costs, Problem, VarName, greatest_of};
 use std::alloc::Global;
-
-/// The greatest of some costs, and 0 where there is none.
-pub fn greatest_of(costs: &[u16]) -> u16
-    ensures { result ≡ greatest_cost costs.now }
-{
-    let mut greatest = 0;
-    for cost in costs {
-        greatest = greatest.max(*cost);
-    }
-    greatest
-}
 
 /// The line that gives an interface the cost of its variable.
 fn cost_line(alloc: Global, name: &VarName, costs: &[u16]) -> Result<CostLine, OutOfMemory>

@@ -9,5 +9,6 @@ mod new_numbers;
 mod printing;
 mod row_marks;
 
-pub use cost_lines::{greatest_of, printed_costs};
+pub use cost_lines::printed_costs;
+pub use new_numbers::renumbered_entry;
 pub use printing::{PrintedTree, PrintedTrees, printed, printed_both};

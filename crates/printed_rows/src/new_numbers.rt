@@ -2,8 +2,8 @@
 ghost use Rattle.std.specs.Prelude.{◌≡◌, ℕ, ◌<◌, ◌++◌, ◌∷◌, [], length, map, cond, Bool, All, IfOk, OnOk};
 ghost use Rattle.std.specs.Option.{option_copied};
 ghost use Rattle.path_rows.specs.Renumbering.{renumbered, renumbered_member, renumbered_part, renumbered_wide};
-ghost use Rattle.printed_rows.specs.NamedRows.{MemberBelow, NamesKnown, TreeNamesKnown, PartKnown};
-ghost use Rattle.printed_rows.specs.NewNumbers.{AreNumbers, HasNumbers, kept_rows, is_marked, new_number, number_in};
+ghost use Rattle.printed_rows.specs.NamedRows.{MemberBelow, NamesBelow, NamesKnown, TreeNamesKnown};
+ghost use Rattle.printed_rows.specs.NewNumbers.{AreNumbers, HasNumbers, KeepsOrder, PartsKeepOrder, kept_rows, is_marked, new_number, number_in};
 
 use cost_base::{Listed, OutOfMemory};
 use path_rows::{CapTree, Entry, Member, Parts, Tree, WideAt};
@@ -101,16 +101,22 @@ fn new_pairs(
 
 /// The Refute's rows with their new numbers.
 fn new_parts(alloc: Global, parts: &Parts, numbers: &[u64]) -> Result<Parts, OutOfMemory>
-    requires { (named : ℕ → Bool) × AreNumbers named (length numbers.now) numbers.now × All (PartKnown named (length numbers.now)) parts.now }
+    requires known { All (λ part. part.0 < length numbers.now) parts.now }
+    requires order { PartsKeepOrder (number_in numbers.now) parts.now }
     ensures { IfOk result (λ new. new ≡ map (renumbered_part (number_in numbers.now)) parts.now) }
 {
     let pairs = new_pairs(alloc, parts.as_slice(), numbers)?;
     Ok(Parts::from_items(pairs))
 }
 
-/// The entry with the new numbers of its rows.
-fn new_entry(alloc: Global, entry: &Entry, numbers: &[u64]) -> Result<Entry, OutOfMemory>
-    requires { (named : ℕ → Bool) × AreNumbers named (length numbers.now) numbers.now × NamesKnown named (length numbers.now) entry.now }
+/// The entry with the new numbers of its rows: each row's number stands at its place in `numbers`.
+///
+/// # Errors
+///
+/// `OutOfMemory`.
+pub fn renumbered_entry(alloc: Global, entry: &Entry, numbers: &[u64]) -> Result<Entry, OutOfMemory>
+    requires known { NamesBelow (length numbers.now) entry.now }
+    requires order { KeepsOrder (number_in numbers.now) entry.now }
     ensures { IfOk result (λ new. new ≡ renumbered (number_in numbers.now) entry.now) }
 {
     match entry {
@@ -162,7 +168,7 @@ fn new_entries(alloc: Global, entries: &[Entry], numbers: &[u64]) -> Result<Vec<
 {
     let mut new = Vec::new(alloc);
     for entry in entries {
-        new.push(new_entry(alloc, entry, numbers)?)?;
+        new.push(renumbered_entry(alloc, entry, numbers)?)?;
     }
     Ok(new)
 }

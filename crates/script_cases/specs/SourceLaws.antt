@@ -12,6 +12,7 @@ use Rattle.path_rows.specs.declared.form.Term.{Term}
 use Rattle.path_rows.specs.Forms.{Form, dot, size_of, terms_from, terms_of, value, value_at, AreMet}
 use Rattle.path_rows.proofs.FormSizes.{value_size}
 use Rattle.path_rows.proofs.TermLaws.{sizes_from}
+use Rattle.path_rows.proofs.AtCosts.{dot_scaled}
 use Rattle.form_search.specs.Sources.{IsTrueForm, scaled}
 use Rattle.script_cases.specs.SmallForms.{IsTiny, IsTrueOf, SmallForms}
 
@@ -62,14 +63,6 @@ true_forms_hold s form is = record {
 
 pub true_forms_listed : (s : SmallForms) (form : Form) → IsTrueOf s form → Contains s.forms form
 true_forms_listed s form is = is.listed
-
-dot_scaled : (cs : List ℤ) (w : List ℕ) (scale : ℕ) → dot cs (map (λ x. x * scale) w) ≡ (dot cs w *ℤ pos scale)
-dot_scaled [] w scale = ring (pos scale ∷ []) (num (pos 0)) (num (pos 0) ⊗ var 0) refl
-dot_scaled (c ∷ cs) [] scale = ring (pos scale ∷ []) (num (pos 0)) (num (pos 0) ⊗ var 0) refl
-dot_scaled (c ∷ cs) (x ∷ w) scale =
-    ring_by (c ∷ pos x ∷ pos scale ∷ dot cs (map (λ y. y * scale) w) ∷ dot cs w ∷ [])
-    (var 0 ⊗ (var 1 ⊗ var 2) ⊕ var 3) ((var 0 ⊗ var 1 ⊕ var 4) ⊗ var 2)
-    (using (num (pos 1)) (var 3) (var 4 ⊗ var 2) (dot_scaled cs w scale) nothing) refl
 
 -- a form's value at multiples of costs
 value_scaled : (f : Form) (w : List ℕ) (scale : ℕ) → (value_at f (scaled w scale) *ℤ pos 1) ≡ (value_at f (at_costs w) *ℤ pos scale)

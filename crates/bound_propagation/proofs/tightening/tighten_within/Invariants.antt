@@ -1,6 +1,6 @@
 use Rattle.std.proofs.Common.{ℕ, ◌<◌, get_or}
 use Rattle.std.specs.Prelude.{pos}
-use Rattle.bound_propagation.proofs.Tightenings.{NoneAt}
+use Rattle.bound_propagation.specs.Tightening.{NoneAt}
 use Rattle.bound_propagation.proofs.tightening.tighten_within.Given as goal
 
 abbrev pub invariant-loop-term : goal.invariant-loop-term

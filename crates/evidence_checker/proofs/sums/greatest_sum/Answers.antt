@@ -5,7 +5,7 @@ use Rattle.std.proofs.lemmas.Int.{ints, to_z-of_z}
 use Rattle.std.proofs.lemmas.List.Sums.{sum_by-drop_more}
 use Rattle.path_rows.specs.Boxes.{upper}
 use Rattle.path_rows.proofs.UpperSums.{upper_sum-more}
-use Rattle.evidence_checker.proofs.Sizes.{sum_size}
+use Rattle.whole_numbers.proofs.Sizes.{sum_size}
 use Rattle.evidence_checker.proofs.sums.greatest_sum.Goals as goal
 
 pub loop-i-preserved : goal.loop-i-preserved

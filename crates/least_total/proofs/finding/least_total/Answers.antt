@@ -8,8 +8,9 @@ use Rattle.least_total.specs.declared.rounds.TotalTree.{TotalTree}
 use Rattle.least_total.specs.Rounds.{EndsAt}
 use Rattle.least_total.specs.Results.{IsAnswered}
 use Rattle.least_total.proofs.RoundLaws.{lows_below}
-use Rattle.least_total.proofs.FindingLaws.{begins, least_answered, unknown_answered}
+use Rattle.least_total.proofs.FindingLaws.{Begins, begins, least_answered, unknown_answered}
 use Rattle.least_total.proofs.finding.least_total.Goals as goal
+use Rattle.least_total.proofs.finding.least_total.Goals.{In_ok-standing}
 
 pub run_rounds-requires-clause-cap : goal.run_rounds-requires-clause-cap
 run_rounds-requires-clause-cap c =
@@ -24,15 +25,20 @@ run_rounds-requires-clause-standing c =
     let within : greatest_cost c.in_ok-costs.costs ≤ c.greatest_of-cap.result = omega (arith, cap_is) in
     c.start-standing.ensures limits.top limits.nodes c.greatest_of-cap.result (c.in_ok-costs.ensures.best.fit, within)
 
+-- the problem and its cap can be printed, and the answer tells the cap
+begun_at : (c : In_ok-standing) → Begins c.args.problem.now c.args.limits.now.nodes c.greatest_of-cap.result c.args.answer
+begun_at c =
+    let small : c.greatest_of-cap.result ≤ 65535 = search rules in
+    begins c.args.problem.now c.in_ok-costs.costs c.as_slice.result.now c.args.limits.now.nodes c.greatest_of-cap.result
+    c.args.answer c.keeps_conditions.ensures c.in_ok-costs.ensures.best c.in_ok-costs.ensures.verdict
+    c.as_slice.ensures c.greatest_of-cap.ensures small c.args.limits.now.budget_end
+
 pub returns-in_ok-proof_of-in-None : goal.returns-in_ok-proof_of-in-None
 returns-in_ok-proof_of-in-None c =
     let p = c.args.problem.now in
     let limits = c.args.limits.now in
     let cap = c.greatest_of-cap.result in
-    let small : cap ≤ 65535 = search rules in
-    let begun = begins p c.in_ok-costs.costs c.as_slice.result.now limits.nodes cap c.args.answer
-    c.keeps_conditions.ensures c.in_ok-costs.ensures.best c.in_ok-costs.ensures.verdict c.as_slice.ensures
-    c.greatest_of-cap.ensures small limits.budget_end in
+    let begun = begun_at (goal.at.returns-in_ok-proof_of-in-None c).In_ok-standing in
     let s = c.in_ok-standing.field-0.standing in
     let ended = subst (λ (o : Option (ℕ × TotalTree)). EndsAt p limits.top limits.nodes cap s o) c.in-None.is c.in_ok-standing.ensures.ends in
     subst (λ (a : AnswerParts). IsAnswered p limits.top limits.nodes c.args.answer
@@ -48,10 +54,7 @@ returns-in_ok-rows-in-Some c =
     let p = c.args.problem.now in
     let limits = c.args.limits.now in
     let cap = c.greatest_of-cap.result in
-    let small : cap ≤ 65535 = search rules in
-    let begun = begins p c.in_ok-costs.costs c.as_slice.result.now limits.nodes cap c.args.answer
-    c.keeps_conditions.ensures c.in_ok-costs.ensures.best c.in_ok-costs.ensures.verdict c.as_slice.ensures
-    c.greatest_of-cap.ensures small limits.budget_end in
+    let begun = begun_at (goal.at.returns-in_ok-rows-in-Some c).In_ok-standing in
     let s = c.in_ok-standing.field-0.standing in
     let ended = subst (λ (o : Option (ℕ × TotalTree)). EndsAt p limits.top limits.nodes cap s o) c.in-Some.is c.in_ok-standing.ensures.ends in
     let printed = c.in_ok-rows-in-Some.field-0 in

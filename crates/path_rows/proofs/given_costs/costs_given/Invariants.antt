@@ -1,6 +1,6 @@
 use Rattle.std.proofs.Common.{◌≡◌, drop, length, replicate}
-use Rattle.evidence_checker.specs.Tests.{written}
-use Rattle.evidence_checker.proofs.costs.costs_given.Given as goal
+use Rattle.path_rows.specs.GivenCosts.{written}
+use Rattle.path_rows.proofs.given_costs.costs_given.Given as goal
 
 abbrev pub invariant-loop-index : goal.invariant-loop-index
 invariant-loop-index l = record {
