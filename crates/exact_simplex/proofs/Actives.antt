@@ -1,8 +1,8 @@
 -- What a tableau's table keeps, in each of its two representations.
 use Rattle.std.proofs.Common.{◌≡◌, ℕ, refl, sym, ◌∙◌, ap, subst, List, [], length, true, false, Bool, arith}
 use Rattle.std.specs.declared.result.Result.TheVariants.{Ok, Err}
-use Rattle.std.specs.Prelude.{Result, IfOk, OnErr, OnOk, ◌^◌, ◌<◌, ◌≤◌, ℤ, pos, ◌≤ℤ◌, nat_abs, All}
-use Rattle.std.proofs.lemmas.List.{get_or_default, length-map}
+use Rattle.std.specs.Prelude.{Result, IfOk, OnErr, OnOk, ◌^◌, ◌<◌, ◌≤◌, pos, ◌≤ℤ◌, All}
+use Rattle.std.proofs.lemmas.List.{get_or_default}
 use Rattle.whole_numbers.specs.Fractions.{Fraction}
 use Rattle.whole_numbers.specs.Lists.{number_at}
 use Rattle.path_rows.specs.Basis.{IsBasis}
@@ -19,19 +19,19 @@ use Rattle.fraction_table.specs.declared.table.Table.{Table}
 use Rattle.path_rows.specs.Basis.{entry, member_form}
 use Rattle.fraction_table.specs.Pivots.{AreHigh, KeepsForms, line_at, line_numbers, member_at}
 use Rattle.fraction_table.specs.Tableaus.{IsAmongForms, IsGoing, IsSolved, wide_at}
-use Rattle.fraction_table.specs.Wholes.{HasRoom, IsShown, IsSound, IsWhole, IsWholeTable, members_of}
+use Rattle.fraction_table.specs.Wholes.{HasRoom, IsShown, IsSound, IsWhole, IsWholeTable}
 use Rattle.fraction_table.proofs.Pivots.{line_long, whole_line}
 use Rattle.fraction_table.proofs.Solutions.{high_number, settled_among, settled_solves}
 use Rattle.fraction_table.proofs.WholeTurns.{stand_at}
 use Rattle.fraction_table.proofs.theory.TurnedNumbers.{numbers_long}
 use Rattle.fraction_table.proofs.Bases.{whole_basis}
 use Rattle.table_kernel.specs.declared.kernel.Kernel.{Kernel}
-use Rattle.table_kernel.specs.Kernels.{IsKernel, lines_of, lows_of, stated}
-use Rattle.table_kernel.specs.Numbers.{fraction_line}
+use Rattle.table_kernel.specs.Kernels.{IsKernel, lines_of, stated}
 use Rattle.table_kernel.specs.declared.kernel.OutOfRange.{OutOfRange}
 use Rattle.table_kernel.specs.Turnings.{IsHeldUp}
 use Rattle.table_kernel.specs.Turns.{HoldsNumbers}
 use Rattle.table_kernel.proofs.AtBasis.{stated_lines}
+use Rattle.table_kernel.proofs.Restated.{lines_many}
 use Rattle.table_kernel.proofs.SameKernels.{kernel_same, lines_same}
 use Rattle.fraction_table.specs.RowLines.{HoldsSame}
 use Rattle.fraction_table.proofs.RowAdds.{room_same}
@@ -77,23 +77,16 @@ kernel_shown true k solved is kernel shown =
     subst (λ (lines : List (List Fraction)). IsShown k.table.basis.items lines (Ended solved)) (sym (stated_lines k kernel.shaped)) shown
 kernel_shown false k solved is kernel shown = absurd (clash is)
 
-line_of_place : (k : Kernel) → IsKernel k → (place : ℕ) → place < length k.constants.items → place < length (stated k).lines.items
-line_of_place k kernel place place_in =
-    omega (
-      arith,
-      ap length (stated_lines k kernel.shaped),
-      length-map (members_of k.table.costs (length k.table.rows.items))
-          (fraction_line (nat_abs k.common) k.table.costs k.table.rows.items (lows_of k)),
-      kernel.shaped.constants,
-      place_in,
-    )
+-- the table that a kernel stands for has a line for each constant
+lines_there : (k : Kernel) → IsKernel k → length (stated k).lines.items ≡ length k.constants.items
+lines_there k kernel = ap length (stated_lines k kernel.shaped) ∙ lines_many k kernel.shaped
 
 -- the constants of a kernel that stands for a table without negative constants
 pub kernel_high : (b : Bool) (k : Kernel) → b ≡ true → IsKernel k → AreHigh (table_in b k) → All (λ z. pos 0 ≤ℤ z) k.constants.items
 kernel_high true k is kernel high place d place_in =
     let t = stated k in
     let w = kernel.whole in
-    let line_in = line_of_place k kernel place place_in in
+    let line_in : place < length t.lines.items = omega (arith, lines_there k kernel, place_in) in
     let l = whole_line t w place line_in in
     let first = number_there t.top (line_at t place) 0 l.numbers (omega (arith, line_long t w place line_in)) in
     let stands = stand_at w.unboxed.common (line_at t place) (line_numbers t w place) 0 l.stand
@@ -110,15 +103,7 @@ kernel_high false k is kernel high place d place_in = absurd (clash is)
 
 -- how many lines there are
 pub kernel_many : (b : Bool) (k : Kernel) (line : ℕ) → b ≡ true → IsKernel k → line < length (table_in b k).lines.items → line < length k.constants.items
-kernel_many true k line is kernel line_in =
-    omega (
-      arith,
-      ap length (stated_lines k kernel.shaped),
-      length-map (members_of k.table.costs (length k.table.rows.items))
-          (fraction_line (nat_abs k.common) k.table.costs k.table.rows.items (lows_of k)),
-      kernel.shaped.constants,
-      line_in,
-    )
+kernel_many true k line is kernel line_in = omega (arith, lines_there k kernel, line_in)
 kernel_many false k line is kernel line_in = absurd (clash is)
 
 -- an active table has a basis, in either representation

@@ -1,12 +1,11 @@
 //! The table that a tableau works on: the kernel, and from the first step that its bounds don't cover the table in
 //! fractions.
-ghost use Rattle.std.specs.Prelude.{◌≡◌, ℕ, suc, ◌^◌, ◌<◌, ◌≤◌, ◌↔◌, ◌++◌, [], ◌∷◌, length, map, true, false, All, IfErr, IfOk, IsTrue, OnErr, OnOk};
-ghost use Rattle.cost_base.specs.Lists.{numbers_from};
+ghost use Rattle.std.specs.Prelude.{◌≡◌, ℕ, suc, ◌^◌, ◌<◌, ◌≤◌, ◌↔◌, ◌++◌, [], ◌∷◌, length, true, false, All, IfErr, IfOk, IsTrue, OnErr, OnOk};
 ghost use Rattle.path_rows.specs.Boxes.{IsBox, Refutes};
 ghost use Rattle.path_rows.specs.Earnest.{IsLeast};
 ghost use Rattle.path_rows.specs.Steps.{IsStuck, IsTooWide};
 ghost use Rattle.path_rows.specs.Forms.{AreMet};
-ghost use Rattle.fraction_rows.specs.TableRows.{nothing};
+ghost use Rattle.fraction_rows.specs.TableRows.{blank_row};
 ghost use Rattle.fraction_table.specs.declared.stage.Stage.{Stage};
 ghost use Rattle.fraction_table.specs.declared.stage.Stage.TheVariants.{Ended, Open};
 ghost use Rattle.fraction_table.specs.Multipliers.{IsToldOf};
@@ -73,7 +72,7 @@ impl ActiveTable {
         ensures same { self.new.in_kernel ≡ self.old.in_kernel }
         ensures place { OnOk result (HasRowPlace self.new.kernel) }
         ensures form { IfOk result (λ row. row.form ≡ form.now) }
-        ensures blank { IfOk result (λ row. row.line ≡ nothing ∷ map (λ column. nothing) (numbers_from 0 (length self.old.kernel.table.costs.low))) }
+        ensures blank { IfOk result (λ row. row.line ≡ blank_row (length self.old.kernel.table.costs.low)) }
     {
         self.kernel.make_room(alloc, form)
     }
@@ -101,7 +100,7 @@ impl ActiveTable {
         requires active { IsActive self.old }
         requires place { HasRowPlace self.old.kernel }
         requires fits { FitsBox self.old.kernel.table.costs row.form }
-        requires blank { row.line ≡ nothing ∷ map (λ column. nothing) (numbers_from 0 (length self.old.kernel.table.costs.low)) }
+        requires blank { row.line ≡ blank_row (length self.old.kernel.table.costs.low) }
         ensures held { held_of self.new.kernel.table Open ≡ record {
           top = self.old.kernel.table.top;
           costs = self.old.kernel.table.costs;

@@ -65,10 +65,7 @@ impl Tableau {
         ensures members { IfOk result (λ members. members.items ≡ self.now.basis) }
         ensures basis { IsBasis self.now.costs self.now.rows self.now.basis }
     {
-        match self.table.kernel.table.basis.as_slice().to_vec(alloc) {
-            Ok(members) => Ok(members),
-            Err(_) => Err(OutOfMemory),
-        }
+        Ok(self.table.kernel.table.basis.as_slice().to_vec(alloc)?)
     }
 
     /// Nothing, where the tableau can go on.

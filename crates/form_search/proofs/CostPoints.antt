@@ -3,18 +3,19 @@ use Rattle.std.proofs.Common.{◌≡◌, ℕ, zero, suc, ◌+◌, ◌*◌, ◌^�
 use Rattle.std.specs.Prelude.{ℤ, pos, negsuc, ◌+ℤ◌, ◌*ℤ◌, ◌<ℤ◌, ◌≤ℤ◌, All, slice_index}
 use Rattle.std.proofs.Math.Nat.{mul-le-mul_left}
 use Rattle.std.proofs.lemmas.Int.{ints}
-use Rattle.std.proofs.lemmas.List.{length-map}
 use Rattle.std.proofs.lemmas.Bool.{cases_lt}
+use lib.IntN.{+ℤ_idr}
 use Rattle.area_graph.specs.declared.Point.{Point}
 use Rattle.area_graph.specs.Costs.{at_costs}
 use Rattle.path_rows.specs.Forms.{Form, AreMet}
 use Rattle.path_rows.specs.declared.form.CostBox.{CostBox}
-use Rattle.path_rows.specs.Forms.{added, dot, form_at, value, value_at, weighted}
+use Rattle.path_rows.specs.Forms.{added, dot, form_at, value_at, weighted}
 use Rattle.path_rows.specs.Boxes.{IsBox, IsInBox, IsPointOf, Refutes, greatest, upper, upper_sum}
 use Rattle.path_rows.specs.Trees.{CutsAt}
-use Rattle.path_rows.specs.Earnest.{Before, IsLeast, SplitsFraction}
+use Rattle.path_rows.specs.Earnest.{IsLeast, SplitsFraction}
+use Rattle.path_rows.proofs.AtCosts.{value_at_costs}
 use Rattle.advisor_box.specs.declared.candidate.Candidate.{Candidate}
-use Rattle.form_search.specs.Sources.{IsCostPoint, IsTrueForm, scaled}
+use Rattle.form_search.specs.Sources.{IsCostPoint}
 use Rattle.form_search.specs.Points.{IsCostsBox, IsFractional}
 
 low_first : (n : ℕ) (box : CostBox) → IsCostsBox n box → (k : ℕ) → k < n → 1 ≤ slice_index box.low k
@@ -59,18 +60,6 @@ low_values n box kept = each_at (λ x. (1 ≤ x) × (x ≤ 65535)) box.low (λ k
     let known : k < n = omega (arith, kept.is_box.low_count) in
     (low_first n box kept k known, (let a = kept.is_box.ordered k known in let b = high_last n box kept k known in omega arith)))
 
--- of points that meet the forms the least one that is accepted is the least accepted one
-pub least_accepted : (n : ℕ) (accepted : Point → Type 0) (forms : List Form) (box : CostBox) (point : Point) →
-    IsBox n box → All (IsTrueForm n accepted) forms → IsPointOf box point →
-    ((other : Point) → IsPointOf box other → AreMet forms other → Before other point → ⊥) → accepted point →
-    IsLeast accepted box point
-least_accepted n accepted forms box point kept hold inside least is = record {
-  inside = inside;
-  accepted = is;
-  least = λ other other_in other_is before.
-      least other other_in (λ k d k_in. (hold k d k_in).met other (sym other_in.low_count ∙ kept.low_count) other_is) before;
-}
-
 -- a candidate cuts its variable's range
 pub candidate_cuts : (n : ℕ) (box : CostBox) (point : Point) (candidate : Candidate) → IsBox n box →
     IsPointOf box point → IsFractional box point candidate → CutsAt box candidate.var candidate.floor
@@ -104,57 +93,12 @@ pub candidate_splits : (accepted : Point → Type 0) (box : CostBox) (point : Po
     SplitsFraction accepted box candidate.var candidate.floor
 candidate_splits accepted box point candidate least fractional = record { point = point; least = least; above = fractional.above; below = fractional.below }
 
--- values that are below the upper bounds, and not divided by the scale, are costs of the box
-pub values_inside : (n : ℕ) (box : CostBox) (point : Point) → IsCostsBox n box → IsPointOf box point →
-    ((k : ℕ) → k < length box.high → slice_index point.values k ≤ slice_index box.high k) → IsInBox box point.values
-values_inside n box point kept inside within = record {
-  low_count = inside.low_count;
-  high_count = inside.high_count;
-  above = λ k k_in. grown (slice_index box.low k) (slice_index point.values k) point.scale inside.scale (inside.above k k_in);
-  below = λ k k_in. within k (omega (arith, inside.high_count));
-}
-  where
-    grown : (low x scale : ℕ) → 0 < scale → low * scale ≤ x → low ≤ x
-    grown low x scale some above = let more : low * 1 ≤ low * scale = mul-le-mul_left low some in omega arith
-
 -- costs of a box are at most 65,535
 pub inside_most : (n : ℕ) (box : CostBox) (w : List ℕ) → IsCostsBox n box → IsInBox box w → All (λ x. x ≤ 65535) w
 inside_most n box w kept inside = each_at (λ x. x ≤ 65535) w (λ k k_in.
     let below = inside.below k k_in in
     let most = high_last n box kept k (omega (arith, inside.low_count, kept.is_box.low_count)) in
     omega arith)
-
--- whole costs are costs of the box where the point is one of it
-pub whole_inside : (box : CostBox) (w : List ℕ) (scale : ℕ) → IsPointOf box (scaled w scale) → IsInBox box w
-whole_inside box w scale inside =
-    let counted = length-map w (λ (x : ℕ). x * scale) in
-    record {
-      low_count = inside.low_count ∙ counted;
-      high_count = inside.high_count ∙ counted;
-      above = λ k k_in. divided (slice_index box.low k) (slice_index w k) scale inside.scale
-          (subst (λ (x : ℕ). slice_index box.low k * scale ≤ x) (at w k k_in) (inside.above k (omega arith)));
-      below = λ k k_in. divided (slice_index w k) (slice_index box.high k) scale inside.scale
-          (subst (λ (x : ℕ). x ≤ slice_index box.high k * scale) (at w k k_in) (inside.below k (omega arith)));
-    }
-  where
-    at : (xs : List ℕ) (k : ℕ) → k < length xs → slice_index (map (λ x. x * scale) xs) k ≡ slice_index xs k * scale
-    at [] k k_in = absurd (omega arith)
-    at (x ∷ xs) zero k_in = refl
-    at (x ∷ xs) (suc k) k_in = at xs k (omega arith)
-
-    divided : (a b scale : ℕ) → 0 < scale → a * scale ≤ b * scale → a ≤ b
-    divided a b scale some small =
-        elim (cases_lt b a) [
-          | inl less ↦ (let more : scale * (b + 1) ≤ scale * a = mul-le-mul_left scale (let e : b + 1 ≤ a = omega arith in e) in absurd (omega arith))
-          | inr not ↦ not
-        ]
-
--- a value at costs is the value at their point
-times_one : (z : ℤ) → (z *ℤ pos 1) ≡ z
-times_one z = omega (arith, ints)
-
-pub value_there : (f : Form) (w : List ℕ) → value_at f (at_costs w) ≡ value f w
-value_there f w = ap (λ (z : ℤ). z +ℤ dot f.coefficients w) (times_one f.constant)
 
 -- at a box of one point the greatest value is the value there
 one_term : (c : ℤ) (x : ℕ) → upper c x x ≡ (c *ℤ pos x)
@@ -170,7 +114,7 @@ pub one_value : (f : Form) (box : CostBox) → box.low ≡ box.high → greatest
 one_value f box one =
     ap (λ (hs : List ℕ). f.constant +ℤ upper_sum f.coefficients box.low hs) (sym one)
     ∙ ap (λ (z : ℤ). f.constant +ℤ z) (one_sum f.coefficients box.low)
-    ∙ sym (value_there f box.low)
+    ∙ sym (value_at_costs f box.low)
 
 pub one_met : (forms : List Form) (box : CostBox) → box.low ≡ box.high → All (λ f. pos 0 ≤ℤ greatest f box) forms → AreMet forms (at_costs box.low)
 one_met forms box one met k d k_in = subst (λ (z : ℤ). pos 0 ≤ℤ z) (one_value (slice_at forms k d) box one) (met k d k_in)
@@ -194,12 +138,9 @@ one_products (c ∷ cs) = go (map (λ d. pos 1 *ℤ d) cs) (one_list cs)
     go : (ds : List ℤ) → ds ≡ cs → ((pos 1 *ℤ c) ∷ ds) ≡ (c ∷ cs)
     go ds same = cc (one_product c, same)
 
-no_more : (c : ℤ) → (c +ℤ pos 0) ≡ c
-no_more c = omega (arith, ints)
-
 pub weighted_one : (forms : List Form) (row : ℕ) → weighted forms ((row, 1) ∷ []) ≡ form_at forms row
 weighted_one forms row = λ i. record {
-  constant = (no_more (pos 1 *ℤ (form_at forms row).constant) ∙ one_product (form_at forms row).constant) i;
+  constant = (+ℤ_idr (pos 1 *ℤ (form_at forms row).constant) ∙ one_product (form_at forms row).constant) i;
   coefficients = one_products (form_at forms row).coefficients i;
 }
 

@@ -25,7 +25,7 @@ use Rattle.form_search.specs.declared.found.Found.TheVariants.{Spent}
 use Rattle.form_search.specs.declared.turn.Next.{Next}
 use Rattle.form_search.specs.declared.turn.Next.TheVariants.{Forms, Costs, Entry as ByEntry}
 use Rattle.form_search.specs.Finds.{IsFound}
-use Rattle.form_search.specs.Turns.{IsNext, IsNextEntry, IsSoundNext, turned}
+use Rattle.form_search.specs.Turns.{IsNext, IsNextEntry, turned}
 use Rattle.form_search.proofs.MissingForms.{missing, missing_few}
 use Rattle.form_search.proofs.Relaxing.{new_falls}
 use Rattle.form_search.proofs.OtherSources.{next_same}
@@ -185,13 +185,6 @@ pub ended_whole : (accepted : Point → Type 0) (top nodes : ℕ) (forms : List 
     IsGrowing accepted top nodes forms box tree → (0 < length tree.places → ⊥) → IsWholeTree tree.entries
 ended_whole accepted top nodes forms box tree growing none =
     earnest_whole accepted top forms box tree.entries (growing_ends accepted top nodes forms box tree growing none).0.earnest
-
--- an entry that may come next is sound
-pub next_sound : (accepted : Point → Type 0) (top : ℕ) (old new : List Form) (place : Place) (next : Next) →
-    IsNext accepted top old new place next → IsSoundNext place.box next
-next_sound accepted top old new place Forms is = tt
-next_sound accepted top old new place (Costs w) is = tt
-next_sound accepted top old new place (ByEntry entry) is = (new, is.sound)
 
 -- the tree goes on growing, or shows what was found
 abbrev pub IsTurned : (Point → Type 0) → ℕ → ℕ → List Form → CostBox → ControlFlow Found Growing → Type 0

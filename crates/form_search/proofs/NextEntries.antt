@@ -1,8 +1,6 @@
 -- The entries that come next, by one form or by a tableau.
 use Rattle.std.proofs.Common.{◌≡◌, ℕ, zero, suc, ◌^◌, ◌<◌, refl, sym, subst, List, [], ◌∷◌, length, take, drop, arith, take-append-drop}
-use Rattle.std.specs.Prelude.{◌≢◌, pos, ◌<ℤ◌, All, sum_by}
-use Rattle.std.proofs.lemmas.Int.{ints}
-use Rattle.std.proofs.lemmas.List.Sums.{get_or-le-sum_by}
+use Rattle.std.specs.Prelude.{pos, ◌<ℤ◌, All}
 use Rattle.area_graph.specs.declared.Point.{Point}
 use Rattle.path_rows.specs.Forms.{Form}
 use Rattle.path_rows.specs.declared.form.CostBox.{CostBox}
@@ -10,15 +8,14 @@ use Rattle.path_rows.specs.declared.tree.WideAt.{WideAt}
 use Rattle.path_rows.specs.declared.tree.Entry.{Entry}
 use Rattle.path_rows.specs.declared.tree.Entry.TheVariants.{Tighten, Split, Halve, Refute, Undone}
 use Rattle.path_rows.specs.Forms.{form_at}
-use Rattle.path_rows.specs.Boxes.{IsBox, Refutes, greatest}
-use Rattle.path_rows.specs.Trees.{CutsAt}
+use Rattle.path_rows.specs.Boxes.{IsBox, greatest}
 use Rattle.path_rows.specs.Steps.{IsTooWide}
 use Rattle.path_rows.specs.Earnest.{IsLeast, Place}
 use Rattle.path_rows.proofs.Renumbering.{too_wide_kept}
 use Rattle.form_search.specs.declared.table.HeldTableau.{HeldTableau}
 use Rattle.advisor_box.specs.declared.candidate.Candidate.{Candidate}
 use Rattle.form_search.specs.Points.{IsFractional}
-use Rattle.form_search.specs.Tables.{IsHeld, IsPrintedWide, RefutesBy}
+use Rattle.form_search.specs.Tables.{IsHeld, IsPrintedWide}
 use Rattle.form_search.specs.Turns.{IsNextEntry, IsNextRow, IsSplitAt}
 use Rattle.form_search.proofs.CostPoints.{candidate_cuts, candidate_splits, refutes_one}
 
@@ -85,35 +82,3 @@ pub next_split_at : (accepted : Point → Type 0) (top n : ℕ) (forms : List Fo
     IsNextEntry accepted top forms place entry
 next_split_at accepted top n forms place point entry kept least split =
     subst (IsNextEntry accepted top forms place) (sym split.same) (next_split accepted top n forms place point split.candidate kept least split.fractional)
-
--- no forms at all refute no box
-some_parts : (forms : List Form) (parts : List (ℕ × ℕ)) (box : CostBox) → Refutes forms parts box → parts ≢ []
-some_parts forms [] box refutes none = absurd (omega (arith, ints, refutes.negative))
-some_parts forms (part ∷ parts) box refutes none = cc
-
--- a multiplier is at most the sum of all
-small_parts : (parts : List (ℕ × ℕ)) → sum_by (λ part. part.1) parts < 2 ^ 100 → All (λ part. part.1 < 10 ^ 31) parts
-small_parts parts small k d k_in =
-    let one = get_or-le-sum_by (λ (part : ℕ × ℕ). part.1) parts k d k_in in
-    omega arith
-
--- the Refute by multipliers
-pub next_refuted : (accepted : Point → Type 0) (top : ℕ) (forms : List Form) (place : Place) (parts : List (ℕ × ℕ)) →
-    RefutesBy place.box forms parts → IsNextEntry accepted top forms place (Refute parts)
-next_refuted accepted top forms place parts by = record {
-  sound = by.refutes;
-  earnest = tt;
-  short = ((some_parts forms parts place.box by.refutes, small_parts parts by.refutes.sum), by.few);
-  closed = refl;
-}
-
--- the Halve at a step that is too wide
-pub next_halve : (accepted : Point → Type 0) (top : ℕ) (forms : List Form) (place : Place) (var value : ℕ)
-    (wide : WideAt) → CutsAt place.box var value → IsPrintedWide top place.box forms wide →
-    IsNextEntry accepted top forms place (Halve var value wide)
-next_halve accepted top forms place var value wide cuts printed = record {
-  sound = cuts;
-  earnest = printed.too_wide;
-  short = ((printed.left, printed.right, printed.some), tt);
-  closed = refl;
-}

@@ -63,10 +63,7 @@ fn push_fractional(
         low: costs.low.as_slice()[var],
         high: costs.high.as_slice()[var],
     };
-    match candidates.push(candidate) {
-        Ok(()) => Ok(()),
-        Err(_) => Err(OutOfMemory),
-    }
+    Ok(candidates.push(candidate)?)
 }
 
 /// The variables that are fractional at the point, in rising order.

@@ -15,13 +15,11 @@ use std::alloc::Global;
 pub(crate) fn blank_point(alloc: Global, variables: usize) -> Result<Point, OutOfMemory>
     ensures { IfOk result (λ point. length point.values ≡ variables) }
 {
-    match vec![in alloc; 0u128; variables] {
-        Ok(values) => Ok(Point {
-            scale: 1,
-            values: Listed::from_items(values),
-        }),
-        Err(_) => Err(OutOfMemory),
-    }
+    let values = vec![in alloc; 0u128; variables]?;
+    Ok(Point {
+        scale: 1,
+        values: Listed::from_items(values),
+    })
 }
 
 /// Puts the lower bounds in place as a point of scale 1.
@@ -55,10 +53,7 @@ pub(crate) fn whole_costs(alloc: Global, point: &Point) -> Result<CostList, OutO
     let scale = point.scale;
     let mut costs = Vec::new(alloc);
     for x in point.values.as_slice() {
-        match costs.push((*x / scale) as u16) {
-            Ok(()) => {}
-            Err(_) => return Err(OutOfMemory),
-        }
+        costs.push((*x / scale) as u16)?;
     }
     Ok(CostList::from_items(costs))
 }
@@ -70,10 +65,7 @@ pub(crate) fn value_costs(alloc: Global, point: &Point) -> Result<CostList, OutO
 {
     let mut costs = Vec::new(alloc);
     for x in point.values.as_slice() {
-        match costs.push(*x as u16) {
-            Ok(()) => {}
-            Err(_) => return Err(OutOfMemory),
-        }
+        costs.push(*x as u16)?;
     }
     Ok(CostList::from_items(costs))
 }
@@ -82,10 +74,7 @@ pub(crate) fn value_costs(alloc: Global, point: &Point) -> Result<CostList, OutO
 pub(crate) fn low_costs(alloc: Global, costs: &CostBox) -> Result<CostList, OutOfMemory>
     ensures { IfOk result (λ list. list ≡ costs.now.low) }
 {
-    match costs.low.as_slice().to_vec(alloc) {
-        Ok(costs) => Ok(CostList::from_items(costs)),
-        Err(_) => Err(OutOfMemory),
-    }
+    Ok(CostList::from_items(costs.low.as_slice().to_vec(alloc)?))
 }
 
 /// Whether each value, not divided by the scale, is at most the upper bound.

@@ -40,10 +40,7 @@ impl FormPool {
         ensures added { OnOk result (self.new ≡ self.old ++ form ∷ []) }
         ensures kept { OnErr result (self.new ≡ self.old) }
     {
-        match self.forms.push(form) {
-            Ok(()) => Ok(()),
-            Err(_) => Err(OutOfMemory),
-        }
+        Ok(self.forms.push(form)?)
     }
 
     /// Takes away the forms behind the first `count`.

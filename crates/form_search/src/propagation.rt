@@ -20,12 +20,10 @@ pub(crate) fn refute_by(alloc: Global, row: usize) -> Result<Entry, OutOfMemory>
     ensures { IfOk result (λ entry. entry ≡ Refute ((row, 1) ∷ [])) }
 {
     let mut parts = Vec::new(alloc);
-    match parts.push((row as u64, 1u128)) {
-        Ok(()) => Ok(Entry::Refute {
-            parts: Parts::from_items(parts),
-        }),
-        Err(_) => Err(OutOfMemory),
-    }
+    parts.push((row as u64, 1u128))?;
+    Ok(Entry::Refute {
+        parts: Parts::from_items(parts),
+    })
 }
 
 /// The first form that is negative all over the box.

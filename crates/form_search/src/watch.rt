@@ -27,20 +27,7 @@ pub(crate) struct Watch {
 fn push<T: Drop>(things: &mut Vec<T>, thing: T) -> Result<(), OutOfMemory>
     ensures { OnOk result (things.new.items ≡ things.old.items ++ thing ∷ []) }
 {
-    match things.push(thing) {
-        Ok(()) => Ok(()),
-        Err(_) => Err(OutOfMemory),
-    }
-}
-
-/// The same bounds.
-fn copied(alloc: Global, bounds: &[u16]) -> Result<Vec<u16>, OutOfMemory>
-    ensures { IfOk result (λ copy. copy.items ≡ bounds.now) }
-{
-    match bounds.to_vec(alloc) {
-        Ok(copy) => Ok(copy),
-        Err(_) => Err(OutOfMemory),
-    }
+    Ok(things.push(thing)?)
 }
 
 /// So many empty lists.
@@ -72,8 +59,8 @@ impl Watch {
         requires { length costs.now.high ≡ length costs.now.low }
         ensures { IfOk result (IsWatch (length costs.now.low)) }
     {
-        let low = copied(alloc, costs.low.as_slice())?;
-        let high = copied(alloc, costs.high.as_slice())?;
+        let low = costs.low.as_slice().to_vec(alloc)?;
+        let high = costs.high.as_slice().to_vec(alloc)?;
         let forms_of = empty_lists(alloc, costs.low.as_slice().len())?;
         Ok(Watch {
             forms_of,

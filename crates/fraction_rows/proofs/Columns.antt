@@ -137,17 +137,6 @@ pub after_numbers : (top : ℕ) (es : List (ℕ × Fraction)) (c : ℕ) → AllN
 after_numbers top [] c numbers = tt
 after_numbers top (e ∷ es) c numbers = test_cases (AllNumbers top) e.0 c es (e ∷ es) (λ same. numbers.1) (λ other. numbers)
 
--- taking the first column makes the list shorter
-pub after_shorter : (es : List (ℕ × Fraction)) (c past : ℕ) → c ≡ head_column es past → c < past → suc (length (after_column es c)) ≡ length es
-after_shorter [] c past same before = absurd (omega arith)
-after_shorter (e ∷ es) c past same before =
-    test_cases (λ rest. suc (length rest) ≡ suc (length es)) e.0 c es (e ∷ es) (λ there. refl) (λ other. absurd (other (sym same)))
-
-pub after_length : (es : List (ℕ × Fraction)) (c : ℕ) → length (after_column es c) ≤ length es
-after_length [] c = omega arith
-after_length (e ∷ es) c =
-    test_cases (λ rest. length rest ≤ suc (length es)) e.0 c es (e ∷ es) (λ there. omega arith) (λ other. omega arith)
-
 pub put_rises : (mid c : ℕ) (q : Fraction) (old new : List (ℕ × Fraction)) → Rises 0 mid old → mid ≤ c → IsPut old c q new → Rises 0 (suc c) new
 put_rises mid c q old new rises after put =
     elim put [

@@ -1,10 +1,10 @@
 -- Two lists of columns that rise are gone through together, and a third one is made of them, column by column.
-use Rattle.std.proofs.Common.{◌≡◌, ◌≢◌, ℕ, suc, ◌+◌, ◌<◌, ◌≤◌, refl, sym, ◌∙◌, ap, subst, List, [], length, arith, inl, inr, min}
+use Rattle.std.proofs.Common.{◌≡◌, ◌≢◌, ℕ, suc, ◌<◌, ◌≤◌, sym, ◌∙◌, ap, subst, List, [], length, arith, inl, inr, min}
 use Rattle.std.proofs.lemmas.Bool.{cases_lt}
 use Rattle.whole_numbers.specs.Fractions.{Fraction, IsLowest}
 use Rattle.fraction_rows.specs.TableRows.{Rises, fraction_at, nothing}
 use Rattle.fraction_rows.specs.Entries.{IsMade, IsPut, head_column, head_fraction, after_column}
-use Rattle.fraction_rows.proofs.Columns.{at_above, rises_widen, head_at, after_rises, after_at, before_head, head_from, ends_empty, rises_length, after_shorter, after_length, put_rises, put_here, put_other}
+use Rattle.fraction_rows.proofs.Columns.{at_above, rises_widen, head_at, after_rises, after_at, before_head, head_from, ends_empty, rises_length, put_rises, put_here, put_other}
 
 abbrev pub Entries : Type 0
 Entries = List (ℕ × Fraction)
@@ -19,20 +19,6 @@ pub record Crossing (width : ℕ) (target : ℕ → Fraction → Fraction → Fr
   pub done : (k : ℕ) → k < frontier → fraction_at made k ≡ target k (fraction_at first k) (fraction_at second k)
   pub olds_left : (k : ℕ) → frontier ≤ k → fraction_at first k ≡ fraction_at olds k
   pub quotients_left : (k : ℕ) → frontier ≤ k → fraction_at second k ≡ fraction_at quotients k
-
-pub crossing_begins : (width : ℕ) (target : ℕ → Fraction → Fraction → Fraction) (first second : Entries) →
-    Rises 0 width first → Rises 0 width second → Crossing width target first second first second []
-crossing_begins width target first second first_rises second_rises =
-    record {
-      frontier = 0;
-      within = omega arith;
-      olds_rise = first_rises;
-      quotients_rise = second_rises;
-      made_rises = tt;
-      done = λ k below. absurd (omega arith);
-      olds_left = λ k behind. refl;
-      quotients_left = λ k behind. refl;
-    }
 
 -- a column at which both have nothing stays nothing
 nothing_made : (target : Fraction → Fraction → Fraction) (p q r : Fraction) → target nothing nothing ≡ nothing →
@@ -160,17 +146,3 @@ made_short width target first second olds quotients made c crossing c_is c_in =
       head_from crossing.frontier width quotients crossing.quotients_rise crossing.within,
     ) in
     omega arith
-
--- and fewer are left after it
-pub left_shorter : (width : ℕ) (olds quotients : Entries) (c : ℕ) →
-    c ≡ min (head_column olds width) (head_column quotients width) → c < width →
-    length (after_column olds c) + length (after_column quotients c) < length olds + length quotients
-left_shorter width olds quotients c c_is c_in =
-    elim (cases_lt (head_column olds width) (head_column quotients width)) [
-      | inl first ↦
-          let shorter = after_shorter olds c width (omega arith) c_in in
-          omega (arith, after_length quotients c)
-      | inr second ↦
-          let shorter = after_shorter quotients c width (omega arith) c_in in
-          omega (arith, after_length olds c)
-    ]

@@ -1,9 +1,10 @@
 -- A row with its zeros filled in: the constant, and for each column what its list has there.
 use Rattle.std.proofs.Common.{◌≡◌, ◌≢◌, ℕ, zero, suc, ◌+◌, ◌<◌, ◌≤◌, cond, false, refl, sym, ◌∙◌, ap, subst, List, [], ◌∷◌, map, length, arith, inl, inr, add-zero, zero-add}
-use Rattle.std.specs.Prelude.{◌==◌, slice_set, slice_index_or, Result, Ok, Err, IfErr, OnOk}
+use Rattle.std.specs.Prelude.{◌==◌, slice_set, Result, Ok, Err, IfErr, OnOk}
 use Rattle.std.proofs.lemmas.Bool.Decides.{nat_tests}
 use Rattle.cost_base.specs.Lists.{numbers_from}
 use Rattle.cost_base.specs.declared.StepName.TheVariants.{Sub, Mul, Div}
+use Rattle.cost_base.proofs.ListLemmas.{length-map-numbers_from, map-numbers_from-agree, get_or-map-numbers_from}
 use Rattle.whole_numbers.specs.Fractions.{Fraction, minus, times, divided}
 use Rattle.wide_fraction.specs.declared.steps.Wide.{Wide}
 use Rattle.path_rows.specs.Basis.{entry}
@@ -14,24 +15,6 @@ use Rattle.fraction_rows.specs.Entries.{AllNumbers, IsMade, IsPassing, IsQuotien
 use Rattle.fraction_rows.proofs.ZeroFractions.{nothing_number}
 use Rattle.fraction_rows.proofs.Columns.{fraction_here, fraction_there, test_cases}
 
--- as many places as numbers
-pub length-mapped : {X : Type 0} (f : ℕ → X) (a n : ℕ) → length (map f (numbers_from a n)) ≡ n
-length-mapped f a zero = refl
-length-mapped f a (suc n) = ap suc (length-mapped f (a + 1) n)
-
--- what stands at a place
-pub mapped_at : {X : Type 0} (f : ℕ → X) (a n k : ℕ) (d : X) → k < n → slice_index_or (map f (numbers_from a n)) k d ≡ f (a + k)
-mapped_at f a zero k d k_in = absurd (omega arith)
-mapped_at f a (suc n) zero d k_in = ap f (sym (add-zero a))
-mapped_at f a (suc n) (suc k) d k_in = mapped_at f (a + 1) n k d (omega arith) ∙ ap f (omega arith)
-
--- lists that agree at each place are equal
-pub mapped_same : {X : Type 0} (f g : ℕ → X) (a n : ℕ) → ((k : ℕ) → a ≤ k → k < a + n → f k ≡ g k) → map f (numbers_from a n) ≡ map g (numbers_from a n)
-mapped_same f g a zero same = refl
-mapped_same f g a (suc n) same =
-    ap (λ x. x ∷ map f (numbers_from (a + 1) n)) (same a (omega arith) (omega arith))
-    ∙ ap (λ xs. g a ∷ xs) (mapped_same f g (a + 1) n (λ k from k_in. same k (omega arith) (omega arith)))
-
 -- a list that has another value at one place is the list after a write there
 pub mapped_written : {X : Type 0} (f g : ℕ → X) (a n k : ℕ) (x : X) → k < n → g (a + k) ≡ x →
     ((m : ℕ) → a ≤ m → m < a + n → m ≢ a + k → g m ≡ f m) →
@@ -39,17 +22,17 @@ pub mapped_written : {X : Type 0} (f g : ℕ → X) (a n k : ℕ) (x : X) → k 
 mapped_written f g a zero k x k_in here others = absurd (omega arith)
 mapped_written f g a (suc n) zero x k_in here others =
     ap (λ y. y ∷ map g (numbers_from (a + 1) n)) (ap g (sym (add-zero a)) ∙ here)
-    ∙ ap (λ ys. x ∷ ys) (mapped_same g f (a + 1) n (λ m from m_in. others m (omega arith) (omega arith) (omega arith)))
+    ∙ ap (λ ys. x ∷ ys) (map-numbers_from-agree g f (a + 1) n (λ m from m_in. others m (omega arith) (omega arith) (omega arith)))
 mapped_written f g a (suc n) (suc k) x k_in here others =
     ap (λ y. y ∷ map g (numbers_from (a + 1) n)) (others a (omega arith) (omega arith) (omega arith))
     ∙ ap (λ ys. f a ∷ ys) (mapped_written f g (a + 1) n k x (omega arith) (ap g (omega arith) ∙ here)
     (λ m from m_in apart. others m (omega arith) (omega arith) (omega arith)))
 
 pub row_length : (c : Fraction) (w : ℕ) (es : List (ℕ × Fraction)) → length (c ∷ filled w es) ≡ suc w
-row_length c w es = ap suc (length-mapped (fraction_at es) 0 w)
+row_length c w es = ap suc (length-map-numbers_from (fraction_at es) 0 w)
 
 pub row_entry : (c : Fraction) (w : ℕ) (es : List (ℕ × Fraction)) (k : ℕ) → k < w → entry (c ∷ filled w es) (suc k) ≡ fraction_at es k
-row_entry c w es k k_in = mapped_at (fraction_at es) 0 w k nothing k_in ∙ ap (fraction_at es) (zero-add k)
+row_entry c w es k k_in = get_or-map-numbers_from (fraction_at es) 0 w k nothing k_in ∙ ap (fraction_at es) (zero-add k)
 
 -- the width of a row whose view is known
 pub width_is : (c : Fraction) (w : ℕ) (es : List (ℕ × Fraction)) (now : List Fraction) → c ∷ filled w es ≡ now → length now ≡ suc w
@@ -73,7 +56,7 @@ pub row_crossed : (factor c t : Fraction) (w : ℕ) (es ts new : List (ℕ × Fr
     minus c (times factor t) ∷ filled w new ≡ crossed_by factor (c ∷ filled w es) (t ∷ filled w ts)
 row_crossed factor c t w es ts new made =
     ap (λ qs. minus c (times factor t) ∷ qs)
-    (mapped_same (fraction_at new) (λ k. crossed_at factor k (fraction_at es k) (fraction_at ts k)) 0 w (λ k from k_in. made k (omega arith))
+    (map-numbers_from-agree (fraction_at new) (λ k. crossed_at factor k (fraction_at es k) (fraction_at ts k)) 0 w (λ k from k_in. made k (omega arith))
     ∙ crossed_mapped factor (fraction_at es) (fraction_at ts) (numbers_from 0 w))
 
 same_place : (a b : ℕ) → (suc a == suc b) ≡ (a == b)
@@ -98,7 +81,7 @@ pub row_divided : (left_out : ℕ) (divisor c : Fraction) (w : ℕ) (es new : Li
 row_divided left_out divisor c w es new made =
     ap (λ b. cond b nothing (divided c divisor) ∷ filled w new) (sym (first_place left_out))
     ∙ ap (λ qs. cond (0 == suc left_out) nothing (divided c divisor) ∷ qs)
-    (mapped_same (fraction_at new) (λ k. divided_at left_out divisor k (fraction_at es k) nothing) 0 w (λ k from k_in. made k (omega arith))
+    (map-numbers_from-agree (fraction_at new) (λ k. divided_at left_out divisor k (fraction_at es k) nothing) 0 w (λ k from k_in. made k (omega arith))
     ∙ divided_mapped left_out divisor (fraction_at es) 0 w)
 
 pub numbers_mapped : (top : ℕ) (f : ℕ → Fraction) (ks : List ℕ) → ((k : ℕ) → IsNumber top (f k)) → AreNumbers top (map f ks)

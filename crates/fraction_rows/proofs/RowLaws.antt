@@ -6,7 +6,8 @@ use Rattle.whole_numbers.proofs.Ring.{var, num, ◌⊗◌, neg, ring_by, nothing
 use Rattle.std.proofs.Math.Nat.{zero-div}
 use Rattle.std.proofs.Math.IntN.{neg_ℤ-neg_ℤ}
 use Rattle.whole_numbers.proofs.Laws.{neg-mul}
-use Rattle.whole_numbers.proofs.FractionLaws.{cancel, times_stands}
+use Rattle.whole_numbers.proofs.FractionLaws.{cancel, product_positive, times_stands}
+use Rattle.whole_numbers.proofs.Sizes.{negated_size}
 use Rattle.wide_fraction.specs.Widths.{IsTop, IsWithin}
 use Rattle.wide_fraction.proofs.Quotients.{zero_stands}
 use Rattle.path_rows.specs.Basis.{entry}
@@ -57,11 +58,8 @@ times_not_zero p q p_positive q_positive p_not q_not e =
     let stands = times_stands p q p.numerator q.numerator p.denominator q.denominator p_positive q_positive refl refl in
     let zeros = zero_stands (times p q) (p.numerator *ℤ q.numerator) (p.denominator * q.denominator)
     (times_lowest p q p_positive q_positive).positive
-    (positive p.denominator q.denominator p_positive q_positive) stands in
+    (product_positive p.denominator q.denominator p_positive q_positive) stands in
     p_not (product_zero p.numerator q.numerator q_not (zeros.0 e))
-  where
-    positive : (a b : ℕ) → 0 < a → 0 < b → 0 < a * b
-    positive a b first second = grind arith
 
 pub times_number : (top : ℕ) (p q r : Fraction) → 0 < p.denominator → 0 < q.denominator → r ≡ times p q → IsWithin top r → IsNumber top r
 times_number top p q r p_positive q_positive r_is r_within =
@@ -126,9 +124,4 @@ crossed_put factor c fs ts new factor_is same new_is place place_in =
 -- a small coefficient with the other sign is a number of the table
 pub negated_number : (top : ℕ) (factor : Fraction) (c : ℤ) → IsTop top → nat_abs c ≤ 2 ^ 26 → factor ≡ whole (neg_ℤ c) → IsNumber top factor
 negated_number top factor c is_top small factor_is =
-    subst (IsNumber top) (sym factor_is) (whole_number top (neg_ℤ c) is_top (omega (arith, turned c, small)))
-  where
-    turned : (z : ℤ) → nat_abs (neg_ℤ z) ≡ nat_abs z
-    turned (pos zero) = refl
-    turned (pos (suc n)) = refl
-    turned (negsuc n) = refl
+    subst (IsNumber top) (sym factor_is) (whole_number top (neg_ℤ c) is_top (omega (arith, negated_size c, small)))

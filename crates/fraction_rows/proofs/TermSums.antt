@@ -1,7 +1,8 @@
 -- The terms of a row, one for each variable whose coefficient isn't 0.
-use Rattle.std.proofs.Common.{◌≡◌, ℕ, zero, suc, ◌+◌, ◌<◌, ◌≤◌, refl, sym, ◌∙◌, ap, List, [], ◌∷◌, take, length, arith, inl, inr, zero-add}
-use Rattle.std.specs.Prelude.{ℤ, pos, negsuc, Some, fold, slice_get, slice_index_or}
-use Rattle.std.proofs.lemmas.List.{take_all}
+use Rattle.std.proofs.Common.{◌≡◌, ℕ, zero, suc, ◌+◌, ◌^◌, ◌<◌, ◌≤◌, refl, sym, ◌∙◌, ap, subst, List, [], ◌∷◌, take, length, arith, inl, inr, zero-add}
+use Rattle.std.specs.Prelude.{ℤ, pos, negsuc, nat_abs, Some, All, fold, slice_get, slice_index_or}
+use Rattle.std.proofs.lemmas.List.{get_or_default, take_all}
+use Rattle.std.proofs.lemmas.List.Elements.{All-same}
 use Rattle.std.proofs.lemmas.List.Sums.{fold_more}
 use Rattle.std.proofs.lemmas.Option.{get_or_from_slice_get, slice_get_within}
 use Rattle.cost_base.specs.declared.StepName.TheVariants.{Add, Mul}
@@ -11,7 +12,11 @@ use Rattle.path_rows.specs.declared.form.Term.{Term}
 use Rattle.path_rows.specs.Basis.{entry}
 use Rattle.path_rows.specs.Forms.{terms_from}
 use Rattle.path_rows.specs.Steps.{terms}
+use Rattle.path_rows.proofs.TermLaws.{each_term, moved}
+use Rattle.fraction_rows.specs.TableRows.{AreNumbers}
+use Rattle.fraction_rows.specs.Turns.{AreRows}
 use Rattle.fraction_rows.specs.Sums.{IsSumStep, IsTermSum, product, sum, sum_from}
+use Rattle.fraction_rows.proofs.RowLaws.{rows_at}
 
 -- what is read past the end of a list of terms
 abbrev pub no_term : Term
@@ -19,10 +24,6 @@ no_term = record { var = 0; coefficient = pos 0 }
 
 abbrev pub term_in : List Term → ℕ → Term
 term_in ts index = slice_index_or ts index no_term
-
--- a place counted from the next one
-moved : (first v : ℕ) → suc first + v ≡ first + suc v
-moved first v = omega arith
 
 -- the term of a variable
 abbrev pub term_at : List ℤ → List (List Fraction) → ℕ → ℕ → Fraction
@@ -36,41 +37,36 @@ record IsTermAt (first : ℕ) (cs : List ℤ) (lines : List (List Fraction)) (pl
   inside : variable < length cs
   term : slice_get (terms cs lines place) index ≡ Some (term_at cs lines place variable)
 
+-- behind one more coefficient, where it puts its term in front or has none
+behind : (first : ℕ) (c : ℤ) (cs : List ℤ) (es : List Fraction) (lines : List (List Fraction)) (place index below : ℕ) →
+    term_in (terms_from first (c ∷ cs)) index ≡ term_in (terms_from (suc first) cs) below →
+    slice_get (terms (c ∷ cs) (es ∷ lines) place) index ≡ slice_get (terms cs lines place) below →
+    IsTermAt (suc first) cs lines place below → IsTermAt first (c ∷ cs) (es ∷ lines) place index
+behind first c cs es lines place index below same terms_same rest =
+    record {
+      variable = suc rest.variable;
+      is = ap (λ (t : Term). t.var) same ∙ rest.is ∙ moved first rest.variable;
+      coefficient = ap (λ (t : Term). t.coefficient) same ∙ rest.coefficient;
+      inside = omega (arith, rest.inside);
+      term = terms_same ∙ rest.term;
+    }
+
 term_there : (first : ℕ) (cs : List ℤ) (lines : List (List Fraction)) (place index : ℕ) → length cs ≤ length lines →
     index < length (terms_from first cs) → IsTermAt first cs lines place index
 term_there first [] lines place index many index_in = absurd (omega arith)
 term_there first (c ∷ cs) [] place index many index_in = absurd (omega arith)
 term_there first (pos zero ∷ cs) (es ∷ lines) place index many index_in =
-    let rest = term_there (suc first) cs lines place index (omega arith) index_in in
-    record {
-      variable = suc rest.variable;
-      is = rest.is ∙ moved first rest.variable;
-      coefficient = rest.coefficient;
-      inside = omega (arith, rest.inside);
-      term = rest.term;
-    }
+    behind first (pos zero) cs es lines place index index refl refl (term_there (suc first) cs lines place index (omega arith) index_in)
 term_there first (pos (suc n) ∷ cs) (es ∷ lines) place zero many index_in =
     record { variable = 0; is = omega arith; coefficient = refl; inside = omega arith; term = refl }
 term_there first (pos (suc n) ∷ cs) (es ∷ lines) place (suc index) many index_in =
-    let rest = term_there (suc first) cs lines place index (omega arith) (omega arith) in
-    record {
-      variable = suc rest.variable;
-      is = rest.is ∙ moved first rest.variable;
-      coefficient = rest.coefficient;
-      inside = omega (arith, rest.inside);
-      term = rest.term;
-    }
+    behind first (pos (suc n)) cs es lines place (suc index) index refl refl
+    (term_there (suc first) cs lines place index (omega arith) (omega arith))
 term_there first (negsuc n ∷ cs) (es ∷ lines) place zero many index_in =
     record { variable = 0; is = omega arith; coefficient = refl; inside = omega arith; term = refl }
 term_there first (negsuc n ∷ cs) (es ∷ lines) place (suc index) many index_in =
-    let rest = term_there (suc first) cs lines place index (omega arith) (omega arith) in
-    record {
-      variable = suc rest.variable;
-      is = rest.is ∙ moved first rest.variable;
-      coefficient = rest.coefficient;
-      inside = omega (arith, rest.inside);
-      term = rest.term;
-    }
+    behind first (negsuc n) cs es lines place (suc index) index refl refl
+    (term_there (suc first) cs lines place index (omega arith) (omega arith))
 
 -- What is known of a term that is read from a form's terms.
 pub record IsRead (cs : List ℤ) (lines : List (List Fraction)) (place : ℕ) (ts : List Term) (index : ℕ) : Type 0 where
@@ -88,6 +84,31 @@ term_read cs lines place ts index ts_are many index_in =
       inside = omega (arith, at.inside, v_is);
       coefficient = ap (λ (t : Term). t.coefficient) same ∙ at.coefficient ∙ ap (λ (u : ℕ). slice_index_or cs u (pos 0)) (sym v_is);
       term = at.term ∙ ap (λ (u : ℕ). Some (term_at cs lines place u)) (sym v_is);
+    }
+
+-- What is known of the line of such a term's variable, and of its coefficient.
+pub record IsLineOf (top count : ℕ) (lines : List (List Fraction)) (t : Term) (line : List Fraction) : Type 0 where
+  pub line_is : line ≡ slice_index_or lines t.var []
+  pub counted : length line ≡ count
+  pub numbers : AreNumbers top line
+  pub small : nat_abs t.coefficient ≤ 2 ^ 26
+
+pub line_read : (top count : ℕ) (cs : List ℤ) (lines : List (List Fraction)) (ts : List Term) (index : ℕ)
+    (line : List Fraction) → ts ≡ terms_from 0 cs → All (λ z. nat_abs z ≤ 2 ^ 26) cs → AreRows top count lines →
+    length cs ≤ length lines → index < length ts → line ≡ slice_index_or lines (term_in ts index).var line →
+    IsLineOf top count lines (term_in ts index) line
+line_read top count cs lines ts index line ts_are small rows many index_in read_is =
+    let t = term_in ts index in
+    let read = term_read cs lines 0 ts index ts_are many index_in in
+    let there : t.var < length lines = omega (arith, read.inside, many) in
+    let line_is = read_is ∙ get_or_default lines t.var line [] there in
+    let row = rows_at top count lines t.var [] rows there in
+    record {
+      line_is = line_is;
+      counted = ap length line_is ∙ row.0;
+      numbers = subst (AreNumbers top) (sym line_is) row.1;
+      small = All-same (λ (u : Term). nat_abs u.coefficient ≤ 2 ^ 26) ts (terms_from 0 cs) ts_are
+          (each_term (λ z. nat_abs z ≤ 2 ^ 26) 0 cs small) index no_term index_in;
     }
 
 -- there is a term of the sum for each

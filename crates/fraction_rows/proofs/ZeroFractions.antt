@@ -3,9 +3,8 @@ use Rattle.std.proofs.Common.{◌≡◌, ℕ, zero, suc, ◌*◌, ◌<◌, ◌�
 use Rattle.std.specs.Prelude.{ℤ, pos, negsuc, ◌-ℤ◌, ◌*ℤ◌, nat_abs}
 use Rattle.std.proofs.lemmas.Int.{ints}
 use Rattle.whole_numbers.specs.Fractions.{Fraction, IsLowest, StandsFor, minus, times, divided, inverse, inverted, whole}
-use Rattle.whole_numbers.proofs.Divisors.{gcd-one}
 use Rattle.whole_numbers.proofs.Sums.{lowest_unique}
-use Rattle.whole_numbers.proofs.FractionLaws.{reduced_lowest, product_positive, times_stands}
+use Rattle.whole_numbers.proofs.FractionLaws.{reduced_lowest, product_positive, times_stands, whole_lowest}
 use Rattle.whole_numbers.proofs.Multiples.{minus_stands_over}
 use Rattle.wide_fraction.specs.Widths.{IsWithin}
 use Rattle.wide_fraction.proofs.Quotients.{zero_stands}
@@ -81,9 +80,6 @@ pub divided_number : (top : ℕ) (p q r : Fraction) → 0 < p.denominator → r 
 divided_number top p q r p_positive r_is r_within =
     record { lowest = subst IsLowest (sym r_is) (divided_lowest p q p_positive); within = r_within }
 
-pub whole_lowest : (n : ℤ) → IsLowest (whole n)
-whole_lowest n = record { positive = omega arith; lowest = gcd-one (nat_abs n) }
-
 -- a whole number less the product of two is a whole number
 pub whole_crossed : (a b c : ℤ) → minus (whole a) (times (whole b) (whole c)) ≡ whole (a -ℤ (b *ℤ c))
 whole_crossed a b c =
@@ -93,17 +89,7 @@ whole_crossed a b c =
     lowest_unique (minus (whole a) (times (whole b) (whole c))) (whole (a -ℤ (b *ℤ c)))
     (minus_lowest (whole a) (times (whole b) (whole c)) (omega arith) t_lowest.positive) (whole_lowest (a -ℤ (b *ℤ c))) stands
 
--- by other names, and within the top
-pub short_number : (top : ℕ) (old factor quotient : Fraction) (a b c : ℤ) (q : Fraction) → old ≡ whole a →
-    factor ≡ whole b → quotient ≡ whole c → (q ≡ minus (whole a) (times (whole b) (whole c))) × IsNumber top q →
-    (q ≡ minus old (times factor quotient)) × IsNumber top q
-short_number top old factor quotient a b c q old_is factor_is quotient_is found = (
-  found.0 ∙ sym (ap (λ (p : Fraction). minus p (times factor quotient)) old_is
-      ∙ ap (λ (p : Fraction). minus (whole a) (times p quotient)) factor_is
-      ∙ ap (λ (p : Fraction). minus (whole a) (times (whole b) p)) quotient_is),
-  found.1,
-)
-
+-- a whole number within the top
 pub whole_within : (top : ℕ) (n : ℤ) → 1 ≤ top → nat_abs n ≤ top → IsNumber top (whole n)
 whole_within top n some small =
     record { lowest = whole_lowest n; within = record { numerator = small; denominator = some } }

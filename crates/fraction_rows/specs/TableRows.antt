@@ -29,6 +29,10 @@ fraction_at (e ∷ es) column = if e.0 == column then e.1 else fraction_at es co
 abbrev pub filled : ℕ → List (ℕ × Fraction) → List Fraction
 filled width es = map (fraction_at es) (numbers_from 0 width)
 
+-- a row of zeros
+abbrev pub blank_row : ℕ → List Fraction
+blank_row width = nothing ∷ map (λ column. nothing) (numbers_from 0 width)
+
 -- the columns rise strictly, from `low` on and below `high`, and no fraction is 0
 abbrev pub Rises : ℕ → ℕ → List (ℕ × Fraction) → Type 0
 Rises low high [] = Unit {0}

@@ -1,10 +1,9 @@
 //! A row of the table: a constant, and the columns in which it has another number than 0, in rising order.
-ghost use Rattle.std.specs.Prelude.{◌≡◌, ◌≢◌, ℕ, suc, true, ◌<◌, ◌≤◌, ◌-◌, ◌∷◌, length, map, pos, slice_set, IfOk, IfErr, OnOk};
-ghost use Rattle.cost_base.specs.Lists.{numbers_from};
+ghost use Rattle.std.specs.Prelude.{◌≡◌, ◌≢◌, ℕ, suc, true, ◌<◌, ◌≤◌, ◌-◌, ◌∷◌, length, pos, slice_set, IfOk, IfErr, OnOk};
 ghost use Rattle.whole_numbers.specs.Fractions.{IsLowest};
 ghost use Rattle.path_rows.specs.Basis.{entry};
 ghost use Rattle.fraction_rows.specs.TableRows.{AreNumbers, IsCrossStep, IsDivideStep, IsNumber, IsWideStep, Rises, crossed_by, divided_without, filled};
-ghost use Rattle.fraction_rows.specs.TableRows.{nothing};
+ghost use Rattle.fraction_rows.specs.TableRows.{blank_row, nothing};
 
 use crate::entries::{
     cross_entries, crossed, divide_entries, find_fraction, put_entry, replace_fraction,
@@ -51,17 +50,15 @@ impl TableRow {
     ///
     /// `OutOfMemory` where the row got no memory.
     pub fn zero(alloc: Global, width: u32) -> Result<TableRow, OutOfMemory>
-        ensures { IfOk result (λ row. row ≡ nothing ∷ map (λ column. nothing) (numbers_from 0 width)) }
+        ensures { IfOk result (λ row. row ≡ blank_row width) }
     {
-        match Vec::with_capacity(alloc, width as usize) {
-            Ok(entries) => Ok(TableRow {
-                constant: Frac::whole(0),
-                width,
-                marks: no_marks(),
-                entries,
-            }),
-            Err(_) => Err(OutOfMemory),
-        }
+        let entries = Vec::with_capacity(alloc, width as usize)?;
+        Ok(TableRow {
+            constant: Frac::whole(0),
+            width,
+            marks: no_marks(),
+            entries,
+        })
     }
 
     /// The constant.
@@ -120,7 +117,7 @@ impl TableRow {
 
     /// Makes all of it 0. It keeps its room.
     pub fn clear(&mut self)
-        ensures { self.new ≡ nothing ∷ map (λ column. nothing) (numbers_from 0 (length self.old - 1)) }
+        ensures { self.new ≡ blank_row (length self.old - 1) }
     {
         self.constant = Frac::whole(0);
         self.entries.clear();

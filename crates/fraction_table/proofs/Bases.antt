@@ -5,6 +5,7 @@ use Rattle.std.specs.List.{AllZip}
 use Rattle.std.proofs.lemmas.Int.{ints}
 use Rattle.std.proofs.lemmas.List.{get_or-take, get_or_append_left, length-map, length-take-le, length-append}
 use Rattle.cost_base.specs.Lists.{numbers_from}
+use Rattle.cost_base.proofs.ListLemmas.{length-map-numbers_from, get_or-map-numbers_from, length_zip}
 use Rattle.whole_numbers.specs.Fractions.{Fraction, StandsFor}
 use Rattle.whole_numbers.specs.Lists.{number_at}
 use Rattle.path_rows.specs.declared.form.Form.{Form}
@@ -13,12 +14,11 @@ use Rattle.path_rows.specs.declared.tree.Member.{Member}
 use Rattle.path_rows.specs.declared.tree.Member.TheVariants.{Low, Row}
 use Rattle.path_rows.specs.Basis.{HasEntries, IsBasis, IsFormOf, IsTable, LeadsPositive, column, entry, forms_of, low_member, member_form}
 use Rattle.fraction_table.specs.Wholes.{IsLine, IsWhole, high_member, low_forms, members_of}
-use Rattle.fraction_rows.proofs.FilledRows.{length-mapped, mapped_at}
 use Rattle.fraction_rows.proofs.RowLaws.{number_at as number_there}
 use Rattle.fraction_table.proofs.theory.Resolved.{are_entries, stand_length}
 use Rattle.fraction_table.proofs.theory.Units.{long_at, low_numbers}
 use Rattle.fraction_table.proofs.WholeTurns.{coefficients_long, stand_at}
-use Rattle.fraction_table.proofs.theory.Zips.{zip_at, zip_from, zip_long}
+use Rattle.fraction_table.proofs.theory.Zips.{zip_at, zip_from}
 
 -- a line has the entries of its form
 pub line_entries : (top : ℕ) (costs : CostBox) (rows : List Form) (basis : List Member) (table : List (List Fraction))
@@ -65,7 +65,7 @@ low_forms_long n a (l ∷ ls) = ap suc (low_forms_long n (a + 1) ls)
 pub lows_counted : (top : ℕ) (costs : CostBox) (rows : List Form) (basis : List Member) (table : List (List Fraction))
     (w : IsWhole top costs rows basis table) → length costs.low ≡ length w.unboxed.lows
 lows_counted top costs rows basis table w =
-    sym (low_forms_long (length costs.low) 0 costs.low) ∙ zip_long _ (low_forms (length costs.low) 0 costs.low) w.unboxed.lows w.unboxed.mixtures
+    sym (low_forms_long (length costs.low) 0 costs.low) ∙ length_zip _ (low_forms (length costs.low) 0 costs.low) w.unboxed.lows w.unboxed.mixtures
 
 -- the members of a box begin with x - low for each variable
 pub members_begin : (costs : CostBox) (rows v : ℕ) (d : Member) → v < length costs.low → slice_index_or (members_of costs rows) v d ≡ low_member costs v
@@ -73,10 +73,10 @@ members_begin costs rows v d v_in =
     let n = length costs.low in
     let lows = map (low_member costs) (numbers_from 0 n) in
     let highs = map (high_member costs) (numbers_from 0 n) in
-    let counted : length lows ≡ n = length-mapped (low_member costs) 0 n in
+    let counted : length lows ≡ n = length-map-numbers_from (low_member costs) 0 n in
     get_or_append_left (lows ++ highs) (map (λ row. Row row) (numbers_from 0 rows)) d v (omega (arith, length-append lows highs, counted, v_in))
     ∙ get_or_append_left lows highs d v (omega (arith, counted, v_in))
-    ∙ mapped_at (low_member costs) 0 n v d v_in
+    ∙ get_or-map-numbers_from (low_member costs) 0 n v d v_in
     ∙ ap (low_member costs) (zero-add v)
 
 members_many : (costs : CostBox) (rows : ℕ) → length costs.low ≤ length (members_of costs rows)
@@ -85,7 +85,7 @@ members_many costs rows =
     let lows = map (low_member costs) (numbers_from 0 n) in
     let highs = map (high_member costs) (numbers_from 0 n) in
     let others = map (λ row. Row row) (numbers_from 0 rows) in
-    omega (arith, length-append (lows ++ highs) others, length-append lows highs, length-mapped (low_member costs) 0 n)
+    omega (arith, length-append (lows ++ highs) others, length-append lows highs, length-map-numbers_from (low_member costs) 0 n)
 
 -- the line of x - low
 pub low_line : (top : ℕ) (costs : CostBox) (rows : List Form) (basis : List Member) (table : List (List Fraction))
@@ -121,7 +121,7 @@ table_long top costs rows basis table w =
     omega (
       arith,
       members_many costs (length rows),
-      zip_long (IsLine top w.unboxed.common costs rows w.unboxed.lows) (members_of costs (length rows)) table
+      length_zip (IsLine top w.unboxed.common costs rows w.unboxed.lows) (members_of costs (length rows)) table
           w.unboxed.lines,
     )
 

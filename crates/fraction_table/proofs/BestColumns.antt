@@ -1,11 +1,11 @@
 -- The best column so far, as one more column is looked at.
-use Rattle.std.proofs.Common.{◌≡◌, ◌≤◌, zero, ℕ, suc, ◌+◌, ◌<◌, sym, subst, length, arith, inl, inr}
-use Rattle.std.specs.Prelude.{ℤ, pos, ◌<ℤ◌, ◌≤ℤ◌, Option, None, Some}
+use Rattle.std.proofs.Common.{◌≡◌, ℕ, suc, ◌+◌, ◌<◌, sym, subst, length, arith, inl, inr}
+use Rattle.std.specs.Prelude.{ℤ, pos, ◌<ℤ◌, Some}
 use Rattle.std.proofs.lemmas.Bool.{cases_eq}
 use Rattle.std.proofs.lemmas.Int.{ints}
 use Rattle.whole_numbers.specs.Lists.{number_at}
 use Rattle.path_rows.specs.Basis.{entry, member_form}
-use Rattle.path_rows.specs.Steps.{IsPivot, IsStuck}
+use Rattle.path_rows.specs.Steps.{IsPivot}
 use Rattle.fraction_table.specs.declared.table.Table.{Table}
 use Rattle.fraction_table.specs.Wholes.{IsWholeTable}
 use Rattle.fraction_table.specs.Pivots.{IsBestBelow, IsLeastIn, IsNotAfter, line_at, line_numbers, member_at}
@@ -22,31 +22,7 @@ pub pivot_there : (t : Table) (w : IsWholeTable t) (line k : ℕ) → (entry (li
 pivot_there t w line k below k_in above =
     record { column = (omega arith, omega (arith, w.unboxed.count, k_in)); below = below; above = above }
 
--- the first column with a positive entry is the best so far
-pub first_best : (t : Table) (line column : ℕ) → IsPivot t.basis.items (line_at t line) (suc column) →
-    IsBestBelow t line column None → IsBestBelow t line (column + 1) (Some column)
-first_best t line column pivot none = (
-  pivot,
-  λ k k_in other positive.
-      absurd (both (none k (omega (arith, k_in, other))) positive),
-)
-  where
-    both : {z : ℤ} → z ≤ℤ pos 0 → pos 0 <ℤ z → ⊥
-    both {z} low high = omega (arith, ints)
-
--- the best so far stays it, where it doesn't come after the new column
-pub best_stays : (t : Table) (line best column : ℕ) → IsBestBelow t line column (Some best) →
-    IsNotAfter t line best column → IsBestBelow t line (column + 1) (Some best)
-best_stays t line best column so_far ordered = (
-  so_far.0,
-  λ k k_in other positive.
-      elim (cases_eq k column) [
-        | inl same ↦ subst (λ (m : ℕ). IsNotAfter t line best m) (sym same) ordered
-        | inr apart ↦ so_far.1 k (omega (arith, k_in, apart)) other positive
-      ],
-)
-
--- and gives way, where the new column comes before it
+-- the best so far gives way, where the new column comes before it
 pub best_changes : (t : Table) (w : IsWholeTable t) (line best column : ℕ) → line < length t.lines.items →
     column < length t.costs.low → IsPivot t.basis.items (line_at t line) (suc column) →
     IsBestBelow t line column (Some best) → IsNotAfter t line column best →
@@ -61,38 +37,6 @@ best_changes t w line best column line_in column_in pivot so_far ordered = (
             (so_far.1 k (omega (arith, k_in, other)) apart positive)
       ],
 )
-
--- a column without a positive entry changes nothing
-pub best_kept : (t : Table) (line column : ℕ) (best : Option ℕ) →
-    (entry (line_at t line) (suc column)).numerator ≤ℤ pos 0 → IsBestBelow t line column best →
-    IsBestBelow t line (column + 1) best
-best_kept t line column None low so_far = λ k k_in. (
-    elim (cases_eq k column) [
-      | inl same ↦ subst (λ (m : ℕ). (entry (line_at t line) (suc m)).numerator ≤ℤ pos 0) (sym same) low
-      | inr apart ↦ so_far k (omega (arith, k_in, apart))
-    ]
-    )
-best_kept t line column (Some best) low so_far = (
-  so_far.0,
-  λ k k_in other positive.
-      elim (cases_eq k column) [
-        | inl same ↦ absurd (both (subst (λ (m : ℕ). (entry (line_at t line) (suc m)).numerator ≤ℤ pos 0) (sym same) low) positive)
-        | inr apart ↦ so_far.1 k (omega (arith, k_in, apart)) other positive
-      ],
-)
-  where
-    both : {z : ℤ} → z ≤ℤ pos 0 → pos 0 <ℤ z → ⊥
-    both {z} lower higher = omega (arith, ints)
-
--- a line without a positive entry is stuck
-pub best_stuck : (t : Table) (w : IsWholeTable t) (line : ℕ) → (entry (line_at t line) 0).numerator <ℤ pos 0 →
-    IsBestBelow t line (length t.costs.low) None → IsStuck t.basis.items (line_at t line)
-best_stuck t w line below none =
-    record { below = below; none_above = none_above }
-  where
-    none_above : (k : ℕ) → 1 ≤ k → k ≤ length t.basis.items → (entry (line_at t line) k).numerator ≤ℤ pos 0
-    none_above zero k_from k_in = absurd (omega arith)
-    none_above (suc k) k_from k_in = none k (omega (arith, w.unboxed.count, k_in))
 
 -- the best of all columns is the least
 pub best_least : (t : Table) (line column : ℕ) → line < length t.lines.items → IsBestBelow t line (length t.costs.low) (Some column) → IsLeastIn t line column

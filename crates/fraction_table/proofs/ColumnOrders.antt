@@ -3,8 +3,9 @@ use Rattle.std.proofs.Common.{◌≡◌, ℕ, zero, suc, ◌*◌, ◌<◌, ◌�
 use Rattle.std.specs.Prelude.{ℤ, pos, negsuc, ◌-ℤ◌, ◌*ℤ◌, ◌<ℤ◌, slice_index_or}
 use Rattle.std.specs.Ordering.{MatchOrdering, int_cmp}
 use Rattle.std.proofs.lemmas.Int.{ints}
+use Rattle.whole_numbers.proofs.Laws.{times_one}
 use Rattle.whole_numbers.specs.Fractions.{StandsFor, divided, times, whole}
-use Rattle.whole_numbers.proofs.FractionLaws.{divided_stands, product_positive, times_stands}
+use Rattle.whole_numbers.proofs.FractionLaws.{divided_stands, product_positive, times_stands, stands_more}
 use Rattle.whole_numbers.proofs.Orders.{order_ranks, order_stands, scaled_cmp}
 use Rattle.whole_numbers.proofs.Ring.{var, num, ◌⊖◌, ◌⊗◌, ring, ring_by, using, nothing}
 use Rattle.whole_numbers.specs.Lists.{number_at}
@@ -13,7 +14,6 @@ use Rattle.fraction_table.specs.declared.table.Table.{Table}
 use Rattle.fraction_table.specs.Wholes.{IsWholeTable}
 use Rattle.fraction_table.specs.Pivots.{LeadsNoNegative, entries_order, line_at, line_numbers, member_at, numbers_in, turned_column}
 use Rattle.fraction_rows.proofs.ZeroFractions.{divided_lowest, times_lowest}
-use Rattle.fraction_table.proofs.StandingRows.{over_more}
 use Rattle.fraction_rows.proofs.RowLaws.{number_at as number_there}
 use Rattle.fraction_table.proofs.theory.TurnedNumbers.{numbers_long}
 use Rattle.fraction_table.proofs.WholeTurns.{stand_at}
@@ -55,12 +55,9 @@ column_long a b k j (ts ∷ lows) = ap suc (column_long a b k j lows)
 -- what a comparison of whole numbers tells
 same_numbers : (r : Ordering) (x y : ℤ) → r ≡ int_cmp x y → MatchOrdering r (x <ℤ y) (x ≡ y) (y <ℤ x)
 same_numbers r x y e =
-    subst (λ z. MatchOrdering r (z <ℤ y) (z ≡ y) (y <ℤ z)) (once x)
-    (subst (λ z. MatchOrdering r ((x *ℤ pos 1) <ℤ z) ((x *ℤ pos 1) ≡ z) (z <ℤ (x *ℤ pos 1))) (once y)
+    subst (λ z. MatchOrdering r (z <ℤ y) (z ≡ y) (y <ℤ z)) (times_one x)
+    (subst (λ z. MatchOrdering r ((x *ℤ pos 1) <ℤ z) ((x *ℤ pos 1) ≡ z) (z <ℤ (x *ℤ pos 1))) (times_one y)
     (order_ranks (whole x) (whole y) r (e ∙ scaled_cmp x y 1 (omega arith))))
-  where
-    once : (z : ℤ) → (z *ℤ pos 1) ≡ z
-    once z = ring (z ∷ []) (var 0 ⊗ num (pos 1)) (var 0) refl
 
 -- What a comparison of two columns needs: the numbers a and b of the pivot's form in them, both positive.
 pub record AreCompared (t : Table) (w : IsWholeTable t) (line column other a b : ℕ) : Type 0 where
@@ -103,7 +100,7 @@ order_numbers t w line column other a b u c u_in =
     let y = number_at (slice_index_or w.unboxed.lows u []) (suc other) in
     order_stands (entry (line_at t u) (suc other)) (times (entry (line_at t u) (suc column)) q) (y *ℤ pos a) (x *ℤ pos b) (D * a)
     second.0 (times_lowest (entry (line_at t u) (suc column)) q first.0 q_lowest.positive).positive (product_positive D a w.unboxed.positive c.a_positive)
-    (over_more (entry (line_at t u) (suc other)) y D a second.1)
+    (stands_more (entry (line_at t u) (suc other)) y D a second.1)
     (times_stands (entry (line_at t u) (suc column)) q x (pos b) D a first.0 q_lowest.positive first.1 q_stands)
 
 -- the lines before the v-th show no difference of the two columns

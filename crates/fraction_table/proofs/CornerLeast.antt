@@ -2,6 +2,7 @@
 use Rattle.std.proofs.Common.{◌≡◌, ℕ, suc, ◌+◌, ◌*◌, ◌<◌, refl, sym, ◌∙◌, ap, subst, List, [], ◌∷◌, length, arith, zero-add}
 use Rattle.std.specs.Prelude.{ℤ, pos, negsuc, ◌+ℤ◌, ◌-ℤ◌, ◌*ℤ◌, ◌≤ℤ◌, nat_abs, slice_index}
 use Rattle.std.proofs.lemmas.Int.{ints}
+use Rattle.std.proofs.lemmas.List.Elements.{All-tail}
 use Rattle.std.proofs.lemmas.List.{length-map}
 use Rattle.whole_numbers.proofs.Ring.{var, num, ◌⊕◌, ◌⊗◌, ring}
 use Rattle.area_graph.specs.declared.Point.{Point}
@@ -15,7 +16,7 @@ use Rattle.fraction_table.specs.declared.table.Table.{Table}
 use Rattle.fraction_table.specs.Wholes.{AreMixtures, IsWholeTable, low_forms}
 use Rattle.fraction_table.specs.Pivots.{AreHigh}
 use Rattle.fraction_table.proofs.theory.Points.{equation_at, mixed_at}
-use Rattle.fraction_table.proofs.theory.Corner.{MetAt, one_value, rest_of, row_sum}
+use Rattle.fraction_table.proofs.theory.Corner.{one_value, rest_of, row_sum}
 use Rattle.fraction_table.proofs.theory.Tables.{Resolves, corner_least}
 use Rattle.fraction_table.proofs.Solutions.{at_corner, basis_met, corner_fits, corner_point, low_value_at}
 
@@ -32,14 +33,14 @@ turned : (t v : ℤ) → pos 0 ≤ℤ v → (t *ℤ v) ≡ (pos (nat_abs v) *ℤ
 turned t (pos n) high = ring (t ∷ pos n ∷ []) (var 0 ⊗ var 1) (var 1 ⊗ var 0) refl
 turned t (negsuc n) high = absurd (omega (arith, ints))
 
-met_sum : (ts : List ℤ) (fs : List Form) (p : Point) → MetAt fs p → mixed_at ts fs p ≡ row_sum ts (values_of fs p)
+met_sum : (ts : List ℤ) (fs : List Form) (p : Point) → AreMet fs p → mixed_at ts fs p ≡ row_sum ts (values_of fs p)
 met_sum [] fs p met = refl
 met_sum (t ∷ ts) [] p met = refl
 met_sum (t ∷ ts) (f ∷ fs) p met =
-    ap (λ z. (t *ℤ value_at f p) +ℤ z) (met_sum ts fs p met.1)
-    ∙ ap (λ z. z +ℤ row_sum ts (values_of fs p)) (turned t (value_at f p) met.0)
+    ap (λ z. (t *ℤ value_at f p) +ℤ z) (met_sum ts fs p (All-tail (λ g. pos 0 ≤ℤ value_at g p) f fs met))
+    ∙ ap (λ z. z +ℤ row_sum ts (values_of fs p)) (turned t (value_at f p) (met 0 f (omega arith)))
 
-mixed_sum : (ts : List ℤ) (basis : List Form) (p : Point) → MetAt basis p →
+mixed_sum : (ts : List ℤ) (basis : List Form) (p : Point) → AreMet basis p →
     mixed_at ts (one_form ∷ basis) p ≡ ((number_at ts 0 *ℤ pos p.scale) +ℤ row_sum (rest_of ts) (values_of basis p))
 mixed_sum [] basis p met = ring (pos p.scale ∷ []) (num (pos 0)) (num (pos 0) ⊗ var 0 ⊕ num (pos 0)) refl
 mixed_sum (t ∷ ts) basis p met =
@@ -48,7 +49,7 @@ mixed_sum (t ∷ ts) basis p met =
 
 -- the equations of x - low at a point at which the basis isn't negative
 resolves : (n a D : ℕ) (basis : List Form) (p : Point) (low : List ℕ) (rows : List (List ℤ)) (ys : List ℕ) →
-    MetAt basis p → AreMixtures D basis (low_forms n a low) rows → length ys ≡ length low →
+    AreMet basis p → AreMixtures D basis (low_forms n a low) rows → length ys ≡ length low →
     ((u v l : ℕ) → u ≡ a + v → v < length ys →
     value_at (member_form n [] (Low u l)) p ≡ (pos (slice_index ys v) -ℤ pos (l * p.scale))) →
     Resolves D p.scale (values_of basis p) low rows ys

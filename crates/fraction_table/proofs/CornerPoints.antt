@@ -3,6 +3,7 @@ use Rattle.std.proofs.Common.{◌≡◌, ℕ, ◌*◌, ◌<◌, ◌≤◌, sym, 
 use Rattle.std.proofs.Common.{le_trans, le_of_eq, le_antisymm, lt_of_le_of_lt, lt_of_lt_of_le, mul_right_comm, mul-le-mul_right, mul-lt-mul_of_pos_right, le_of_mul-le-mul_right, lt_of_mul-lt-mul_right}
 use Rattle.std.specs.Prelude.{ℤ, pos, negsuc, ◌*ℤ◌, slice_index, slice_index_or}
 use Rattle.std.specs.List.{AllZip}
+use Rattle.cost_base.proofs.ListLemmas.{length_zip}
 use Rattle.whole_numbers.proofs.Ring.{var, num, ◌⊕◌, ◌⊗◌, ring, ring_by, nothing, using}
 use Rattle.area_graph.specs.declared.Point.{Point}
 use Rattle.path_rows.specs.declared.form.Form.{Form}
@@ -10,7 +11,7 @@ use Rattle.path_rows.specs.declared.form.CostBox.{CostBox}
 use Rattle.path_rows.specs.Forms.{dot, value_at, AreMet}
 use Rattle.path_rows.specs.Earnest.{IsLeast, LexLess}
 use Rattle.fraction_table.proofs.Solutions.{high_number}
-use Rattle.fraction_table.proofs.theory.Zips.{zip_at, zip_long}
+use Rattle.fraction_table.proofs.theory.Zips.{zip_at}
 
 -- each value over the one scale is the value over the other
 abbrev pub IsSamePoint : Point → Point → Type 0
@@ -74,7 +75,7 @@ same_before e d o (x ∷ xs) (y ∷ ys) (z ∷ zs) e_positive d_positive same be
 pub same_point : (costs : CostBox) (rows : List Form) (p q : Point) → 0 < p.scale → IsSamePoint p q →
     IsLeast (AreMet rows) costs q → IsLeast (AreMet rows) costs p
 same_point costs rows p q positive same least =
-    let long = zip_long (λ y z. y * q.scale ≡ z * p.scale) p.values q.values same in
+    let long = length_zip (λ y z. y * q.scale ≡ z * p.scale) p.values q.values same in
     let q_positive = least.inside.scale in
     let there : (k : ℕ) → k < length p.values → slice_index p.values k * q.scale ≡ slice_index q.values k * p.scale =
     λ k k_in. zip_at (λ y z. y * q.scale ≡ z * p.scale) p.values q.values k 0 0 same k_in in

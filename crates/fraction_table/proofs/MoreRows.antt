@@ -12,7 +12,7 @@ use Rattle.path_rows.specs.declared.form.Form.{Form}
 use Rattle.path_rows.specs.declared.form.CostBox.{CostBox}
 use Rattle.path_rows.specs.declared.tree.Member.{Member}
 use Rattle.path_rows.specs.declared.tree.Member.TheVariants.{Low, High, Row}
-use Rattle.path_rows.specs.Forms.{form_at, no_form}
+use Rattle.path_rows.specs.Forms.{no_form}
 use Rattle.path_rows.specs.Basis.{IsFormOf, forms_of, low_member, member_form}
 use Rattle.fraction_rows.specs.TableRows.{AreNumbers}
 use Rattle.fraction_table.specs.Tableaus.{FitsBox}
@@ -77,9 +77,6 @@ members_more costs rows =
     ∙ ap (λ (k : ℕ). (lows ++ highs) ++ (own (numbers_from 0 rows) ++ Row k ∷ [])) (zero-add rows)
     ∙ sym (append_assoc (lows ++ highs) (own (numbers_from 0 rows)) (Row rows ∷ []))
 
-pub last_form : (rows : List Form) (f : Form) → form_at (rows ++ f ∷ []) (length rows) ≡ f
-last_form rows f = get_or-append_seam rows f [] no_form
-
 -- With a form that fits, and with its line, the table is whole.
 pub whole_more : (top : ℕ) (costs : CostBox) (rows : List Form) (basis : List Member) (table : List (List Fraction))
     (f : Form) (line : List Fraction) (w : IsWhole top costs rows basis table) → FitsBox costs f → AreNumbers top line →
@@ -95,7 +92,7 @@ whole_more top costs rows basis table f line w fits numbers stand =
       numbers = numbers;
       stand = subst
           (λ (g : Form). Stand w.unboxed.common line (numbers_of n w.unboxed.common costs.low w.unboxed.lows g))
-          (sym (last_form rows f)) stand;
+          (sym (get_or-append_seam rows f [] no_form)) stand;
     } in
     record {
       box = w.box;

@@ -1,8 +1,8 @@
 -- Lines whose constants are put anew.
 use Rattle.std.proofs.Common.{◌≡◌, ℕ, suc, ◌*◌, ◌<◌, refl, sym, ◌∙◌, ap, subst, List, [], ◌∷◌, length, arith}
 use Rattle.std.specs.Prelude.{ℤ, pos, ◌+ℤ◌, ◌*ℤ◌, Option, None, Some, IfSome, slice_index_or, slice_set}
-use Rattle.std.proofs.lemmas.Int.{ints}
 use Rattle.std.proofs.lemmas.List.{length-set}
+use lib.IntN.{+ℤ_idr}
 use Rattle.whole_numbers.specs.Fractions.{Fraction, IsLowest, StandsFor, plus, times}
 use Rattle.whole_numbers.proofs.Sums.{lowest_unique}
 use Rattle.whole_numbers.proofs.FractionLaws.{product_positive, reduced_lowest}
@@ -25,10 +25,7 @@ plus_nothing q q_lowest =
     let zero_is : StandsFor nothing (pos 0) q.denominator = lib.IntN.zero-*ℤ (pos q.denominator) in
     let stands = plus_stands_over q nothing q.numerator (pos 0) q.denominator q_lowest.positive (omega arith) q_lowest.positive refl zero_is in
     lowest_unique (plus q nothing) q (plus_lowest q nothing q_lowest.positive (omega arith)) q_lowest
-    (stands ∙ ap (λ z. z *ℤ pos (plus q nothing).denominator) (more_zero q.numerator))
-  where
-    more_zero : (z : ℤ) → (z +ℤ pos 0) ≡ z
-    more_zero z = omega (arith, ints)
+    (stands ∙ ap (λ z. z *ℤ pos (plus q nothing).denominator) (+ℤ_idr q.numerator))
 
 first_put : (line : List Fraction) → 0 < length line → slice_set line 0 (entry line 0) ≡ line
 first_put [] some = absurd (omega arith)

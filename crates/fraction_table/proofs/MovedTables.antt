@@ -4,6 +4,7 @@ use Rattle.std.specs.Prelude.{ℤ, pos, ◌+ℤ◌, ◌-ℤ◌, ◌*ℤ◌, Opti
 use Rattle.std.proofs.lemmas.Bool.{cases_eq}
 use Rattle.std.proofs.lemmas.List.{length-set}
 use Rattle.cost_base.specs.Lists.{numbers_from}
+use Rattle.cost_base.proofs.ListLemmas.{map-numbers_from-agree}
 use Rattle.whole_numbers.specs.Fractions.{Fraction, StandsFor, minus, plus, times, whole}
 use Rattle.whole_numbers.proofs.Ring.{var, num, ◌⊕◌, ◌⊖◌, ◌⊗◌, ring}
 use Rattle.whole_numbers.proofs.FractionLaws.{times_stands}
@@ -19,7 +20,6 @@ use Rattle.fraction_rows.specs.TableRows.{AreNumbers, nothing}
 use Rattle.fraction_table.specs.Tableaus.{moved_member}
 use Rattle.fraction_table.specs.Wholes.{Stand, number_of, numbers_of}
 use Rattle.fraction_table.specs.Moves.{fallen, raised_line}
-use Rattle.fraction_rows.proofs.FilledRows.{mapped_same}
 use Rattle.fraction_table.proofs.theory.MovedNumbers.{IsNumbered, fallen_constant, high_falls, low_falls, lowered_number, lowered_numbered, lowered_rows, raised, raised_constant, raised_numbered, raised_other}
 use Rattle.fraction_rows.proofs.ZeroFractions.{times_lowest}
 use Rattle.fraction_rows.proofs.RowLaws.{number_at as number_there}
@@ -167,7 +167,7 @@ line_put : (n D : ℕ) (low next : List ℕ) (lows news : List (List ℤ)) (f g 
     Stand D (slice_set line 0 q) (numbers_of n D next news f)
 line_put n D low next lows news f g line q same stand first =
     subst (λ (ms : List ℤ). Stand D (slice_set line 0 q) (number_of D next news f 0 ∷ ms))
-    (mapped_same (number_of D low lows g) (number_of D next news f) 1 n (λ k from k_in. later k from))
+    (map-numbers_from-agree (number_of D low lows g) (number_of D next news f) 1 n (λ k from k_in. later k from))
     (put_first D line q (number_of D low lows g 0) (number_of D next news f 0) (map (number_of D low lows g) (numbers_from 1 n)) stand first)
   where
     later : (k : ℕ) → 1 ≤ k → number_of D low lows g k ≡ number_of D next news f k
@@ -225,7 +225,7 @@ pub other_kept : (n D : ℕ) (low next : List ℕ) (lows news : List (List ℤ))
     (line : List Fraction) (fall : ℤ) → AreMoved D low next lows news bs None fall →
     Stand D line (numbers_of n D low lows f) → Stand D line (numbers_of n D next news f)
 other_kept n D low next lows news bs f line fall m stand =
-    subst (λ (ms : List ℤ). Stand D line ms) (mapped_same (number_of D low lows f) (number_of D next news f) 0 (suc n) (λ k from k_in. each k)) stand
+    subst (λ (ms : List ℤ). Stand D line ms) (map-numbers_from-agree (number_of D low lows f) (number_of D next news f) 0 (suc n) (λ k from k_in. each k)) stand
   where
     each : (k : ℕ) → number_of D low lows f k ≡ number_of D next news f k
     each zero = sym (m.constants f ∙ ring (number_of D low lows f 0 ∷ fall ∷ []) (var 0 ⊕ num (pos 0) ⊗ var 1) (var 0) refl)

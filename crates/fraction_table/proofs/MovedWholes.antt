@@ -6,6 +6,7 @@ use Rattle.std.proofs.lemmas.Bool.{cases_eq, cases_lt}
 use Rattle.std.proofs.lemmas.List.{get_or-map, length-map, length-set, map-append, map-set}
 use Rattle.std.proofs.lemmas.Simd.{map-map}
 use Rattle.cost_base.specs.Lists.{numbers_from}
+use Rattle.cost_base.proofs.ListLemmas.{length_zip}
 use Rattle.whole_numbers.specs.Fractions.{Fraction, whole}
 use Rattle.whole_numbers.proofs.Ring.{var, num, ◌⊕◌, ◌⊖◌, ◌⊗◌, ring}
 use Rattle.path_rows.specs.declared.form.Form.{Form}
@@ -27,7 +28,7 @@ use Rattle.fraction_rows.proofs.RowLaws.{rows_at}
 use Rattle.fraction_table.proofs.theory.Resolved.{stand_length}
 use Rattle.fraction_table.proofs.theory.TurnedNumbers.{numbers_long}
 use Rattle.fraction_table.proofs.StartingTables.{members_are}
-use Rattle.fraction_table.proofs.theory.Zips.{zip_at, zip_from, zip_long}
+use Rattle.fraction_table.proofs.theory.Zips.{zip_at, zip_from}
 
 -- the form of a column
 column_form : (costs : CostBox) (rows : List Form) (basis : List Member) (k : ℕ) (member : Member) → k < length basis →
@@ -290,7 +291,7 @@ lines_moved : (top : ℕ) (costs next : CostBox) (rows : List Form) (basis : Lis
 lines_moved top costs next rows basis table u news before after fall column own m =
     let ms = members_of costs (length rows) in
     let now = shifted_lines column own (whole fall) table in
-    let as_many : length ms ≡ length table = zip_long (IsLine top u.common costs rows u.lows) ms table u.lines in
+    let as_many : length ms ≡ length table = length_zip (IsLine top u.common costs rows u.lows) ms table u.lines in
     let mapped : length (map (moved_member next) ms) ≡ length ms = length-map ms (moved_member next) in
     subst (λ (members : List Member). AllZip (IsLine top u.common next rows news) members now) (sym (members_moved costs next (length rows) m.falls.width))
     (zip_from (IsLine top u.common next rows news) (map (moved_member next) ms) now (Low 0 0) [] (mapped ∙ as_many
@@ -300,7 +301,7 @@ lines_moved top costs next rows basis table u news before after fall column own 
     (line i (omega (arith, i_in, mapped)))))
   where
     as_long : length (members_of costs (length rows)) ≡ length table
-    as_long = zip_long (IsLine top u.common costs rows u.lows) (members_of costs (length rows)) table u.lines
+    as_long = length_zip (IsLine top u.common costs rows u.lows) (members_of costs (length rows)) table u.lines
 
     other_member : (i : ℕ) → i < length (members_of costs (length rows)) → i ≢ own → slice_index_or (members_of costs (length rows)) i (Low 0 0) ≢ before
     other_member i i_in apart same =

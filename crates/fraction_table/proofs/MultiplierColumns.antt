@@ -7,9 +7,10 @@ use Prim.Native.Nat.{◌∣◌}
 use native.Mathlib.Nat.{dvd_trans, mul_comm, div-mul_cancel, div-one, dvd_refl, one-dvd}
 use Rattle.whole_numbers.specs.Fractions.{Fraction, IsLowest, StandsFor, gcd, lcm, negated, times, whole}
 use Rattle.whole_numbers.proofs.Ring.{var, num, ◌⊗◌, neg, ring, ring_by, nothing as no_more, using}
-use Rattle.whole_numbers.proofs.Divisors.{gcd-one}
-use Rattle.whole_numbers.proofs.FractionLaws.{nat_abs-neg, stands_less, times_stands}
+use Rattle.whole_numbers.proofs.Divisors.{gcd-one, quotient_positive}
+use Rattle.whole_numbers.proofs.FractionLaws.{stands_less, times_stands}
 use Rattle.whole_numbers.proofs.Multiples.{left_divides_lcm, right_divides_lcm, lcm_positive, stands_over}
+use Rattle.whole_numbers.proofs.Sizes.{negated_size}
 use Rattle.whole_numbers.proofs.Sums.{lowest_unique}
 use Rattle.wide_fraction.specs.Widths.{IsWithin}
 use Rattle.wide_fraction.proofs.Quotients.{zero_stands}
@@ -123,15 +124,11 @@ all_from_each P (x ∷ xs) all (suc k) d k_in = all_from_each P xs all.1 k d (om
 pub one_number : (top : ℕ) → IsWithin top (whole (pos 1)) → IsNumber top (whole (pos 1))
 one_number top within = record { lowest = record { positive = omega arith; lowest = gcd-one 1 }; within = within }
 
-negated_abs : (z : ℤ) → nat_abs (neg_ℤ z) ≡ nat_abs z
-negated_abs (pos n) = nat_abs-neg n
-negated_abs (negsuc n) = refl
-
 negated_number : (top : ℕ) (q : Fraction) → IsNumber top q → IsNumber top (negated q)
 negated_number top q is =
     record {
-      lowest = record { positive = is.lowest.positive; lowest = ap (λ n. gcd n q.denominator) (negated_abs q.numerator) ∙ is.lowest.lowest };
-      within = record { numerator = omega (arith, negated_abs q.numerator, is.within.numerator); denominator = is.within.denominator };
+      lowest = record { positive = is.lowest.positive; lowest = ap (λ n. gcd n q.denominator) (negated_size q.numerator) ∙ is.lowest.lowest };
+      within = record { numerator = omega (arith, negated_size q.numerator, is.within.numerator); denominator = is.within.denominator };
     }
 
 column_is : (top count row : ℕ) (z : ℤ) (q : Fraction) → z ≡ q.numerator → row < count → IsNumber top q →
@@ -221,13 +218,6 @@ product_high (pos (suc n)) (suc k) z_positive k_positive = omega (arith, ints)
 product_high (pos (suc n)) zero z_positive k_positive = absurd (omega arith)
 product_high (negsuc n) k z_positive k_positive = absurd (omega (arith, ints))
 
-quotient_high : (L d : ℕ) → 0 < L → d ∣ L → 0 < L / d
-quotient_high L d L_positive divides = from (L / d) (div-mul_cancel d divides)
-  where
-    from : (k : ℕ) → k * d ≡ L → 0 < k
-    from zero same = absurd (omega (arith, same, L_positive))
-    from (suc k) same = omega arith
-
 -- it is a positive natural number
 pub made_natural : (q : Fraction) (L : ℕ) → 0 < q.denominator → 0 < L → q.denominator ∣ L → pos 0 <ℤ q.numerator →
     (times q (whole (pos L)) ≡ whole (pos (nat_abs (times q (whole (pos L))).numerator)))
@@ -236,7 +226,7 @@ pub made_natural : (q : Fraction) (L : ℕ) → 0 < q.denominator → 0 < L → 
 made_natural q L q_positive L_positive divides positive =
     let N = q.numerator *ℤ pos (L / q.denominator) in
     let is = whole_times q L q_positive L_positive divides in
-    let high : pos 0 <ℤ N = product_high q.numerator (L / q.denominator) positive (quotient_high L q.denominator L_positive divides) in
+    let high : pos 0 <ℤ N = product_high q.numerator (L / q.denominator) positive (quotient_positive L q.denominator L_positive divides) in
     let same : pos (nat_abs (times q (whole (pos L))).numerator) ≡ N = ap (λ (t : Fraction). pos (nat_abs t.numerator)) is ∙ natural N high in
     (is ∙ ap whole (sym same), natural_positive _ (subst (λ (z : ℤ). pos 0 <ℤ z) (sym same) high), same)
   where

@@ -1,7 +1,7 @@
 -- The steps by which multipliers are made whole and summed up, one after another.
 use Rattle.std.proofs.Common.{◌≡◌, ℕ, zero, suc, ◌+◌, ◌*◌, ◌^◌, ◌<◌, ◌≤◌, SFits, of_z, to_z, refl, sym, ◌∙◌, ap, subst, List, [], ◌∷◌, ◌++◌, map, length, arith}
 use Rattle.std.specs.Int.{w128}
-use Rattle.std.specs.Prelude.{ℤ, pos, negsuc, ◌+ℤ◌, ◌*ℤ◌, ◌<ℤ◌, nat_abs, fold, take, slice_index_or, sum_by, All}
+use Rattle.std.specs.Prelude.{ℤ, pos, ◌+ℤ◌, ◌*ℤ◌, ◌<ℤ◌, nat_abs, fold, take, slice_index_or, sum_by, All}
 use Rattle.std.proofs.lemmas.Int.{fits_signed_from_abs, ints, to_z-of_z, to_z_pos}
 use Rattle.std.proofs.lemmas.List.{get_or_default, get_or-map, length-map, map-append, take_more}
 use Rattle.std.proofs.lemmas.List.Sums.{fold_more, sum_by-cons}
@@ -10,6 +10,7 @@ use Rattle.cost_base.specs.declared.StepName.TheVariants.{Add, Lcm, Mul, Scale}
 use Rattle.whole_numbers.specs.Fractions.{Fraction, lcm, plus, sum_of, times, whole}
 use Rattle.whole_numbers.proofs.FractionLaws.{reduced_lowest}
 use Rattle.whole_numbers.proofs.Multiples.{lcm_positive, plus_stands_over}
+use Rattle.whole_numbers.proofs.Sizes.{size_positive}
 use Rattle.wide_fraction.specs.declared.steps.Wide.{Wide}
 use Rattle.wide_fraction.specs.Widths.{IsTop}
 use Rattle.path_rows.specs.Steps.{denominators, lcm_of}
@@ -64,11 +65,7 @@ pub positive_multiple : (m z n : ℤ) → pos 0 <ℤ m → pos 0 <ℤ z → n �
 positive_multiple m z n m_positive z_positive n_is =
     subst (λ (x : ℤ). pos 0 <ℤ x) (sym n_is)
     (natural_high (lcm (nat_abs m) (nat_abs z))
-    (lcm_positive (nat_abs m) (nat_abs z) (size m m_positive) (size z z_positive)))
-  where
-    size : (x : ℤ) → pos 0 <ℤ x → 0 < nat_abs x
-    size (pos k) up = omega (arith, ints)
-    size (negsuc k) up = omega arith
+    (lcm_positive (nat_abs m) (nat_abs z) (size_positive m m_positive) (size_positive z z_positive)))
 
 -- the multiple of one more denominator
 pub multiple_next : (parts : List (ℕ × Fraction)) (k : ℕ) (d : ℕ × Fraction) (m n z : ℤ) → k < length parts →

@@ -14,6 +14,7 @@ use Rattle.path_rows.specs.Basis.{member_form}
 use Rattle.path_rows.specs.Steps.{unless_zero}
 use Rattle.path_rows.proofs.Weighted.{value-weighted}
 use Rattle.fraction_table.specs.Multipliers.{Each, columns_numbered, numbered, whole_part}
+use Rattle.fraction_table.proofs.theory.Corner.{sum_low, sum_negative}
 
 -- the values of members' forms at costs, each times its number
 abbrev pub member_sum : ℕ → List Form → List ℕ → List ℤ → List Member → ℤ
@@ -55,10 +56,7 @@ bound_more D L s m v r m_low v_high rest =
     subst (λ (z : ℤ). z ≤ℤ pos 0)
     (ring (pos D ∷ s ∷ pos L ∷ m ∷ v ∷ r ∷ []) (var 2 ⊗ (var 3 ⊗ var 4) ⊕ (var 0 ⊗ var 1 ⊕ var 2 ⊗ var 5))
     (var 0 ⊗ var 1 ⊕ var 2 ⊗ (var 3 ⊗ var 4 ⊕ var 5)) refl)
-    (both _ _ (low_times L (m *ℤ v) (opposite_product m v m_low v_high)) rest)
-  where
-    both : (a b : ℤ) → a ≤ℤ pos 0 → b ≤ℤ pos 0 → (a +ℤ b) ≤ℤ pos 0
-    both a b first second = omega (arith, ints)
+    (sum_low _ _ (low_times L (m *ℤ v) (opposite_product m v m_low v_high)) rest)
 
 row_more : (D L : ℕ) (p s m v r : ℤ) → (pos D *ℤ p) ≡ neg_ℤ (m *ℤ pos L) → ((pos D *ℤ s) +ℤ (pos L *ℤ r)) ≤ℤ pos 0 →
     ((pos D *ℤ ((p *ℤ v) +ℤ s)) +ℤ (pos L *ℤ ((m *ℤ v) +ℤ r))) ≤ℤ pos 0
@@ -123,10 +121,7 @@ row_negative D L v s m r L_positive below equation rest =
     (subst (λ (z : ℤ). z <ℤ pos 0)
     (ring_by (pos D ∷ pos L ∷ v ∷ s ∷ m ∷ r ∷ []) (var 4 ⊗ var 1 ⊕ (var 0 ⊗ var 3 ⊕ var 1 ⊗ var 5)) (var 0 ⊗ (var 1 ⊗ var 2 ⊕ var 3))
     (using (neg (var 1)) (var 0 ⊗ var 2) (var 4 ⊕ var 5) equation nothing) refl)
-    (both _ _ (negative_product m L below L_positive) rest))
-  where
-    both : (a b : ℤ) → a <ℤ pos 0 → b ≤ℤ pos 0 → (a +ℤ b) <ℤ pos 0
-    both a b first second = omega (arith, ints)
+    (sum_negative _ _ (negative_product m L below L_positive) rest))
 
 bound_negative : (D L : ℕ) (v s m r : ℤ) → 0 < L → m <ℤ pos 0 → pos 0 ≤ℤ v → (pos D *ℤ v) ≡ (m +ℤ r) → ((pos D *ℤ s) +ℤ (pos L *ℤ r)) ≤ℤ pos 0 → s <ℤ pos 0
 bound_negative D L v s m r L_positive below high equation rest =

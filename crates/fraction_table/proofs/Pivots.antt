@@ -5,6 +5,7 @@ use Rattle.std.specs.List.{AllZip}
 use Rattle.std.proofs.lemmas.Int.{ints}
 use Rattle.std.proofs.lemmas.List.{get_or_default, length-append, get_or_append_left, get_or-append-add}
 use Rattle.cost_base.specs.Lists.{numbers_from}
+use Rattle.cost_base.proofs.ListLemmas.{length-map-numbers_from, get_or-map-numbers_from, length_zip}
 use Rattle.whole_numbers.specs.Fractions.{Fraction, divided, inverse, inverted, whole}
 use Rattle.whole_numbers.specs.Lists.{number_at}
 use Rattle.wide_fraction.specs.declared.steps.Wide.{Wide}
@@ -20,7 +21,6 @@ use Rattle.fraction_table.specs.Tableaus.{wide_at}
 use Rattle.fraction_rows.specs.Turns.{AreRows, IsQuotientStepOf, IsTurnStep, TurnsWide, turned_by}
 use Rattle.fraction_table.specs.Wholes.{IsLine, IsWhole, IsWholeTable, high_member, members_of, numbers_of}
 use Rattle.fraction_table.specs.Pivots.{IsLeastIn, line_at, line_numbers, member_at}
-use Rattle.fraction_rows.proofs.FilledRows.{length-mapped, mapped_at}
 use Rattle.fraction_table.proofs.theory.Resolved.{stand_length}
 use Rattle.fraction_rows.proofs.ZeroFractions.{inverse_positive}
 use Rattle.fraction_rows.proofs.RowLaws.{number_at as number_there, times_not_zero}
@@ -29,7 +29,7 @@ use Rattle.fraction_table.proofs.WholeTurns.{IsPivotOf, stand_at, turned_line, w
 use Rattle.fraction_table.proofs.Bases.{line_entries, whole_table}
 use Rattle.fraction_table.proofs.StartingTables.{members_are}
 use Rattle.fraction_rows.proofs.PivotSteps.{IsFormLine, quotient_is_step, turn_is_step}
-use Rattle.fraction_table.proofs.theory.Zips.{zip_at, zip_long}
+use Rattle.fraction_table.proofs.theory.Zips.{zip_at}
 
 -- a line of a whole table is that of its member
 pub whole_line : (t : Table) (w : IsWholeTable t) (line : ℕ) → line < length t.lines.items →
@@ -37,13 +37,13 @@ pub whole_line : (t : Table) (w : IsWholeTable t) (line : ℕ) → line < length
 whole_line t w line line_in =
     let members = members_of t.costs (length t.rows.items) in
     zip_at (IsLine t.top w.unboxed.common t.costs t.rows.items w.unboxed.lows) members t.lines.items line (Low 0 0) [] w.unboxed.lines
-    (omega (arith, zip_long (IsLine t.top w.unboxed.common t.costs t.rows.items w.unboxed.lows) members t.lines.items w.unboxed.lines, line_in))
+    (omega (arith, length_zip (IsLine t.top w.unboxed.common t.costs t.rows.items w.unboxed.lows) members t.lines.items w.unboxed.lines, line_in))
 
 pub member_in : (t : Table) (w : IsWholeTable t) (line : ℕ) → line < length t.lines.items → line < length (members_of t.costs (length t.rows.items))
 member_in t w line line_in =
     omega (
       arith,
-      zip_long (IsLine t.top w.unboxed.common t.costs t.rows.items w.unboxed.lows)
+      length_zip (IsLine t.top w.unboxed.common t.costs t.rows.items w.unboxed.lows)
           (members_of t.costs (length t.rows.items)) t.lines.items w.unboxed.lines,
       line_in,
     )
@@ -235,13 +235,13 @@ high_place costs rows k d k_in =
     let n = length costs.low in
     let lows = map (low_member costs) (numbers_from 0 n) in
     let highs = map (high_member costs) (numbers_from 0 n) in
-    let lows_long : length lows ≡ n = length-mapped (low_member costs) 0 n in
-    let highs_long : length highs ≡ n = length-mapped (high_member costs) 0 n in
+    let lows_long : length lows ≡ n = length-map-numbers_from (low_member costs) 0 n in
+    let highs_long : length highs ≡ n = length-map-numbers_from (high_member costs) 0 n in
     get_or_append_left (lows ++ highs) (map (λ row. Row row) (numbers_from 0 rows)) d (n + k)
     (omega (arith, length-append lows highs, lows_long, highs_long, k_in))
     ∙ ap (λ m. slice_index_or (lows ++ highs) (m + k) d) (sym lows_long)
     ∙ get_or-append-add lows highs k d
-    ∙ mapped_at (high_member costs) 0 n k d k_in
+    ∙ get_or-map-numbers_from (high_member costs) 0 n k d k_in
     ∙ ap (high_member costs) (zero-add k)
 
 pub row_place : (costs : CostBox) (rows k : ℕ) (d : Member) → k < rows →
@@ -254,12 +254,12 @@ row_place costs rows k d k_in =
     omega (
       arith,
       length-append lows highs,
-      length-mapped (low_member costs) 0 n,
-      length-mapped (high_member costs) 0 n,
+      length-map-numbers_from (low_member costs) 0 n,
+      length-map-numbers_from (high_member costs) 0 n,
     ) in
     ap (λ m. slice_index_or ((lows ++ highs) ++ map (λ row. Row row) (numbers_from 0 rows)) (m + k) d) (sym both_long)
     ∙ get_or-append-add (lows ++ highs) (map (λ row. Row row) (numbers_from 0 rows)) k d
-    ∙ mapped_at (λ row. Row row) 0 rows k d k_in
+    ∙ get_or-map-numbers_from (λ row. Row row) 0 rows k d k_in
     ∙ ap (λ row. Row row) (zero-add k)
 
 pub members_long : (costs : CostBox) (rows : ℕ) → length (members_of costs rows) ≡ length costs.low + length costs.low + rows
@@ -271,12 +271,13 @@ members_long costs rows =
       arith,
       length-append (lows ++ highs) (map (λ row. Row row) (numbers_from 0 rows)),
       length-append lows highs,
-      length-mapped (low_member costs) 0 n,
-      length-mapped (high_member costs) 0 n,
-      length-mapped (λ row. Row row) 0 rows,
+      length-map-numbers_from (low_member costs) 0 n,
+      length-map-numbers_from (high_member costs) 0 n,
+      length-map-numbers_from (λ row. Row row) 0 rows,
     )
 
 pub lines_long : (t : Table) (w : IsWholeTable t) → length t.lines.items ≡ length t.costs.low + length t.costs.low + length t.rows.items
 lines_long t w =
-    sym (zip_long (IsLine t.top w.unboxed.common t.costs t.rows.items w.unboxed.lows) (members_of t.costs (length t.rows.items)) t.lines.items w.unboxed.lines)
+    sym (length_zip (IsLine t.top w.unboxed.common t.costs t.rows.items w.unboxed.lows) (members_of t.costs (length t.rows.items))
+    t.lines.items w.unboxed.lines)
     ∙ members_long t.costs (length t.rows.items)

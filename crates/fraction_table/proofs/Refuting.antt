@@ -15,12 +15,13 @@ use Rattle.path_rows.specs.declared.form.Form.{Form}
 use Rattle.path_rows.specs.declared.form.CostBox.{CostBox}
 use Rattle.path_rows.specs.declared.tree.Member.{Member}
 use Rattle.path_rows.specs.declared.tree.Member.TheVariants.{Low, High, Row}
-use Rattle.path_rows.specs.Forms.{dot, no_form, value, value_at, weighted}
+use Rattle.path_rows.specs.Forms.{no_form, value, weighted}
 use Rattle.path_rows.specs.Boxes.{IsInBox, IsPointOf, Refutes}
 use Rattle.path_rows.specs.Basis.{HasEntries, IsFormOf, entry, forms_of, member_form}
 use Rattle.path_rows.specs.Steps.{IsStep, IsStuck, IsTooWide, made_whole, multipliers, unless_zero}
 use Rattle.path_rows.specs.Steps.IsStep.{multiple as multiple_step, multiplier_product, multiplier_sum, multiplier_scale}
 use Rattle.path_rows.proofs.GreatestLaws.{greatest_reached}
+use Rattle.path_rows.proofs.AtCosts.{value_at_costs}
 use Rattle.fraction_table.specs.declared.table.Table.{Table}
 use Rattle.fraction_table.specs.declared.stage.SimplexStop.{SimplexStop}
 use Rattle.fraction_table.specs.declared.stage.SimplexStop.TheVariants.{TooWide, OutOfMemory}
@@ -43,10 +44,6 @@ use Rattle.fraction_table.proofs.MultiplierSums.{AllHigh, IsHigh, member_sum, pa
 use Rattle.fraction_table.proofs.MultiplierColumns.{AreLow, all_from_each, one_number, are_made, columns_are, common_divides, common_positive, each_append, each_right, each_weaker, fractions_are, own_is, own_made}
 use Rattle.fraction_table.proofs.WholeParts.{each_whole}
 use Rattle.fraction_table.proofs.MultiplierRows.{AreApart, IsApart, parts_different, value_moved}
-
--- the forms' values at costs
-value_at_costs : (f : Form) (w : List ℕ) → value_at f (at_costs w) ≡ value f w
-value_at_costs f w = ring (f.constant ∷ dot f.coefficients w ∷ []) (var 0 ⊗ num (pos 1) ⊕ var 1) (var 0 ⊕ var 1) refl
 
 mixed_members : (n : ℕ) (rows : List Form) (w : List ℕ) (ms : List ℤ) (members : List Member) →
     mixed_at ms (map (member_form n rows) members) (at_costs w) ≡ member_sum n rows w ms members

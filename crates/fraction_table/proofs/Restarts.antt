@@ -3,6 +3,7 @@ use Rattle.std.proofs.Common.{◌≡◌, ℕ, zero, suc, ◌+◌, ◌-◌, ◌^�
 use Rattle.std.specs.Prelude.{ℤ, pos, negsuc, ◌-ℤ◌, nat_abs, slice_index, slice_index_or, slice_set, All}
 use Rattle.std.proofs.lemmas.List.{append_assoc, at_drop_all, get_or-map, get_or-set_other, length-append, length-map, length-set}
 use Rattle.cost_base.specs.Lists.{numbers_from}
+use Rattle.cost_base.proofs.ListLemmas.{length-map-numbers_from, get_or-map-numbers_from}
 use Rattle.whole_numbers.specs.Fractions.{Fraction, whole}
 use Rattle.path_rows.specs.declared.form.Form.{Form}
 use Rattle.path_rows.specs.declared.form.CostBox.{CostBox}
@@ -14,22 +15,20 @@ use Rattle.path_rows.specs.Forms.{terms_from, value}
 use Rattle.path_rows.proofs.TermLaws.{rising_from}
 use Rattle.fraction_rows.proofs.TermSums.{no_term, term_in}
 use Rattle.path_rows.specs.Basis.{IsFormOf, entry, low_member, member_form, unit}
-use Rattle.fraction_rows.specs.TableRows.{AreNumbers, nothing}
+use Rattle.fraction_rows.specs.TableRows.{AreNumbers, blank_row, nothing}
+use Rattle.fraction_rows.proofs.BlankRows.{blank_entry, blank_size, cleared_set}
 use Rattle.fraction_table.specs.Tableaus.{FitsBox, Held, IsRebased, moved, rebased, starting}
 use Rattle.fraction_table.specs.declared.stage.Stage.{Stage}
 use Rattle.fraction_table.specs.declared.stage.Stage.TheVariants.{Open}
 use Rattle.fraction_table.proofs.Pivots.{members_long}
-use Rattle.fraction_table.specs.Wholes.{HasRoom, IsSound, IsWhole, IsWholeTable, held_of, members_of, starting_line}
+use Rattle.fraction_table.specs.Wholes.{IsWhole, IsWholeTable, held_of, members_of, starting_line}
 use Rattle.fraction_table.specs.Moves.{HasShape, IsMoved, KeepsAllButLines, KeepsRows}
 use Rattle.fraction_table.specs.Pivots.{member_at}
 use Rattle.fraction_rows.specs.Turns.{AreRows}
 use Rattle.fraction_table.specs.declared.table.Table.{Table}
 use Rattle.path_rows.specs.Boxes.{IsBox}
-use Rattle.fraction_table.proofs.Bases.{whole_basis}
 use Rattle.fraction_table.proofs.StartingTables.{whole_start}
 use Rattle.fraction_table.proofs.BetweenBoxes.{all_written, written_next}
-use Rattle.fraction_rows.proofs.FilledRows.{length-mapped, mapped_at}
-use Rattle.fraction_table.proofs.StartLines.{blank_at, cleared_is, constant_set}
 use Rattle.fraction_rows.proofs.SmallNumbers.{whole_number}
 use Rattle.fraction_table.proofs.theory.Units.{high_value, low_value}
 use Rattle.fraction_table.proofs.WholeTurns.{coefficients_long}
@@ -90,19 +89,19 @@ pub record IsPutTo (constant : ℤ) (cs : List ℤ) (ts : List Term) (index : �
 
 pub put_first : (constant : ℤ) (cs : List ℤ) (ts : List Term) (old cleared now : List Fraction) (q : Fraction) →
     ts ≡ terms_from 0 cs → length old ≡ suc (length cs) →
-    cleared ≡ nothing ∷ map (λ column. nothing) (numbers_from 0 (length old - 1)) → q ≡ whole constant →
+    cleared ≡ blank_row (length old - 1) → q ≡ whole constant →
     now ≡ slice_set cleared 0 q → IsPutTo constant cs ts 0 now
 put_first constant cs ts old cleared now q ts_are long cleared_are q_is now_is =
     let n = length cs in
     let now_are : now ≡ whole constant ∷ map (λ column. nothing) (numbers_from 0 n) =
-    constant_set cleared now n q (cleared_is old cleared n long cleared_are) now_is
+    cleared_set old cleared now n q long cleared_are now_is
     ∙ ap (λ (p : Fraction). p ∷ map (λ column. nothing) (numbers_from 0 n)) q_is in
     record {
-      long = ap length now_are ∙ ap suc (length-mapped (λ column. nothing) 0 n);
+      long = ap length now_are ∙ blank_size n;
       left = ap (λ (line : List Fraction). with_terms line ts) now_are
           ∙ ap (with_terms (whole constant ∷ map (λ column. nothing) (numbers_from 0 n))) ts_are
           ∙ terms_put (whole constant) 0 0 [] cs refl;
-      blank = λ later index_in from. ap (λ (line : List Fraction). entry line (suc later)) now_are ∙ blank_at 0 n later;
+      blank = λ later index_in from. ap (λ (line : List Fraction). entry line (suc later)) now_are ∙ blank_entry n (suc later);
     }
 
 pub put_next : (constant : ℤ) (cs : List ℤ) (ts : List Term) (index : ℕ) (line now : List Fraction) (q : Fraction) →
@@ -168,15 +167,15 @@ pub start_next : (costs : CostBox) (initial basis : List Member) (low : List ℕ
 start_next costs initial basis low v long low_is v_in basis_is =
     ap (λ (ms : List Member). slice_set ms v (Low v (slice_index low v))) basis_is
     ∙ written_next initial (starting costs) v (Low 0 0) (Low v (slice_index low v)) (omega (arith, long, v_in))
-    (omega (arith, length-mapped (low_member costs) 0 (length costs.low), v_in))
+    (omega (arith, length-map-numbers_from (low_member costs) 0 (length costs.low), v_in))
     (ap (λ (bs : List ℕ). Low v (slice_index bs v)) low_is
-    ∙ sym (mapped_at (low_member costs) 0 (length costs.low) v (Low 0 0) v_in
+    ∙ sym (get_or-map-numbers_from (low_member costs) 0 (length costs.low) v (Low 0 0) v_in
     ∙ ap (low_member costs) (zero-add v)))
 
 pub start_all : (costs : CostBox) (initial basis : List Member) (v : ℕ) → length initial ≡ length costs.low →
     v ≡ length costs.low → basis ≡ take v (starting costs) ++ drop v initial → basis ≡ starting costs
 start_all costs initial basis v long v_is basis_is =
-    basis_is ∙ all_written initial (starting costs) v (long ∙ sym v_is) (length-mapped (low_member costs) 0 (length costs.low) ∙ sym v_is)
+    basis_is ∙ all_written initial (starting costs) v (long ∙ sym v_is) (length-map-numbers_from (low_member costs) 0 (length costs.low) ∙ sym v_is)
 
 -- how long the starting line of a member is
 pub line_long : (costs : CostBox) (rows : List Form) (member : Member) → All (FitsBox costs) rows →
@@ -246,7 +245,7 @@ bounds_are costs low high low_is high_is =
     ap (λ (bs : List ℕ). record { low = bs; high = high }) low_is ∙ ap (λ (bs : List ℕ). record { low = costs.low; high = bs }) high_is
 
 pub starting_many : (costs : CostBox) → length (starting costs) ≡ length costs.low
-starting_many costs = length-mapped (low_member costs) 0 (length costs.low)
+starting_many costs = length-map-numbers_from (low_member costs) 0 (length costs.low)
 
 -- boxes of as many variables have as many members
 pub members_same : (costs next : CostBox) (rows : ℕ) → length costs.low ≡ length next.low → length (members_of costs rows) ≡ length (members_of next rows)
@@ -281,8 +280,3 @@ any_stage t stage costs new (inr is) =
       },
       is.1,
     )
-
--- a whole table that wasn't solved yet
-pub reopened : (t : Table) → IsWholeTable t → HasRoom t → IsSound t Open
-reopened t w room =
-    record { whole = λ going. w; shown = tt; basis = whole_basis t.top t.costs t.rows.items t.basis.items t.lines.items w; room = room }

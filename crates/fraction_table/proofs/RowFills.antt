@@ -1,5 +1,5 @@
 -- A line of zeros is filled from the left.
-use Rattle.std.proofs.Common.{◌≡◌, ℕ, zero, suc, ◌+◌, ◌-◌, ◌<◌, ◌≤◌, refl, sym, ◌∙◌, ap, subst, List, ◌∷◌, map, length, arith, inl, inr}
+use Rattle.std.proofs.Common.{◌≡◌, ℕ, zero, suc, ◌+◌, ◌-◌, ◌<◌, ◌≤◌, sym, ◌∙◌, ap, subst, List, ◌∷◌, map, length, arith, inl, inr}
 use Rattle.std.specs.Prelude.{ℤ, Result, Ok, Err, IfErr, OnOk, slice_set}
 use Rattle.std.proofs.lemmas.Bool.{cases_lt}
 use Rattle.std.proofs.lemmas.List.{get_or-set_other, get_or-set_same, length-set}
@@ -13,11 +13,11 @@ use Rattle.wide_fraction.specs.declared.steps.Wide.{Wide}
 use Rattle.fraction_rows.specs.Entries.{IsPassing}
 use Rattle.fraction_table.specs.RowLines.{IsRowLine, IsRowStep, sum_at_place}
 use Rattle.fraction_rows.specs.Sums.{IsSumStep, sum_from}
-use Rattle.fraction_rows.specs.TableRows.{AreNumbers, IsNumber, nothing}
-use Rattle.fraction_rows.proofs.FilledRows.{length-mapped, numbers_mapped}
+use Rattle.fraction_rows.specs.TableRows.{AreNumbers, IsNumber, blank_row, nothing}
+use Rattle.fraction_rows.proofs.BlankRows.{blank_entry, blank_size}
+use Rattle.fraction_rows.proofs.FilledRows.{numbers_mapped}
 use Rattle.fraction_rows.proofs.ZeroFractions.{nothing_number}
 use Rattle.fraction_rows.proofs.RowLaws.{written_numbers}
-use Rattle.fraction_table.proofs.StartLines.{blank_at}
 
 -- the first places of a line have the form's sums, and the others 0
 pub record IsFilledTo (top : ℕ) (costs : CostBox) (form : Form) (lines : List (List Fraction)) (count : ℕ) (line : List Fraction) : Type 0 where
@@ -48,7 +48,7 @@ filled_next top costs form lines count line new q count_in q_is number new_is f 
 
 -- the constant is filled first
 pub filled_first : (top : ℕ) (costs : CostBox) (form : Form) (lines : List (List Fraction)) (line new : List Fraction)
-    (q : Fraction) → line ≡ nothing ∷ map (λ column. nothing) (numbers_from 0 (length costs.low)) →
+    (q : Fraction) → line ≡ blank_row (length costs.low) →
     q ≡ sum_at_place costs form lines 0 → IsNumber top q → new ≡ slice_set line 0 q →
     IsFilledTo top costs form lines 1 new
 filled_first top costs form lines line new q blank q_is number new_is =
@@ -56,15 +56,11 @@ filled_first top costs form lines line new q blank q_is number new_is =
     filled_next top costs form lines 0 line new q (omega arith) q_is number new_is
     (subst (IsFilledTo top costs form lines 0) (sym blank)
     (record {
-      long = ap suc (length-mapped (λ column. nothing) 0 (length costs.low));
+      long = blank_size (length costs.low);
       before = λ place place_in. absurd (omega (arith, place_in));
-      after = blank_after (length costs.low);
+      after = λ place from. blank_entry (length costs.low) place;
       numbers = (none, numbers_mapped top (λ column. nothing) (numbers_from 0 (length costs.low)) (λ k. none));
     }))
-  where
-    blank_after : (n place : ℕ) → 0 ≤ place → entry (nothing ∷ map (λ column. nothing) (numbers_from 0 n)) place ≡ nothing
-    blank_after n zero from = refl
-    blank_after n (suc k) from = blank_at 0 n k
 
 -- a step of the sum at a place is a step of the line
 pub step_at : {X : Type 0} (r : Result X Wide) (top : ℕ) (costs : CostBox) (form : Form) (lines : List (List Fraction))
@@ -104,20 +100,20 @@ pub record IsStarted (top : ℕ) (costs : CostBox) (form : Form) (line : List Fr
 
 -- a line of zeros with its constant put
 pub started_line : (top : ℕ) (costs : CostBox) (form : Form) (line new : List Fraction) (q : Fraction) →
-    line ≡ nothing ∷ map (λ column. nothing) (numbers_from 0 (length costs.low)) → q ≡ start_of_sum costs form 0 →
+    line ≡ blank_row (length costs.low) → q ≡ start_of_sum costs form 0 →
     IsNumber top q → new ≡ slice_set line 0 q → IsStarted top costs form new
 started_line top costs form line new q blank q_is number new_is =
     let none = nothing_number top q number in
     subst (IsStarted top costs form) (sym (new_is ∙ ap (λ (l : List Fraction). slice_set l 0 q) blank))
     (record {
-      long = ap suc (length-mapped (λ column. nothing) 0 (length costs.low));
+      long = blank_size (length costs.low);
       starts = starts (length costs.low);
       numbers = (number, numbers_mapped top (λ column. nothing) (numbers_from 0 (length costs.low)) (λ k. none));
     })
   where
     starts : (n place : ℕ) → entry (q ∷ map (λ column. nothing) (numbers_from 0 n)) place ≡ start_of_sum costs form place
     starts n zero = q_is
-    starts n (suc k) = blank_at 0 n k
+    starts n (suc k) = blank_entry n (suc k)
 
 -- with the terms put to all of it, it is the form's line
 pub gathered_line : {X : Type 0} (r : Result X Wide) (top : ℕ) (costs : CostBox) (form : Form)
@@ -133,15 +129,3 @@ gathered_line (Ok x) top costs form lines old new started sums numbers same =
           ∙ ap (λ (q : Fraction). sum_from q form.coefficients lines place) (started.starts place);
       numbers = numbers;
     }
-
--- a line that is made 0 again
-pub blank_again : (costs : CostBox) (old now line : List Fraction) →
-    old ≡ nothing ∷ map (λ column. nothing) (numbers_from 0 (length costs.low)) → length now ≡ length old →
-    line ≡ nothing ∷ map (λ column. nothing) (numbers_from 0 (length now - 1)) →
-    line ≡ nothing ∷ map (λ column. nothing) (numbers_from 0 (length costs.low))
-blank_again costs old now line blank same cleared =
-    cleared ∙ ap (λ (n : ℕ). nothing ∷ map (λ column. nothing) (numbers_from 0 n))
-    (counted (same ∙ ap length blank ∙ ap suc (length-mapped (λ column. nothing) 0 (length costs.low))))
-  where
-    counted : length now ≡ suc (length costs.low) → length now - 1 ≡ length costs.low
-    counted e = omega arith

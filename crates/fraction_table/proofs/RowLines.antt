@@ -1,6 +1,7 @@
 -- The line of a row that is added stands for the row's numbers, and its steps are steps of the table.
 use Rattle.std.proofs.Common.{◌≡◌, ℕ, zero, suc, ◌*◌, ◌<◌, ◌≤◌, refl, sym, ◌∙◌, ap, subst, List, [], ◌∷◌, ◌++◌, take, length, arith, one-mul}
 use Rattle.std.specs.Prelude.{ℤ, pos, negsuc, ◌+ℤ◌, ◌*ℤ◌, Result, Ok, Err, IfErr, OnOk, fold, slice_get, slice_index_or}
+use Rattle.std.proofs.Math.Seq.{get_or-append_seam}
 use Rattle.std.proofs.lemmas.List.{get_or-take, length-append}
 use Rattle.cost_base.specs.declared.StepName.TheVariants.{Add, Mul}
 use Rattle.whole_numbers.specs.Fractions.{Fraction, StandsFor, plus, times, whole}
@@ -12,7 +13,7 @@ use Rattle.wide_fraction.specs.declared.steps.Wide.{Wide}
 use Rattle.path_rows.specs.declared.form.Form.{Form}
 use Rattle.path_rows.specs.declared.form.CostBox.{CostBox}
 use Rattle.path_rows.specs.declared.tree.Member.{Member}
-use Rattle.path_rows.specs.Forms.{form_at, value}
+use Rattle.path_rows.specs.Forms.{form_at, no_form, value}
 use Rattle.path_rows.specs.Basis.{AreEntries, IsTable, entry, low_member, member_form}
 use Rattle.path_rows.specs.Steps.{IsStep, IsTooWide, row_product, row_sum, start_of_sum, terms}
 use Rattle.fraction_table.specs.RowLines.{IsRowLine, IsRowStep, sum_at_place}
@@ -20,7 +21,7 @@ use Rattle.fraction_rows.specs.Sums.{IsSumStep, product, sum, sum_from}
 use Rattle.fraction_table.specs.Tableaus.{FitsBox, wide_at}
 use Rattle.fraction_table.specs.Wholes.{IsWhole, Stand, from_lows, number_of, numbers_of}
 use Rattle.fraction_table.proofs.Bases.{low_line_stands, lows_counted, table_long, whole_table}
-use Rattle.fraction_table.proofs.MoreRows.{forms_kept, last_form, member_kept, whole_more}
+use Rattle.fraction_table.proofs.MoreRows.{forms_kept, member_kept, whole_more}
 use Rattle.fraction_rows.proofs.ZeroFractions.{times_lowest}
 use Rattle.fraction_table.proofs.theory.TurnedNumbers.{numbers_at, numbers_long}
 use Rattle.fraction_table.proofs.theory.Zips.{zip_from}
@@ -146,7 +147,7 @@ step_of_sum : (costs : CostBox) (rows : List Form) (f : Form) (basis : List Memb
 step_of_sum costs rows f basis table place wide count counted place_in step =
     let n = length costs.low in
     let more = rows ++ f ∷ [] in
-    let last = last_form rows f in
+    let last = get_or-append_seam rows f [] no_form in
     let row_in : length rows < length more = omega (arith, length-append rows (f ∷ [])) in
     let place_within : place ≤ length basis = omega (arith, count, place_in) in
     elim step [

@@ -6,6 +6,7 @@ use Rattle.std.proofs.lemmas.Int.{fits_signed_from_abs, to_z-of_z}
 use Rattle.std.proofs.lemmas.List.{length-map, set-get_or}
 use Rattle.std.proofs.lemmas.Option.{slice_get-get_or}
 use Rattle.cost_base.specs.declared.StepName.{StepName}
+use Rattle.cost_base.proofs.ListLemmas.{length_zip}
 use Rattle.whole_numbers.specs.Fractions.{Fraction, whole}
 use Rattle.wide_fraction.specs.declared.steps.Wide.{Wide}
 use Rattle.path_rows.specs.declared.form.Form.{Form}
@@ -13,7 +14,6 @@ use Rattle.path_rows.specs.declared.form.CostBox.{CostBox}
 use Rattle.path_rows.specs.declared.tree.Member.{Member}
 use Rattle.path_rows.specs.declared.tree.Member.TheVariants.{Low, High, Row}
 use Rattle.path_rows.specs.Boxes.{with_high, with_low}
-use Rattle.path_rows.specs.Forms.{no_form}
 use Rattle.path_rows.specs.Basis.{HasEntries, IsFormOf, forms_of, member_form}
 use Rattle.fraction_table.specs.declared.table.Table.{Table}
 use Rattle.fraction_table.specs.Pivots.{KeepsForms}
@@ -21,25 +21,25 @@ use Rattle.fraction_table.specs.Tableaus.{IsShiftStep, moved, moved_member}
 use Rattle.fraction_table.specs.Tableaus.IsShiftStep.{constant, product, sum}
 use Rattle.fraction_rows.specs.Turns.{AreRows}
 use Rattle.fraction_table.specs.Wholes.{HasRoom, IsLine, IsUnboxed, IsUnboxedTable, low_forms, members_of, numbers_of}
-use Rattle.fraction_table.specs.Moves.{HasShape, IsColumnOf, IsRaiseStep, IsShifted, IsShiftedWide, IsWideShift, ShiftsWide, high_shift_of, low_shift_of, shifted_lines}
+use Rattle.fraction_table.specs.Moves.{HasShape, IsColumnOf, IsRaiseStep, IsShifted, IsShiftedWide, IsWideShift, KeepsRows, ShiftsWide, high_shift_of, low_shift_of, shifted_lines}
 use Rattle.fraction_table.specs.Moves.IsRaiseStep.{product as raise_product, sum as raise_sum}
 use Rattle.fraction_table.proofs.Bases.{low_forms_long, members_begin}
-use Rattle.fraction_rows.proofs.FilledRows.{length-mapped}
 use Rattle.fraction_table.proofs.theory.MovedNumbers.{IsNumbered, lowered_rows}
 use Rattle.fraction_table.proofs.MovedTables.{high_fall, high_moved, low_fall, low_moved, map_none, raised_rows}
 use Rattle.fraction_table.proofs.MovedWholes.{IsMoveOf, column_inside, moved_put, unboxed_moved}
+use Rattle.fraction_table.proofs.WholeTurns.{form_long}
 use Rattle.fraction_table.proofs.Pivots.{high_place, members_long}
 use Rattle.fraction_table.proofs.theory.Resolved.{are_entries, stand_length}
 use Rattle.fraction_table.proofs.StartingTables.{members_are}
 use Rattle.fraction_table.proofs.theory.TurnedNumbers.{numbers_long}
-use Rattle.fraction_table.proofs.theory.Zips.{zip_at, zip_long}
+use Rattle.fraction_table.proofs.theory.Zips.{zip_at}
 
 -- what is kept of the numbers of a table
 pub numbered : (t : Table) (u : IsUnboxedTable t) → IsNumbered u.common (length t.costs.low) t.costs.low (forms_of t.costs t.rows.items t.basis.items) u.lows
 numbered t u = record { long = u.long; mixtures = u.mixtures; lead = u.lead }
 
 pub lows_many : (t : Table) (u : IsUnboxedTable t) → length u.lows ≡ length t.costs.low
-lows_many t u = sym (sym (low_forms_long (length t.costs.low) 0 t.costs.low) ∙ zip_long _ (low_forms (length t.costs.low) 0 t.costs.low) u.lows u.mixtures)
+lows_many t u = sym (sym (low_forms_long (length t.costs.low) 0 t.costs.low) ∙ length_zip _ (low_forms (length t.costs.low) 0 t.costs.low) u.lows u.mixtures)
 
 pub length-raised : (column : Option ℕ) (fall : ℤ) (lows : List (List ℤ)) → length (raised_rows column fall lows) ≡ length lows
 length-raised None fall lows = refl
@@ -136,13 +136,6 @@ moved_same costs rows basis are =
     same (High v bound) is = ap (High v) (sym is.1)
     same (Row row) is = refl
 
-counted : (costs : CostBox) (rows : List Form) (member : Member) →
-    All (λ f. length f.coefficients ≡ length costs.low) rows → IsFormOf costs rows member →
-    length (member_form (length costs.low) rows member).coefficients ≡ length costs.low
-counted costs rows (Low v bound) counts is = length-mapped _ 0 (length costs.low)
-counted costs rows (High v bound) counts is = length-mapped _ 0 (length costs.low)
-counted costs rows (Row row) counts is = counts row no_form is
-
 -- the entries of the form of a line
 entries_there : (t : Table) (u : IsUnboxedTable t) (line : ℕ) → line < length t.lines.items →
     HasEntries t.costs t.rows.items (moved t.costs t.basis.items)
@@ -152,14 +145,14 @@ entries_there t u line line_in =
     let rows = t.rows.items in
     let ms = members_of t.costs (length rows) in
     let member = slice_index_or ms line (Low 0 0) in
-    let member_in : line < length ms = omega (arith, zip_long (IsLine t.top u.common t.costs rows u.lows) ms t.lines.items u.lines, line_in) in
+    let member_in : line < length ms = omega (arith, length_zip (IsLine t.top u.common t.costs rows u.lows) ms t.lines.items u.lines, line_in) in
     let l = zip_at (IsLine t.top u.common t.costs rows u.lows) ms t.lines.items line (Low 0 0) [] u.lines member_in in
     subst (λ (basis : List Member). HasEntries t.costs rows basis member (slice_index_or t.lines.items line []))
     (sym (moved_same t.costs rows t.basis.items u.members))
     (are_entries t.top u.common t.costs.low u.lows (forms_of t.costs rows t.basis.items) (member_form n rows member)
     (slice_index_or t.lines.items line []) u.positive
     (length-map t.basis.items (member_form n rows) ∙ u.count)
-    (counted t.costs rows member u.counts (members_are t.costs rows line (Low 0 0) member_in)) u.long u.mixtures
+    (form_long t.costs rows member u.counts (members_are t.costs rows line (Low 0 0) member_in)) u.long u.mixtures
     l.numbers l.stand)
 
 raise_is_step : (t : Table) (u : IsUnboxedTable t) (before : Member) (fall : ℤ) (j line : ℕ) →
@@ -171,7 +164,7 @@ raise_is_step t u before fall j line j_in here line_in =
     let rows = t.rows.items in
     let ms = members_of t.costs (length rows) in
     let member = slice_index_or ms line (Low 0 0) in
-    let member_in : line < length ms = omega (arith, zip_long (IsLine t.top u.common t.costs rows u.lows) ms t.lines.items u.lines, line_in) in
+    let member_in : line < length ms = omega (arith, length_zip (IsLine t.top u.common t.costs rows u.lows) ms t.lines.items u.lines, line_in) in
     let there : slice_get (moved t.costs t.basis.items) j ≡ Some before =
     ap (λ (basis : List Member). slice_get basis j) (moved_same t.costs rows t.basis.items u.members)
     ∙ slice_get-get_or t.basis.items j (Low 0 0) j_in ∙ ap Some here in
@@ -215,7 +208,7 @@ unboxed_shape t u room =
       high = u.high_count;
       basis = u.count;
       lines = fit (members_of t.costs (length t.rows.items)) t.lines.items u.lines;
-      many = sym (zip_long (IsLine t.top u.common t.costs t.rows.items u.lows) (members_of t.costs (length t.rows.items)) t.lines.items u.lines);
+      many = sym (length_zip (IsLine t.top u.common t.costs t.rows.items u.lows) (members_of t.costs (length t.rows.items)) t.lines.items u.lines);
       room = room;
     }
   where
@@ -236,12 +229,16 @@ unboxed_shape t u room =
 -- how many lines a table has
 pub lines_many : (t : Table) → IsUnboxedTable t → length t.lines.items ≡ length t.costs.low + length t.costs.low + length t.rows.items
 lines_many t u =
-    sym (zip_long (IsLine t.top u.common t.costs t.rows.items u.lows) (members_of t.costs (length t.rows.items))
+    sym (length_zip (IsLine t.top u.common t.costs t.rows.items u.lows) (members_of t.costs (length t.rows.items))
     t.lines.items u.lines) ∙ members_long t.costs (length t.rows.items)
 
 -- a small number, as 64 bits hold it
 pub kept_number : (z : ℤ) → nat_abs z < 2 ^ 27 → to_z w64 (of_z w64 z) ≡ z
 kept_number z small = to_z-of_z w64 z (fits_signed_from_abs w64 z (omega (arith, small)))
+
+-- a table that keeps its forms keeps its rows
+pub rows_kept : (t s : Table) → KeepsForms t s → KeepsRows t s
+rows_kept t s k = record { top = k.top; rows = k.rows; width = ap (λ costs. length costs.low) k.costs }
 
 -- what a table is whose bounds were set to the next ones, after its lines moved
 pub record IsMovedTo (t s : Table) (costs next : CostBox) : Type 0 where

@@ -2,9 +2,12 @@
 -- where a form is stuck.
 use Rattle.std.proofs.Common.{◌≡◌, ℕ, zero, suc, ◌+◌, ◌*◌, ◌<◌, ◌≤◌, refl, sym, ◌∙◌, ap, subst, List, [], ◌∷◌, map, length, arith}
 use Rattle.std.specs.Prelude.{ℤ, pos, negsuc, ◌+ℤ◌, ◌-ℤ◌, ◌*ℤ◌, neg_ℤ, nat_abs, ◌<ℤ◌, ◌≤ℤ◌, Result, Ok, Err, IfOk, OnOk, slice_index, slice_index_or, All}
+use Rattle.std.specs.Int.Signed.{clash_ℤ}
 use Rattle.std.proofs.lemmas.Int.{ints}
+use Rattle.std.proofs.lemmas.List.Elements.{All-map}
 use Rattle.std.proofs.lemmas.List.{get_or_default}
 use Rattle.cost_base.specs.Lists.{numbers_from}
+use Rattle.cost_base.proofs.ListLemmas.{length_zip}
 use Rattle.whole_numbers.specs.Fractions.{Fraction}
 use Rattle.whole_numbers.proofs.Ring.{var, num, ◌⊕◌, ◌⊖◌, ◌⊗◌, neg, ring}
 use Rattle.wide_fraction.specs.declared.steps.Wide.{Wide}
@@ -26,7 +29,7 @@ use Rattle.fraction_rows.specs.TableRows.{AreNumbers}
 use Rattle.fraction_table.specs.Tableaus.{IsAmongForms, IsSolved}
 use Rattle.fraction_table.specs.Wholes.{IsLine, IsShown, IsWholeTable, Stand, high_member, low_forms, members_of, number_of}
 use Rattle.fraction_table.specs.Pivots.{AreHigh, KeepsForms, line_at, line_numbers, member_at}
-use Rattle.fraction_table.proofs.theory.Corner.{MetAt, NotAbove, stuck_negative}
+use Rattle.fraction_table.proofs.theory.Corner.{NotAbove, stuck_negative}
 use Rattle.fraction_table.proofs.theory.Tables.{IsCorner, corner_value}
 use Rattle.fraction_table.proofs.theory.Blends.{form_mixture}
 use Rattle.fraction_table.proofs.theory.Resolved.{resolved}
@@ -36,7 +39,6 @@ use Rattle.fraction_table.proofs.theory.Units.{unit_dot}
 use Rattle.fraction_table.proofs.WholeTurns.{coefficients_long, stand_at}
 use Rattle.fraction_table.proofs.Bases.{low_line_stands, lows_counted, members_begin}
 use Rattle.fraction_table.proofs.Pivots.{high_place, line_long, lines_long, member_is, members_long, row_place, whole_line}
-use Rattle.fraction_table.proofs.theory.Zips.{zip_long}
 
 -- a number that a fraction stands for has its sign
 pub negative_number : (z m : ℤ) (d D : ℕ) → 0 < d → 0 < D → (z *ℤ pos D) ≡ (m *ℤ pos d) → z <ℤ pos 0 → m <ℤ pos 0
@@ -102,12 +104,10 @@ member_met costs rows p (High v bound) point meets is =
 member_met costs rows p (Row row) point meets is = meets row no_form is
 
 pub basis_met : (costs : CostBox) (rows : List Form) (p : Point) (basis : List Member) → IsPointOf costs p →
-    AreMet rows p → All (IsFormOf costs rows) basis → MetAt (forms_of costs rows basis) p
-basis_met costs rows p [] point meets are = tt
-basis_met costs rows p (member ∷ members) point meets are = (
-  member_met costs rows p member point meets (are 0 member (omega arith)),
-  basis_met costs rows p members point meets (λ k d k_in. are (suc k) d (omega arith)),
-)
+    AreMet rows p → All (IsFormOf costs rows) basis → AreMet (forms_of costs rows basis) p
+basis_met costs rows p basis point meets are =
+    All-map (λ f. pos 0 ≤ℤ value_at f p) (member_form (length costs.low) rows) basis
+    (λ k d k_in. member_met costs rows p (slice_index_or basis k d) point meets (are k d k_in))
 
 not_above : (top D : ℕ) (qs : List Fraction) (ms : List ℤ) → 0 < D → AreNumbers top qs → Stand D qs ms →
     ((k : ℕ) → k < length qs → (entry qs k).numerator ≤ℤ pos 0) → NotAbove ms
@@ -154,10 +154,7 @@ stuck_refutes t w line line_in stuck p point meets =
     (stuck_rest t.top D n es m ms w.unboxed.positive l.numbers l.stand (line_long t w line line_in)
     (λ k k_from k_in. stuck.none_above k k_from (omega (arith, w.unboxed.count, k_in))))
     (basis_met t.costs t.rows.items p t.basis.items point meets w.unboxed.members) point.scale in
-    both (value_at f p) met below
-  where
-    both : (z : ℤ) → pos 0 ≤ℤ z → z <ℤ pos 0 → ⊥
-    both z high low = omega (arith, ints)
+    clash_ℤ below met
 
 -- the corner of a table: its values over the common denominator
 abbrev pub corner_of : ℕ → List ℕ → List (List ℤ) → List ℕ
@@ -199,7 +196,7 @@ first_high t w high v v_in =
     (high v [] (omega (
       arith,
       members_long t.costs (length t.rows.items),
-      zip_long (IsLine t.top w.unboxed.common t.costs t.rows.items w.unboxed.lows)
+      length_zip (IsLine t.top w.unboxed.common t.costs t.rows.items w.unboxed.lows)
           (members_of t.costs (length t.rows.items)) t.lines.items w.unboxed.lines,
       v_in,
     )))
@@ -233,7 +230,7 @@ member_high t w high line member line_in is =
     subst (λ (m : Member). pos 0 ≤ℤ value_at (member_form (length t.costs.low) t.rows.items m) (corner_point t w)) is
     (corner_high t w high line (omega (
       arith,
-      zip_long (IsLine t.top w.unboxed.common t.costs t.rows.items w.unboxed.lows)
+      length_zip (IsLine t.top w.unboxed.common t.costs t.rows.items w.unboxed.lows)
           (members_of t.costs (length t.rows.items)) t.lines.items w.unboxed.lines,
       line_in,
     )))

@@ -1,12 +1,12 @@
 -- Rows of fractions stand for numbers over one denominator, and a pivot on the fractions is a pivot on the numbers.
-use Rattle.std.proofs.Common.{◌≡◌, ◌≢◌, ℕ, zero, suc, ◌+◌, ◌*◌, ◌<◌, cond, Bool, false, refl, sym, ◌∙◌, ap, subst, List, [], ◌∷◌, length, arith}
+use Rattle.std.proofs.Common.{◌≡◌, ◌≢◌, ℕ, zero, suc, ◌+◌, ◌*◌, ◌<◌, cond, Bool, refl, sym, ◌∙◌, ap, subst, List, [], ◌∷◌, length, arith}
 use Rattle.std.specs.Prelude.{ℤ, pos, ◌-ℤ◌, ◌*ℤ◌, ◌==◌, slice_set, slice_index_or}
-use Rattle.std.proofs.lemmas.Bool.Decides.{nat_tests}
 use Rattle.whole_numbers.specs.Fractions.{Fraction, StandsFor, whole, minus, times, divided}
-use Rattle.whole_numbers.proofs.Ring.{var, num, ◌⊖◌, ◌⊗◌, ring, ring_by, nothing, using}
-use Rattle.whole_numbers.proofs.FractionLaws.{times_stands, divided_stands, pivot_entry_stands}
+use Rattle.whole_numbers.proofs.Ring.{var, num, ◌⊖◌, ◌⊗◌, ring}
+use Rattle.whole_numbers.proofs.FractionLaws.{times_stands, divided_stands, pivot_entry_stands, stands_more}
 use Rattle.path_rows.specs.Basis.{entry}
 use Rattle.fraction_rows.specs.TableRows.{AreNumbers, IsNumber, crossed_by, divided_without, nothing as none}
+use Rattle.fraction_rows.proofs.Columns.{other_test}
 use Rattle.fraction_table.specs.Wholes.{Stand}
 use Rattle.fraction_rows.proofs.ZeroFractions.{divided_lowest}
 use Rattle.fraction_table.proofs.theory.Pivot.{crossed, turned}
@@ -21,15 +21,12 @@ pub record IsTurn (e q : Fraction) (n : ℤ) (a D : ℕ) : Type 0 where
   pub own : StandsFor e n D
   pub pivot : StandsFor q (pos a) D
 
-other_place : (place j : ℕ) → place ≢ j → (place == j) ≡ false
-other_place place j other = grind (arith, nat_tests)
-
 -- a place that isn't the pivot's
 other_stands : (top place j D a : ℕ) (e q f r : Fraction) (n m k : ℤ) → place ≢ j → IsTurn e q n a D → IsNumber top f →
     IsNumber top r → StandsFor f m D → StandsFor r k D →
     StandsFor (minus f (times e (cond (place == j) none (divided r q)))) ((m *ℤ pos a) -ℤ (n *ℤ k)) (D * a)
 other_stands top place j D a e q f r n m k other turn f_is r_is f_stands r_stands =
-    subst (λ (b : Bool). StandsFor (minus f (times e (cond b none (divided r q)))) ((m *ℤ pos a) -ℤ (n *ℤ k)) (D * a)) (sym (other_place place j other))
+    subst (λ (b : Bool). StandsFor (minus f (times e (cond b none (divided r q)))) ((m *ℤ pos a) -ℤ (n *ℤ k)) (D * a)) (sym (other_test place j other))
     (pivot_entry_stands f e r q m n k a D f_is.lowest.positive turn.own_positive
     (divided_lowest r q r_is.lowest.positive).positive r_is.lowest.positive turn.pivot_positive
     turn.number_positive turn.common_positive f_stands turn.own r_stands turn.pivot)
@@ -93,13 +90,6 @@ turned_stands top j D a n fs rs ms ks own_is pivot_is turn fs_are rs_are same fs
     (subst (λ (z : ℤ). Stand (D * a) (turned_row fs rs j) (slice_set (crossed (pos a) z ms ks) j (z *ℤ pos D))) (sym own_is)
     (places_stand top 0 j j D a (entry fs j) (entry rs j) n fs rs ms ks (omega arith) turn fs_are rs_are same fs_stand rs_stand))
 
--- a fraction keeps its value over another denominator
-pub over_more : (q : Fraction) (m : ℤ) (D a : ℕ) → StandsFor q m D → StandsFor q (m *ℤ pos a) (D * a)
-over_more q m D a is =
-    ring_by (q.numerator ∷ pos q.denominator ∷ m ∷ pos D ∷ pos a ∷ [])
-    (var 0 ⊗ (var 3 ⊗ var 4)) ((var 2 ⊗ var 4) ⊗ var 1)
-    (using (var 4) (var 0 ⊗ var 3) (var 2 ⊗ var 1) is nothing) refl
-
 less_nothing : (m a k : ℤ) → (m *ℤ a) ≡ ((m *ℤ a) -ℤ (pos 0 *ℤ k))
 less_nothing m a k = ring (m ∷ a ∷ k ∷ []) (var 0 ⊗ var 1) ((var 0 ⊗ var 1) ⊖ (num (pos 0) ⊗ var 2)) refl
 
@@ -113,7 +103,7 @@ kept_places i D a (f ∷ fs) [] ks same none_is stand = absurd stand
 kept_places i D a (f ∷ fs) (m ∷ ms) [] same none_is stand = absurd (omega arith)
 kept_places zero D a (f ∷ fs) (m ∷ ms) (k ∷ ks) same none_is stand = (
   subst (λ (z : ℤ). StandsFor f z (D * a)) (ap (λ (z : ℤ). z *ℤ pos a) none_is
-      ∙ ring (pos a ∷ pos D ∷ []) (num (pos 0) ⊗ var 0) (num (pos 0) ⊗ var 1) refl) (over_more f m D a stand.0),
+      ∙ ring (pos a ∷ pos D ∷ []) (num (pos 0) ⊗ var 0) (num (pos 0) ⊗ var 1) refl) (stands_more f m D a stand.0),
   kept_rest fs ms ks (omega arith) stand.1,
 )
   where
@@ -123,11 +113,11 @@ kept_places zero D a (f ∷ fs) (m ∷ ms) (k ∷ ks) same none_is stand = (
     kept_rest (g ∷ gs) [] ls even standing = absurd standing
     kept_rest (g ∷ gs) (m' ∷ ns) [] even standing = absurd (omega arith)
     kept_rest (g ∷ gs) (m' ∷ ns) (l ∷ ls) even standing = (
-      subst (λ (z : ℤ). StandsFor g z (D * a)) (less_nothing m' (pos a) l) (over_more g m' D a standing.0),
+      subst (λ (z : ℤ). StandsFor g z (D * a)) (less_nothing m' (pos a) l) (stands_more g m' D a standing.0),
       kept_rest gs ns ls (omega arith) standing.1,
     )
 kept_places (suc i) D a (f ∷ fs) (m ∷ ms) (k ∷ ks) same none_is stand = (
-  subst (λ (z : ℤ). StandsFor f z (D * a)) (less_nothing m (pos a) k) (over_more f m D a stand.0),
+  subst (λ (z : ℤ). StandsFor f z (D * a)) (less_nothing m (pos a) k) (stands_more f m D a stand.0),
   kept_places i D a fs ms ks (omega arith) none_is stand.1,
 )
 

@@ -1,9 +1,10 @@
 -- The lines of the starting basis, as they are made.
-use Rattle.std.proofs.Common.{◌≡◌, ℕ, zero, suc, ◌+◌, ◌-◌, ◌^◌, ◌<◌, cond, Bool, true, false, refl, sym, ◌∙◌, ap, subst, List, [], ◌∷◌, ◌++◌, map, length, arith, append-nil, zero-add}
-use Rattle.std.specs.Prelude.{ℤ, pos, negsuc, ◌-ℤ◌, ◌==◌, nat_abs, slice_index, slice_index_or, slice_set}
+use Rattle.std.proofs.Common.{◌≡◌, ℕ, suc, ◌+◌, ◌-◌, ◌^◌, ◌<◌, cond, Bool, true, false, sym, ◌∙◌, ap, subst, List, [], ◌∷◌, ◌++◌, map, length, arith, append-nil, zero-add}
+use Rattle.std.specs.Prelude.{ℤ, pos, negsuc, ◌-ℤ◌, ◌==◌, nat_abs, slice_index, slice_set}
 use Rattle.std.proofs.lemmas.List.{length-map, map-append}
 use Rattle.std.proofs.lemmas.Simd.{map-map}
 use Rattle.cost_base.specs.Lists.{numbers_from}
+use Rattle.cost_base.proofs.ListLemmas.{length-map-numbers_from, map-numbers_from-agree}
 use Rattle.whole_numbers.specs.Fractions.{Fraction, whole}
 use Rattle.wide_fraction.specs.Widths.{IsTop}
 use Rattle.path_rows.specs.declared.form.CostBox.{CostBox}
@@ -12,7 +13,7 @@ use Rattle.fraction_rows.specs.TableRows.{AreNumbers, nothing}
 use Rattle.fraction_rows.specs.Turns.{AreRows}
 use Rattle.fraction_table.specs.Wholes.{high_member, members_of, starting_line}
 use Rattle.fraction_rows.proofs.Columns.{same_test, other_test}
-use Rattle.fraction_rows.proofs.FilledRows.{length-mapped, mapped_same, mapped_written}
+use Rattle.fraction_rows.proofs.FilledRows.{mapped_written}
 use Rattle.fraction_rows.proofs.SmallNumbers.{whole_number}
 use Rattle.fraction_table.proofs.theory.Units.{high_value, low_value}
 
@@ -24,25 +25,6 @@ rows_more top count olds news line news_are olds_fit counted numbers =
     put : (lines : List (List Fraction)) → AreRows top count lines → AreRows top count (lines ++ line ∷ [])
     put [] fit = (counted, numbers, tt)
     put (first ∷ lines) fit = (fit.0, fit.1, put lines fit.2)
-
-pub blank_at : (a n k : ℕ) → slice_index_or (map (λ column. nothing) (numbers_from a n)) k nothing ≡ nothing
-blank_at a zero k = refl
-blank_at a (suc n) zero = refl
-blank_at a (suc n) (suc k) = blank_at (a + 1) n k
-
--- a row of zeros with another constant
-pub constant_set : (row now : List Fraction) (width : ℕ) (value : Fraction) →
-    row ≡ nothing ∷ map (λ column. nothing) (numbers_from 0 width) → now ≡ slice_set row 0 value →
-    now ≡ value ∷ map (λ column. nothing) (numbers_from 0 width)
-constant_set row now width value row_is now_is = now_is ∙ ap (λ qs. slice_set qs 0 value) row_is
-
--- a line of zeros, as long as the old one
-pub cleared_is : (old cleared : List Fraction) (width : ℕ) → length old ≡ suc width →
-    cleared ≡ nothing ∷ map (λ column. nothing) (numbers_from 0 (length old - 1)) →
-    cleared ≡ nothing ∷ map (λ column. nothing) (numbers_from 0 width)
-cleared_is old cleared width long is =
-    let same : length old - 1 ≡ width = omega (arith, long) in
-    is ∙ ap (λ (n : ℕ). nothing ∷ map (λ column. nothing) (numbers_from 0 n)) same
 
 unit_set : (width v : ℕ) (c : ℤ) → v < width → slice_set (map (λ column. nothing) (numbers_from 0 width)) v (whole c) ≡ map whole (unit width v c)
 unit_set width v c v_in =
@@ -64,7 +46,7 @@ entry_set row now width v constant coefficient value v_in row_is value_is now_is
 pub unit_line_long : (line : List Fraction) (width v : ℕ) (constant coefficient : ℤ) →
     line ≡ whole constant ∷ map whole (unit width v coefficient) → length line ≡ suc width
 unit_line_long line width v constant coefficient line_is =
-    ap length line_is ∙ ap suc (length-map (unit width v coefficient) whole ∙ length-mapped (λ k. cond (k == v) coefficient (pos 0)) 0 width)
+    ap length line_is ∙ ap suc (length-map (unit width v coefficient) whole ∙ length-map-numbers_from (λ k. cond (k == v) coefficient (pos 0)) 0 width)
 
 wholes_numbers : (top : ℕ) (f : ℕ → ℤ) (ks : List ℕ) → IsTop top → ((k : ℕ) → nat_abs (f k) < 2 ^ 27) → AreNumbers top (map whole (map f ks))
 wholes_numbers top f [] is_top small = tt
@@ -100,11 +82,11 @@ starting_lines costs =
     ap (map line) (append-nil (lows ++ highs))
     ∙ map-append line lows highs
     ∙ ap (λ ls. ls ++ map line highs) (map-map line (low_member costs) (numbers_from 0 n)
-    ∙ mapped_same (λ v. line (low_member costs v)) (λ v. whole (pos 0) ∷ map whole (unit n v (pos 1))) 0 n
+    ∙ map-numbers_from-agree (λ v. line (low_member costs v)) (λ v. whole (pos 0) ∷ map whole (unit n v (pos 1))) 0 n
     (λ v from v_in. ap (λ z. whole z ∷ map whole (unit n v (pos 1)))
     (low_value costs.low [] v (omega (arith, v_in)))))
     ∙ ap (λ ls. low_lines n ++ ls) (map-map line (high_member costs) (numbers_from 0 n)
-    ∙ mapped_same (λ v. line (high_member costs v))
+    ∙ map-numbers_from-agree (λ v. line (high_member costs v))
     (λ v. whole (pos (slice_index costs.high v) -ℤ pos (slice_index costs.low v))
     ∷ map whole (unit n v (negsuc 0))) 0 n
     (λ v from v_in. ap (λ z. whole z ∷ map whole (unit n v (negsuc 0)))

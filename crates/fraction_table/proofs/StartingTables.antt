@@ -5,6 +5,7 @@ use Rattle.std.specs.List.{AllZip}
 use Rattle.std.proofs.lemmas.List.{get_or-map, length-map}
 use Rattle.std.proofs.lemmas.List.Elements.{All-append}
 use Rattle.cost_base.specs.Lists.{numbers_from}
+use Rattle.cost_base.proofs.ListLemmas.{length-map-numbers_from, get_or-map-numbers_from, map-numbers_from-agree}
 use Rattle.whole_numbers.specs.Fractions.{whole}
 use Rattle.whole_numbers.proofs.Ring.{var, num, ◌⊕◌, ◌⊗◌, ring}
 use Rattle.whole_numbers.specs.Lists.{number_at}
@@ -18,7 +19,6 @@ use Rattle.path_rows.specs.Basis.{IsFormOf, LeadsPositive, coordinate, forms_of,
 use Rattle.fraction_table.specs.Tableaus.{FitsBox, starting}
 use Rattle.fraction_rows.specs.Turns.{AreRows}
 use Rattle.fraction_table.specs.Wholes.{AllLong, AreMixtures, IsLine, IsWhole, Stand, from_lows, high_member, low_forms, members_of, number_of, numbers_of, starting_line}
-use Rattle.fraction_rows.proofs.FilledRows.{length-mapped, mapped_at, mapped_same}
 use Rattle.fraction_table.proofs.theory.Blends.{listed_at}
 use Rattle.fraction_table.proofs.theory.Lex.{zero_leads}
 use Rattle.fraction_table.proofs.theory.Resolved.{unit_other, unit_same}
@@ -49,6 +49,9 @@ starts_before n a (suc m) k (c ∷ cs) before =
     apart : k < a → k ≢ a
     apart h = omega arith
 
+behind : (a i k : ℕ) → k ≡ a + suc i → k ≢ a
+behind a i k there = omega arith
+
 starts_there : (n a m i k : ℕ) (cs : List ℤ) → k ≡ a + i → i < length cs → length cs ≡ m → k < n → from_lows cs (start_rows n a m) (suc k) ≡ number_at cs i
 starts_there n a m i k [] there i_in counted k_in = absurd (omega arith)
 starts_there n a zero i k (c ∷ cs) there i_in counted k_in = absurd (omega arith)
@@ -59,11 +62,8 @@ starts_there n a (suc m) zero k (c ∷ cs) there i_in counted k_in =
     ∙ ap (λ z. (c *ℤ pos 1) +ℤ z) (starts_before n (a + 1) m k cs (omega arith))
     ∙ ring (c ∷ []) (var 0 ⊗ num (pos 1) ⊕ num (pos 0)) (var 0) refl
 starts_there n a (suc m) (suc i) k (c ∷ cs) there i_in counted k_in =
-    no_term c (slice_index_or (unit n a (pos 1)) k (pos 0)) (from_lows cs (start_rows n (a + 1) m) (suc k)) (unit_other n a k (apart there))
+    no_term c (slice_index_or (unit n a (pos 1)) k (pos 0)) (from_lows cs (start_rows n (a + 1) m) (suc k)) (unit_other n a k (behind a i k there))
     ∙ starts_there n (a + 1) m i k cs (omega arith) (omega arith) (omega arith) k_in
-  where
-    apart : k ≡ a + suc i → k ≢ a
-    apart h = omega arith
 
 pub number_start : (n : ℕ) (low : List ℕ) (f : Form) (place : ℕ) → length f.coefficients ≡ n → place < suc n →
     number_of 1 low (start_rows n 0 n) f place ≡ number_at (value f low ∷ f.coefficients) place
@@ -76,13 +76,14 @@ number_start n low f (suc k) counted place_in =
 numbers_start : (n : ℕ) (low : List ℕ) (f : Form) → length f.coefficients ≡ n → numbers_of n 1 low (start_rows n 0 n) f ≡ value f low ∷ f.coefficients
 numbers_start n low f counted =
     let ts = value f low ∷ f.coefficients in
-    mapped_same (number_of 1 low (start_rows n 0 n) f) (number_at ts) 0 (suc n) (λ place from place_in. number_start n low f place counted (omega arith))
+    map-numbers_from-agree (number_of 1 low (start_rows n 0 n) f) (number_at ts) 0 (suc n)
+    (λ place from place_in. number_start n low f place counted (omega arith))
     ∙ ap (λ m. map (number_at ts) (numbers_from 0 (suc m))) (sym counted)
     ∙ listed_at ts
 
 pub starts_long : (n a m : ℕ) → AllLong (suc n) (start_rows n a m)
 starts_long n a zero = tt
-starts_long n a (suc m) = (ap suc (length-mapped _ 0 n), starts_long n (a + 1) m)
+starts_long n a (suc m) = (ap suc (length-map-numbers_from _ 0 n), starts_long n (a + 1) m)
 
 -- a mixture is a sum over rows of one number each
 mixture_rows : (ms : List ℤ) (fs : List Form) (i : ℕ) → mixture ms fs i ≡ from_lows ms (map (λ f. coordinate f i ∷ []) fs) 0
@@ -110,12 +111,12 @@ starting_at : (costs : CostBox) (rows : List Form) (v : ℕ) → v < length cost
     (low_member costs v)
 starting_at costs rows v v_in =
     let n = length costs.low in
-    get_or-map (member_form n rows) (starting costs) v (Low 0 0) no_form (omega (arith, length-mapped (low_member costs) 0 n, v_in))
-    ∙ ap (member_form n rows) (mapped_at (low_member costs) 0 n v (Low 0 0) v_in ∙ ap (low_member costs) (zero-add v))
+    get_or-map (member_form n rows) (starting costs) v (Low 0 0) no_form (omega (arith, length-map-numbers_from (low_member costs) 0 n, v_in))
+    ∙ ap (member_form n rows) (get_or-map-numbers_from (low_member costs) 0 n v (Low 0 0) v_in ∙ ap (low_member costs) (zero-add v))
 
 starting_long : (costs : CostBox) (rows : List Form) → length (forms_of costs rows (starting costs)) ≡ length costs.low
 starting_long costs rows =
-    length-map (starting costs) (member_form (length costs.low) rows) ∙ length-mapped (low_member costs) 0 (length costs.low)
+    length-map (starting costs) (member_form (length costs.low) rows) ∙ length-map-numbers_from (low_member costs) 0 (length costs.low)
 
 pub starting_mixtures : (costs : CostBox) (rows : List Form) →
     AreMixtures 1 (forms_of costs rows (starting costs)) (low_forms (length costs.low) 0 costs.low)
@@ -124,7 +125,7 @@ starting_mixtures costs rows =
     let n = length costs.low in
     let bs = forms_of costs rows (starting costs) in
     let starts = start_rows n 0 n in
-    zip_from _ (low_forms n 0 costs.low) starts no_form [] (low_forms_long n 0 costs.low ∙ sym (length-mapped (λ v. pos 0 ∷ unit n v (pos 1)) 0 n))
+    zip_from _ (low_forms n 0 costs.low) starts no_form [] (low_forms_long n 0 costs.low ∙ sym (length-map-numbers_from (λ v. pos 0 ∷ unit n v (pos 1)) 0 n))
     (λ v v_in. here v (omega (arith, low_forms_long n 0 costs.low, v_in)))
   where
     here : (v : ℕ) → v < length costs.low → (i : ℕ) →
@@ -142,7 +143,7 @@ starting_mixtures costs rows =
         ∙ ap (λ z. (pos 0 *ℤ coordinate one_form i) +ℤ z) (sym (unit_mixture bs v i (omega (arith, long, v_in))))
         ∙ ap (λ (m : ℕ). (pos 0 *ℤ coordinate one_form i) +ℤ mixture (unit m v (pos 1)) bs i) long
         ∙ ap (λ (ts : List ℤ). mixture ts (one_form ∷ bs) i)
-        (sym (mapped_at (λ u. pos 0 ∷ unit n u (pos 1)) 0 n v [] v_in
+        (sym (get_or-map-numbers_from (λ u. pos 0 ∷ unit n u (pos 1)) 0 n v [] v_in
         ∙ ap (λ (u : ℕ). pos 0 ∷ unit n u (pos 1)) (zero-add v)))
 
 pub starting_leads : (n a m i k : ℕ) → k ≡ a + i → i < m → k < n → LeadsPositive (map (λ ts. number_at ts (suc k)) (start_rows n a m))
@@ -152,11 +153,8 @@ starting_leads n a (suc m) zero k there i_in k_in =
     subst (λ z. LeadsPositive (z ∷ map (λ ts. number_at ts (suc k)) (start_rows n (a + 1) m)))
     (sym (subst (λ (u : ℕ). slice_index_or (unit n a (pos 1)) u (pos 0) ≡ pos 1) here (unit_same n a (omega arith)))) tt
 starting_leads n a (suc m) (suc i) k there i_in k_in =
-    zero_leads (slice_index_or (unit n a (pos 1)) k (pos 0)) (map (λ ts. number_at ts (suc k)) (start_rows n (a + 1) m)) (unit_other n a k (apart there))
+    zero_leads (slice_index_or (unit n a (pos 1)) k (pos 0)) (map (λ ts. number_at ts (suc k)) (start_rows n (a + 1) m)) (unit_other n a k (behind a i k there))
     (starting_leads n (a + 1) m i k (omega arith) (omega arith) k_in)
-  where
-    apart : k ≡ a + suc i → k ≢ a
-    apart h = omega arith
 
 -- the form of a column has 1 in it and 0 elsewhere
 pub starting_own : (costs : CostBox) (rows : List Form) (k place : ℕ) → k < length costs.low →
@@ -168,7 +166,7 @@ starting_own costs rows k place k_in place_in =
     let n = length costs.low in
     let f = member_form n rows (low_member costs k) in
     ap (λ (g : Form). number_of 1 costs.low (start_rows n 0 n) g place) (starting_at costs rows k k_in)
-    ∙ number_start n costs.low f place (length-mapped _ 0 n) place_in
+    ∙ number_start n costs.low f place (length-map-numbers_from _ 0 n) place_in
     ∙ ap (λ z. number_at (z ∷ f.coefficients) place) (low_value costs.low rows k k_in)
 
 pub elsewhere_none : (n k place : ℕ) → place ≢ suc k → number_at (pos 0 ∷ unit n k (pos 1)) place ≡ pos 0
@@ -177,8 +175,8 @@ elsewhere_none n k (suc p) apart = unit_other n k p (λ same. apart (ap suc same
 
 pub all_mapped : {X : Type 0} (P : X → Type 0) (f : ℕ → X) (n : ℕ) → ((k : ℕ) → k < n → P (f k)) → All P (map f (numbers_from 0 n))
 all_mapped P f n here k d k_in =
-    let k_below : k < n = omega (arith, length-mapped f 0 n, k_in) in
-    subst P (sym (mapped_at f 0 n k d k_below ∙ ap f (zero-add k))) (here k k_below)
+    let k_below : k < n = omega (arith, length-map-numbers_from f 0 n, k_in) in
+    subst P (sym (get_or-map-numbers_from f 0 n k d k_below ∙ ap f (zero-add k))) (here k k_below)
 
 pub members_are : (costs : CostBox) (rows : List Form) → All (IsFormOf costs rows) (members_of costs (length rows))
 members_are costs rows =
@@ -224,7 +222,7 @@ whole_start top costs rows box fit numbers =
       unboxed = record {
         high_count = box.high_count;
         counts = λ k d k_in. (fit k d k_in).count;
-        count = length-mapped (low_member costs) 0 n;
+        count = length-map-numbers_from (low_member costs) 0 n;
         members = all_mapped (IsFormOf costs rows) (low_member costs) n (λ k k_in. (k_in, refl));
         common = 1;
         positive = omega arith;

@@ -1,9 +1,11 @@
 -- A pivot keeps the table whole.
-use Rattle.std.proofs.Common.{◌≡◌, ◌≢◌, ℕ, zero, suc, ◌*◌, ◌<◌, refl, sym, ◌∙◌, ap, subst, List, [], ◌∷◌, map, length, arith}
+use Rattle.std.proofs.Common.{◌≡◌, ℕ, zero, suc, ◌*◌, ◌<◌, refl, sym, ◌∙◌, ap, subst, List, [], ◌∷◌, map, length, arith}
 use Rattle.std.specs.Prelude.{ℤ, pos, negsuc, slice_index_or, slice_set, All}
+use Rattle.std.proofs.Math.Nat.{suc_inj}
 use Rattle.std.specs.List.{AllZip}
 use Rattle.std.proofs.lemmas.List.{length-map, length-set, map-set}
 use Rattle.std.proofs.lemmas.List.Elements.{All-set}
+use Rattle.cost_base.proofs.ListLemmas.{length-map-numbers_from}
 use Rattle.whole_numbers.specs.Fractions.{Fraction, StandsFor, divided, whole}
 use Rattle.whole_numbers.specs.Lists.{number_at}
 use Rattle.wide_fraction.proofs.Quotients.{zero_stands}
@@ -18,7 +20,6 @@ use Rattle.fraction_table.specs.Tableaus.{FitsBox}
 use Rattle.fraction_rows.specs.Turns.{AreRows, turned_by, unless_none}
 use Rattle.fraction_table.specs.Wholes.{AllLong, IsLine, IsWhole, Stand, low_forms, members_of, number_of, numbers_of}
 use Rattle.fraction_table.specs.Pivots.{IsLeast}
-use Rattle.fraction_rows.proofs.FilledRows.{length-mapped}
 use Rattle.fraction_rows.proofs.RowLaws.{number_at as number_there}
 use Rattle.fraction_table.proofs.theory.Resolved.{resolved, stand_length}
 use Rattle.fraction_table.proofs.theory.Blends.{form_mixture}
@@ -29,11 +30,16 @@ use Rattle.fraction_table.proofs.theory.TurnedNumbers.{IsEntry, elsewhere_turned
 use Rattle.fraction_table.proofs.theory.TurnedLeads.{leads_turned}
 
 -- a form of the box has a coefficient for each variable
+pub form_long : (costs : CostBox) (rows : List Form) (member : Member) →
+    All (λ f. length f.coefficients ≡ length costs.low) rows → IsFormOf costs rows member →
+    length (member_form (length costs.low) rows member).coefficients ≡ length costs.low
+form_long costs rows (Low v bound) counts is = length-map-numbers_from _ 0 (length costs.low)
+form_long costs rows (High v bound) counts is = length-map-numbers_from _ 0 (length costs.low)
+form_long costs rows (Row row) counts is = counts row no_form is
+
 pub coefficients_long : (costs : CostBox) (rows : List Form) (member : Member) → All (FitsBox costs) rows →
     IsFormOf costs rows member → length (member_form (length costs.low) rows member).coefficients ≡ length costs.low
-coefficients_long costs rows (Low var bound) fit is = length-mapped _ 0 (length costs.low)
-coefficients_long costs rows (High var bound) fit is = length-mapped _ 0 (length costs.low)
-coefficients_long costs rows (Row row) fit is = (fit row no_form is).count
+coefficients_long costs rows member fit is = form_long costs rows member (λ k d k_in. (fit k d k_in).count) is
 
 pub stand_at : (D : ℕ) (qs : List Fraction) (ms : List ℤ) (k : ℕ) → Stand D qs ms → k < length ms → StandsFor (entry qs k) (number_at ms k) D
 stand_at D [] [] k stand k_in = absurd (omega arith)
@@ -174,12 +180,9 @@ whole_turned top costs rows basis table entering es j a w p news =
         elsewhere = rw forms_are (elsewhere_turned n D a costs.low w.unboxed.lows bs f rs j entry_is as_many w.unboxed.elsewhere);
         lead = leads_turned n a D w.unboxed.lows rs (slice_index_or bs j no_form).coefficients j counted long at_j
             p.positive w.unboxed.positive p.j_in (w.unboxed.own j p.j_in)
-            (λ k k_in other. w.unboxed.elsewhere j (suc k) p.j_in (omega (arith, k_in)) (next_apart other)) p.least
+            (λ k k_in other. w.unboxed.elsewhere j (suc k) p.j_in (omega (arith, k_in)) (λ h. other (suc_inj h))) p.least
             w.unboxed.lead;
         lines = lines_turned top costs rows D w.unboxed.lows entering es j a (members_of costs (length rows)) table
             w.unboxed.positive w.unboxed.long p w.unboxed.lines news;
       };
     }
-  where
-    next_apart : {x y : ℕ} → x ≢ y → suc x ≢ suc y
-    next_apart {x} {y} apart h = apart (omega (arith, h))

@@ -1,10 +1,9 @@
 //! One more row: its form, and its line at the present basis.
-ghost use Rattle.std.specs.Prelude.{◌≡◌, suc, ◌^◌, ◌<◌, ◌≤◌, [], ◌∷◌, ◌++◌, ◌*ℤ◌, ◌+ℤ◌, ◌≤ℤ◌, length, map, nat_abs, pos, All, IfErr, IfOk, OnOk};
-ghost use Rattle.cost_base.specs.Lists.{numbers_from};
+ghost use Rattle.std.specs.Prelude.{◌≡◌, suc, ◌^◌, ◌<◌, ◌≤◌, [], ◌∷◌, ◌++◌, ◌*ℤ◌, ◌+ℤ◌, ◌≤ℤ◌, length, nat_abs, pos, All, IfErr, IfOk, OnOk};
 ghost use Rattle.path_rows.specs.Forms.{value};
 ghost use Rattle.path_rows.specs.Steps.{IsTooWide, start_of_sum};
 ghost use Rattle.fraction_table.specs.RowLines.{HasPlace, HoldsRow, HoldsSame, IsRowLine, IsRowStep, sum_at_place};
-ghost use Rattle.fraction_rows.specs.TableRows.{IsNumber, nothing};
+ghost use Rattle.fraction_rows.specs.TableRows.{IsNumber, blank_row};
 ghost use Rattle.fraction_table.specs.Tableaus.{FitsBox, wide_at};
 ghost use Rattle.fraction_rows.specs.Turns.{AreRows};
 ghost use Rattle.fraction_table.specs.Wholes.{HasRoom, IsWholeTable};
@@ -109,7 +108,7 @@ fn fill_in_order(
     requires few { length costs.now.low < 2 ^ 32 }
     requires lines { AreRows top (suc (length costs.now.low)) lines.now }
     requires many { length costs.now.low ≤ length lines.now }
-    requires blank { line.old ≡ nothing ∷ map (λ column. nothing) (numbers_from 0 (length costs.now.low)) }
+    requires blank { line.old ≡ blank_row (length costs.now.low) }
     ensures line { OnOk result (IsRowLine top costs.now form.now lines.now line.new) }
     ensures wide { IfErr result (IsRowStep top costs.now form.now lines.now) }
 {
@@ -139,7 +138,7 @@ fn gather_line(
     requires fits { FitsBox costs.now form.now }
     requires lines { AreRows top (suc (length costs.now.low)) lines.now }
     requires many { length costs.now.low ≤ length lines.now }
-    requires blank { line.old ≡ nothing ∷ map (λ column. nothing) (numbers_from 0 (length costs.now.low)) }
+    requires blank { line.old ≡ blank_row (length costs.now.low) }
     requires scratch { length scratch.old ≡ suc (length costs.now.low) }
     ensures line { OnOk result (IsRowLine top costs.now form.now lines.now line.new) }
     ensures width { length line.new ≡ length line.old }
@@ -167,7 +166,7 @@ fn fill_line(
     requires few { length costs.now.low < 2 ^ 32 }
     requires lines { AreRows top (suc (length costs.now.low)) lines.now }
     requires many { length costs.now.low ≤ length lines.now }
-    requires blank { line.old ≡ nothing ∷ map (λ column. nothing) (numbers_from 0 (length costs.now.low)) }
+    requires blank { line.old ≡ blank_row (length costs.now.low) }
     requires scratch { length scratch.old ≡ suc (length costs.now.low) }
     ensures line { OnOk result (IsRowLine top costs.now form.now lines.now line.new) }
     ensures wide { IfErr result (IsRowStep top costs.now form.now lines.now) }
@@ -193,16 +192,12 @@ impl Table {
         ensures same { HoldsSame self.old self.new }
         ensures place { OnOk result (HasPlace self.new) }
         ensures form { IfOk result (λ row. row.form ≡ form.now) }
-        ensures blank { IfOk result (λ row. row.line ≡ nothing ∷ map (λ column. nothing) (numbers_from 0 (length self.old.costs.low))) }
+        ensures blank { IfOk result (λ row. row.line ≡ blank_row (length self.old.costs.low)) }
     {
         let copy = form.copy(alloc)?;
         let line = TableRow::zero(alloc, self.costs.low.as_slice().len() as u32)?;
-        if self.rows.reserve(1).is_err() {
-            return Err(OutOfMemory);
-        }
-        if self.lines.reserve(1).is_err() {
-            return Err(OutOfMemory);
-        }
+        self.rows.reserve(1)?;
+        self.lines.reserve(1)?;
         Ok(BlankRow { form: copy, line })
     }
 
@@ -216,7 +211,7 @@ impl Table {
         requires room { HasRoom self.old }
         requires place { HasPlace self.old }
         requires fits { FitsBox self.old.costs row.form }
-        requires blank { row.line ≡ nothing ∷ map (λ column. nothing) (numbers_from 0 (length self.old.costs.low)) }
+        requires blank { row.line ≡ blank_row (length self.old.costs.low) }
         ensures holds { HoldsRow self.old row.form self.new }
         ensures whole { OnOk result (IsWholeTable self.new) }
         ensures wide { IfErr result (λ wide. IsTooWide self.new.top self.new.costs self.new.rows.items (wide_at wide self.new.basis.items)) }

@@ -33,10 +33,7 @@ pub fn put_fraction(
     match member {
         Member::Low(_, _) => Ok(()),
         Member::High(_, _) => Ok(()),
-        Member::Row(row) => match parts.push((row, fraction)) {
-            Ok(()) => Ok(()),
-            Err(_) => Err(OutOfMemory),
-        },
+        Member::Row(row) => Ok(parts.push((row, fraction))?),
     }
 }
 

@@ -21,10 +21,7 @@ use wide_fraction::{Frac, Top};
 fn copy_bounds(alloc: Global, bounds: &[u16]) -> Result<Listed<u16>, OutOfMemory>
     ensures { IfOk result (λ copy. copy ≡ bounds.now) }
 {
-    match bounds.to_vec(alloc) {
-        Ok(copy) => Ok(Listed::from_items(copy)),
-        Err(_) => Err(OutOfMemory),
-    }
+    Ok(Listed::from_items(bounds.to_vec(alloc)?))
 }
 
 /// An equal box.
@@ -44,10 +41,7 @@ pub fn starting_basis(alloc: Global, low: &[u16]) -> Result<Vec<Member>, OutOfMe
 {
     let mut basis = Vec::new(alloc);
     for (var, bound) in low.iter().enumerate() {
-        match basis.push(Member::Low(var as u32, *bound)) {
-            Ok(()) => {}
-            Err(_) => return Err(OutOfMemory),
-        }
+        basis.push(Member::Low(var as u32, *bound))?;
     }
     Ok(basis)
 }
@@ -98,10 +92,7 @@ fn bound_row(
 fn push_row(rows: &mut Vec<TableRow>, row: TableRow) -> Result<(), OutOfMemory>
     ensures { OnOk result (rows.new.items ≡ rows.old.items ++ row ∷ []) }
 {
-    match rows.push(row) {
-        Ok(()) => Ok(()),
-        Err(_) => Err(OutOfMemory),
-    }
+    Ok(rows.push(row)?)
 }
 
 /// Puts the lines of x - low for each of so many variables.

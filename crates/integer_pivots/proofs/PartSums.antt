@@ -4,8 +4,9 @@ use Rattle.std.specs.Prelude.{◌≢◌, ℤ, pos, ◌+ℤ◌, ◌*ℤ◌, nat_a
 use Rattle.std.proofs.lemmas.Int.{fits_signed_from_abs}
 use Rattle.std.proofs.lemmas.List.{get_or-set_other, get_or-set_same}
 use Rattle.whole_numbers.specs.Lists.{number_at}
+use Rattle.whole_numbers.proofs.Sizes.{sum_size}
 use Rattle.integer_pivots.specs.Numbers.{more_sums}
-use Rattle.integer_pivots.proofs.Sizes.{product_size, read, read_number, sum_size}
+use Rattle.integer_pivots.proofs.Sizes.{product_size, read, read_number}
 
 -- the multiple is put at the places before the first number
 abbrev pub partly : ℕ → List ℤ → ℤ → List ℤ → List ℤ
@@ -13,12 +14,6 @@ partly zero sums factor zs = sums
 partly (suc i) [] factor zs = []
 partly (suc i) (sum ∷ sums) factor [] = sum ∷ sums
 partly (suc i) (sum ∷ sums) factor (z ∷ zs) = (sum +ℤ (factor *ℤ z)) ∷ partly i sums factor zs
-
-pub partly_long : (i : ℕ) (sums : List ℤ) (factor : ℤ) (zs : List ℤ) → length (partly i sums factor zs) ≡ length sums
-partly_long zero sums factor zs = refl
-partly_long (suc i) [] factor zs = refl
-partly_long (suc i) (sum ∷ sums) factor [] = refl
-partly_long (suc i) (sum ∷ sums) factor (z ∷ zs) = ap suc (partly_long i sums factor zs)
 
 pub partly_at : (i : ℕ) (sums : List ℤ) (factor : ℤ) (zs : List ℤ) → number_at (partly i sums factor zs) i ≡ number_at sums i
 partly_at zero sums factor zs = refl

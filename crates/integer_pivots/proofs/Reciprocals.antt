@@ -7,7 +7,8 @@ use Rattle.std.proofs.Math.IntN.{pos-*ℤ-pos}
 use Rattle.whole_numbers.proofs.FractionLaws.{nat_abs-neg}
 use Rattle.whole_numbers.proofs.Ring.{var, num, neg, ◌⊖◌, ◌⊗◌, ring}
 use Rattle.std.proofs.Math.Nat.{div-add-mod, div-eq_of_lt-le, mod-lt, mul-le-mul_left, mul-le-mul_right, le-mul_of_pos_right}
-use Rattle.integer_pivots.proofs.Sizes.{read, read_number, size_positive}
+use Rattle.whole_numbers.proofs.Sizes.{size_positive}
+use Rattle.integer_pivots.proofs.Sizes.{read, read_number}
 
 -- the product with the quotient and 1, by parts
 product_parts : (t d m rest word : ℕ) → d * m + rest ≡ word → (t * d) * (m + 1) + t * rest ≡ t * word + t * d

@@ -1,6 +1,6 @@
 -- Whole numbers that 64 bits hold, and the greatest size among some.
 use Rattle.std.proofs.Common.{◌≡◌, ℕ, ◌+◌, ◌^◌, ◌<◌, ◌≤◌, ◌↔◌, sym, ◌∙◌, ap, List, arith, get_or, take, w64, to_z, of_z, zero, suc, ◌*◌, [], ◌∷◌, length}
-use Rattle.std.specs.Prelude.{ℤ, pos, nat_abs, IsTrue, leb, negsuc, ◌+ℤ◌, ◌*ℤ◌, ◌<ℤ◌, ◌≤ℤ◌}
+use Rattle.std.specs.Prelude.{ℤ, pos, nat_abs, IsTrue, leb, negsuc, ◌*ℤ◌, ◌<ℤ◌, ◌≤ℤ◌}
 use Rattle.std.specs.Int.Signed.{le_z}
 use Rattle.std.proofs.lemmas.Bool.{le-leb, leb-true}
 use Rattle.std.proofs.lemmas.Int.{fits_signed_from_abs, to_z-of_z, ints, unsigned_abs-mul}
@@ -35,17 +35,6 @@ pub product_size : (c z : ℤ) → nat_abs z ≤ 2 ^ 22 → nat_abs (c *ℤ z) �
 product_size c z small =
     let times : nat_abs (c *ℤ z) ≡ nat_abs c * nat_abs z = unsigned_abs-mul c z in
     omega (arith, times, mul-le-mul_left (nat_abs c) small)
-
-pub sum_size : (a b : ℤ) → nat_abs (a +ℤ b) ≤ nat_abs a + nat_abs b
-sum_size a b = omega (arith, ints)
-
--- a positive number is its size
-pub positive_is : (z : ℤ) → pos 0 <ℤ z → z ≡ pos (nat_abs z)
-positive_is z positive = omega (arith, ints, positive)
-
-pub size_positive : (z : ℤ) → pos 0 <ℤ z → 0 < nat_abs z
-size_positive (pos n) high = omega (arith, ints)
-size_positive (negsuc n) high = absurd (omega (arith, ints))
 
 pub size_most : (z : ℤ) (n : ℕ) → pos 0 <ℤ z → z ≤ℤ pos n → nat_abs z ≤ n
 size_most (pos m) n high low = omega (arith, ints)

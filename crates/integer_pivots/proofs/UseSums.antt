@@ -9,11 +9,12 @@ use Rattle.std.proofs.lemmas.List.{at_drop_all, get_or-set_other, get_or-set_sam
 use Rattle.std.proofs.lemmas.List.Sums.{sum_by-cons}
 use Rattle.whole_numbers.proofs.Ring.{var, num, ◌⊕◌, ◌⊗◌, ring}
 use Rattle.whole_numbers.specs.Lists.{number_at}
+use Rattle.whole_numbers.proofs.Sizes.{sum_size}
 use Rattle.path_rows.specs.declared.form.Form.{Form}
 use Rattle.path_rows.specs.Forms.{no_form}
 use Rattle.integer_pivots.specs.declared.uses.Use.{Use}
 use Rattle.integer_pivots.specs.Uses.{coefficient_in, size_in, uses_from}
-use Rattle.integer_pivots.proofs.Sizes.{product_size, read, read_number, sum_size}
+use Rattle.integer_pivots.proofs.Sizes.{product_size, read, read_number}
 use Rattle.integer_pivots.proofs.UseLaws.{other_rest, own_rest, row_told, uses_within}
 use Rattle.integer_pivots.specs.Numbers.{product_sum}
 
@@ -28,10 +29,6 @@ HasUse us row = (k : ℕ) × ((k < length us) × ((get_or us k no_use).row ≡ r
 pub record IsAdded (us : List Use) (index : ℕ) (number start : ℤ) (row : ℕ) (sum : ℤ) : Type 0 where
   pub so_far : (sum +ℤ (number *ℤ coefficient_in (drop index us) row)) ≡ (start +ℤ (number *ℤ coefficient_in us row))
   pub size : HasUse us row → nat_abs sum + size_in (drop index us) row * 2 ^ 22 ≤ 2 ^ 44
-
-pub none_added : (us : List Use) (number start : ℤ) (row : ℕ) →
-    (HasUse us row → nat_abs start + size_in us row * 2 ^ 22 ≤ 2 ^ 44) → IsAdded us 0 number start row start
-none_added us number start row size = record { so_far = refl; size = size }
 
 -- what is added by the number as it is read is added by the number
 pub added_read : (us : List Use) (index : ℕ) (number : ℤ) (first : ℕ) (olds sums : List ℤ) → nat_abs number ≤ 2 ^ 22 →

@@ -28,10 +28,7 @@ pub fn empty_uses(alloc: Global, count: usize) -> Result<Vec<Vec<Use>>, OutOfMem
 {
     let mut uses = Vec::new(alloc);
     for _ in 0..count {
-        match uses.push(Vec::new(alloc)) {
-            Ok(()) => {}
-            Err(_) => return Err(OutOfMemory),
-        }
+        uses.push(Vec::new(alloc))?;
     }
     Ok(uses)
 }

@@ -21,7 +21,8 @@ use Rattle.fraction_table.specs.Pivots.{member_at}
 use Rattle.fraction_table.specs.Tableaus.{FitsBox}
 use Rattle.fraction_table.specs.Wholes.{AllLong, AreMixtures, IsLine, IsUnboxed, from_lows, low_forms, members_of, number_of}
 use Rattle.fraction_table.proofs.theory.Zips.{zip_from}
-use Rattle.integer_pivots.proofs.Sizes.{number_within, size_most, size_positive}
+use Rattle.whole_numbers.proofs.Sizes.{size_positive}
+use Rattle.integer_pivots.proofs.Sizes.{number_within, size_most}
 use Rattle.table_kernel.specs.declared.kernel.Kernel.{Kernel}
 use Rattle.table_kernel.specs.Kernels.{IsBounded, IsKernel, IsMoving, IsShaped, lines_of, lows_of, stated, width_of}
 use Rattle.table_kernel.specs.Numbers.{fraction_line}

@@ -81,57 +81,18 @@ high_move_of k m v bound column v_in found =
       rests = rest_moved k m column fall;
     }
 
--- a kernel with other lower bounds, and with other upper ones
+-- a kernel with another box, as with other lower bounds or with other upper ones
+abbrev put_costs : Kernel → CostBox → Kernel
+put_costs s now = record s { table = record s.table { costs = now } }
+
 abbrev pub put_lows : Kernel → List ℕ → Kernel
-put_lows s now = record {
-  table = record {
-    top = s.table.top;
-    costs = record { low = now; high = s.table.costs.high };
-    rows = s.table.rows;
-    basis = s.table.basis;
-    lines = s.table.lines;
-    quotients = s.table.quotients;
-    scratch =
-        s.table.scratch;
-  };
-  common = s.common;
-  reach = s.reach;
-  weight = s.weight;
-  lows = s.lows;
-  leads = s.leads;
-  constants = s.constants;
-  uses = s.uses;
-  left = s.left;
-  line = s.line;
-  along = s.along;
-}
+put_lows s now = put_costs s (record { low = now; high = s.table.costs.high })
 
 abbrev pub put_highs : Kernel → List ℕ → Kernel
-put_highs s now = record {
-  table = record {
-    top = s.table.top;
-    costs = record { low = s.table.costs.low; high = now };
-    rows = s.table.rows;
-    basis = s.table.basis;
-    lines = s.table.lines;
-    quotients = s.table.quotients;
-    scratch =
-        s.table.scratch;
-  };
-  common = s.common;
-  reach = s.reach;
-  weight = s.weight;
-  lows = s.lows;
-  leads = s.leads;
-  constants = s.constants;
-  uses = s.uses;
-  left = s.left;
-  line = s.line;
-  along = s.along;
-}
+put_highs s now = put_costs s (record { low = s.table.costs.low; high = now })
 
-others_lows : (k s : Kernel) (now : List ℕ) → KeepsOthers k s → KeepsOthers k (put_lows s now)
-others_lows k s now o = record {
+others_kept : (k s : Kernel) (now : CostBox) → KeepsOthers k s → KeepsOthers k (put_costs s now)
+others_kept k s now o = record {
   top = o.top;
   rows = o.rows;
   lines = o.lines;
@@ -142,27 +103,7 @@ others_lows k s now o = record {
   weight = o.weight;
   lows = o.lows;
   leads = o.leads;
-  uses =
-      o.uses;
-  line = o.line;
-  along = o.along;
-  left = o.left;
-}
-
-others_highs : (k s : Kernel) (now : List ℕ) → KeepsOthers k s → KeepsOthers k (put_highs s now)
-others_highs k s now o = record {
-  top = o.top;
-  rows = o.rows;
-  lines = o.lines;
-  quotients = o.quotients;
-  scratch = o.scratch;
-  common = o.common;
-  reach = o.reach;
-  weight = o.weight;
-  lows = o.lows;
-  leads = o.leads;
-  uses =
-      o.uses;
+  uses = o.uses;
   line = o.line;
   along = o.along;
   left = o.left;
@@ -184,7 +125,12 @@ low_moves k s m v bound low fall now v_in keeps costs_same low_is fall_is shifte
     moved_moving k (put_lows s now) m (with_low k.table.costs v bound) _ (Low v (slice_index k.table.costs.low v))
     (Low v bound) (pos bound -ℤ pos (slice_index k.table.costs.low v)) sh.column v
     (low_move_of k m v bound sh.column v_in sh.found)
-    (record { keeps = others_lows k s now keeps; costs = costs_are; basis = sh.basis; constants = sh.constants }) may
+    (record {
+      keeps = others_kept k s (record { low = now; high = s.table.costs.high }) keeps;
+      costs = costs_are;
+      basis = sh.basis;
+      constants = sh.constants;
+    }) may
 
 pub high_moves : (k s : Kernel) (m : IsMoving k) (v bound high own : ℕ) (fall : ℤ) (now : List ℕ) → v < width_of k →
     own ≡ width_of k + v → KeepsOthers k s → s.table.costs ≡ k.table.costs → high ≡ slice_index k.table.costs.high v →
@@ -204,7 +150,12 @@ high_moves k s m v bound high own fall now v_in own_is keeps costs_same high_is 
     moved_moving k (put_highs s now) m (with_high k.table.costs v bound) _ (High v (slice_index k.table.costs.high v))
     (High v bound) (pos (slice_index k.table.costs.high v) -ℤ pos bound) sh.column (width_of k + v)
     (high_move_of k m v bound sh.column v_in sh.found)
-    (record { keeps = others_highs k s now keeps; costs = costs_are; basis = sh.basis; constants = sh.constants }) may
+    (record {
+      keeps = others_kept k s (record { low = s.table.costs.low; high = now }) keeps;
+      costs = costs_are;
+      basis = sh.basis;
+      constants = sh.constants;
+    }) may
 
 -- the room that is left
 pub shift_room : (k s : Kernel) (m : IsMoving k) (own : ℕ) (before after : Member) (fall : ℤ) (far more : ℕ) →

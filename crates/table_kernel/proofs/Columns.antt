@@ -8,6 +8,7 @@ use Rattle.std.proofs.lemmas.List.Elements.{All-tail, All-map, All-weaker}
 use Rattle.std.proofs.lemmas.List.Sums.{sum_by-cons}
 use Rattle.whole_numbers.proofs.Ring.{var, num, neg, ◌⊗◌, ring}
 use Rattle.whole_numbers.specs.Lists.{number_at}
+use Rattle.whole_numbers.proofs.Sizes.{sum_size}
 use Rattle.path_rows.specs.declared.form.Form.{Form}
 use Rattle.path_rows.specs.declared.tree.Member.{Member}
 use Rattle.path_rows.specs.declared.tree.Member.TheVariants.{Low, High, Row}
@@ -19,7 +20,7 @@ use Rattle.fraction_table.proofs.Pivots.{members_long}
 use Rattle.fraction_table.proofs.StartingTables.{members_are}
 use Rattle.fraction_table.proofs.theory.Units.{unit_from_lows}
 use Rattle.integer_pivots.specs.Numbers.{AllWithin, product_sum, weight_of}
-use Rattle.integer_pivots.proofs.Sizes.{number_within, sum_size}
+use Rattle.integer_pivots.proofs.Sizes.{number_within}
 use Rattle.table_kernel.specs.declared.kernel.Kernel.{Kernel}
 use Rattle.table_kernel.specs.Kernels.{IsBounded, IsShaped, lows_of, width_of}
 use Rattle.table_kernel.specs.Numbers.{lows_by, number_in}

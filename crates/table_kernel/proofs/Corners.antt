@@ -8,7 +8,7 @@ use Rattle.std.proofs.lemmas.Int.{ints}
 use Rattle.std.proofs.lemmas.List.{get_or_default, get_or-set_other, get_or-set_same}
 use Rattle.std.proofs.lemmas.Nat.Gcd.{dvd_refl, dvd_trans}
 use Rattle.whole_numbers.specs.Fractions.{Fraction, gcd}
-use Rattle.whole_numbers.proofs.Divisors.{gcd_is}
+use Rattle.whole_numbers.proofs.Divisors.{gcd_is, quotient_positive}
 use Rattle.whole_numbers.proofs.Ring.{var, ◌⊗◌, ring}
 use Rattle.area_graph.specs.declared.Point.{Point}
 use Rattle.whole_numbers.specs.Lists.{number_at}
@@ -31,11 +31,15 @@ use Rattle.table_kernel.specs.Kernels.{IsKernel, stated, width_of}
 use Rattle.table_kernel.specs.Numbers.{lows_by}
 
 -- the size of a constant, as code reads it
+-- each variable has a constant
+pub constant_in : (k : Kernel) → IsKernel k → (v : ℕ) → v < width_of k → v < length k.constants.items
+constant_in k m v v_in = omega (arith, v_in, m.shaped.constants, members_long k.table.costs (length k.table.rows.items))
+
 pub constant_read : (k : Kernel) → IsKernel k → (v size : ℕ) (z : ℤ) → v < width_of k →
     z ≡ slice_index_or k.constants.items v z → size ≡ nat_abs (to_z w64 (of_z w64 z)) →
     (size ≡ nat_abs (number_at k.constants.items v)) × (size ≤ 2 ^ 39)
 constant_read k m v size z v_in z_is size_is =
-    let place_in : v < length k.constants.items = omega (arith, v_in, m.shaped.constants, members_long k.table.costs (length k.table.rows.items)) in
+    let place_in = constant_in k m v v_in in
     let same : z ≡ number_at k.constants.items v = z_is ∙ get_or_default k.constants.items v z (pos 0) place_in in
     let small = number_within (2 ^ 39) k.constants.items v m.bounded.constants in
     let is : size ≡ nat_abs (number_at k.constants.items v) =
@@ -146,18 +150,6 @@ over_same low D z divisor positive whole part =
     let z_is : n * divisor ≡ z = div-mul_cancel divisor part in
     let stands : n * D ≡ z * d = ap (λ (x : ℕ). n * x) (sym D_is) ∙ swapped n d divisor ∙ ap (λ (x : ℕ). x * d) z_is in
     ap (λ (x : ℕ). (low * d + x) * D) (sym (mul-one n)) ∙ same_sum low n 1 d z D d (one-mul d) stands
-
--- a divisor's quotient is positive
-quotient_positive : (D divisor : ℕ) → 0 < D → divisor ∣ D → 0 < D / divisor
-quotient_positive D divisor positive whole =
-    let is : (D / divisor) * divisor ≡ D = div-mul_cancel divisor whole in
-    elim (cases_lt 0 (D / divisor)) [
-      | inl some ↦ some
-      | inr none ↦
-          let nothing : D / divisor ≡ 0 = omega (arith, none) in
-          let zero_is : 0 * divisor ≡ D = subst (λ (q : ℕ). q * divisor ≡ D) nothing is in
-          absurd (omega (arith, zero_is, positive))
-    ]
 
 -- the point that was put is the least
 pub corner_least : (k : Kernel) (m : IsKernel k) → All (λ z. pos 0 ≤ℤ z) k.constants.items → (divisor : ℕ) (p : Point) →

@@ -14,7 +14,8 @@ use Rattle.integer_pivots.specs.Choices.{AreLatest, AreLeast, Has, IsPositiveAt,
 use Rattle.integer_pivots.specs.Leads.{AreLeads, IsLead}
 use Rattle.integer_pivots.specs.Numbers.{AllWithin}
 use Rattle.integer_pivots.proofs.Narrowing.{has_at}
-use Rattle.integer_pivots.proofs.Sizes.{positive_is, wider}
+use Rattle.whole_numbers.proofs.Sizes.{positive_is}
+use Rattle.integer_pivots.proofs.Sizes.{wider}
 use Rattle.integer_pivots.proofs.ColumnLeads.{positive_some}
 use Rattle.table_kernel.specs.Choices.{AreLeft, ComesFirst}
 use Rattle.table_kernel.specs.declared.kernel.Kernel.{Kernel}

@@ -1,7 +1,6 @@
 -- The numbers of a form at all columns, and of all forms at a column, place by place.
 use Rattle.std.proofs.Common.{◌≡◌, ℕ, ◌+◌, ◌-◌, ◌*◌, ◌^◌, ◌<◌, ◌≤◌, refl, sym, subst, ◌∙◌, ap, List, [], ◌∷◌, map, length, get_or, arith, inl, inr, FitsSigned, w64}
-use Rattle.std.specs.Prelude.{◌⊎◌, ℤ, pos, negsuc, ◌-ℤ◌, ◌*ℤ◌, ◌≤ℤ◌, neg_ℤ, nat_abs, All, slice_index, slice_index_or}
-use Rattle.std.proofs.Math.Nat.{mul-le-mul_left}
+use Rattle.std.specs.Prelude.{◌⊎◌, ℤ, pos, negsuc, ◌-ℤ◌, ◌*ℤ◌, neg_ℤ, nat_abs, All, slice_index, slice_index_or}
 use Rattle.std.proofs.lemmas.Bool.{cases_lt}
 use Rattle.std.proofs.lemmas.Int.{fits_signed_from_abs, ints}
 use Rattle.std.proofs.lemmas.List.{ext_get_or, get_or-map, length-map}
@@ -9,6 +8,7 @@ use Rattle.std.proofs.lemmas.List.Elements.{All-map, All-weaker}
 use Rattle.cost_base.specs.Lists.{numbers_from}
 use Rattle.cost_base.proofs.ListLemmas.{get_or-map-numbers_from, length-map-numbers_from}
 use Rattle.whole_numbers.proofs.Ring.{var, num, neg, ◌⊖◌, ◌⊗◌, ring}
+use Rattle.whole_numbers.proofs.Sizes.{factor_most}
 use Rattle.whole_numbers.specs.Lists.{number_at}
 use Rattle.path_rows.specs.declared.form.Form.{Form}
 use Rattle.path_rows.specs.declared.tree.Member.{Member}
@@ -30,9 +30,6 @@ use Rattle.table_kernel.proofs.Columns.{column_at, column_long, form_number_with
 use Rattle.table_kernel.proofs.LineSums.{sums_agree}
 
 -- what bounds a kernel bounds each number by the limit
-small_weight : (reach weight : ℤ) → pos 1 ≤ℤ reach → nat_abs weight * nat_abs reach ≤ 2 ^ 22 → nat_abs weight ≤ 2 ^ 22
-small_weight reach weight some product = omega (arith, product, mul-le-mul_left (nat_abs weight) (let e : 1 ≤ nat_abs reach = omega (arith, ints, some) in e))
-
 pub lows_small : (k : Kernel) → IsBounded k → All (AllWithin (2 ^ 22)) k.lows.items
 lows_small k b =
     All-weaker (AllWithin (nat_abs k.reach)) (AllWithin (2 ^ 22))
@@ -41,7 +38,7 @@ lows_small k b =
 pub rows_light : (k : Kernel) → IsBounded k → All (λ f. weight_of f ≤ 2 ^ 22) k.table.rows.items
 rows_light k b =
     All-weaker (λ (f : Form). weight_of f ≤ nat_abs k.weight) (λ (f : Form). weight_of f ≤ 2 ^ 22)
-    (λ f light. omega (arith, light, small_weight k.reach k.weight b.reach b.product)) k.table.rows.items b.rows
+    (λ f light. omega (arith, light, factor_most k.reach k.weight (2 ^ 22) b.reach b.product)) k.table.rows.items b.rows
 
 -- a variable's number at a column, as code reads it
 pub bound_entry : (k : Kernel) → IsShaped k → IsBounded k → (v column : ℕ) (row d : List ℤ) → v < width_of k →

@@ -8,6 +8,7 @@ use Rattle.std.proofs.lemmas.List.{get_or_append_left, length-append}
 use Rattle.std.proofs.lemmas.List.Elements.{All-append, All-weaker}
 use Rattle.whole_numbers.specs.Fractions.{Fraction}
 use Rattle.whole_numbers.specs.Lists.{number_at}
+use Rattle.whole_numbers.proofs.Sizes.{positive_is}
 use Rattle.path_rows.specs.declared.form.Form.{Form}
 use Rattle.path_rows.specs.declared.form.CostBox.{CostBox}
 use Rattle.path_rows.specs.declared.tree.Member.{Member}
@@ -18,7 +19,7 @@ use Rattle.path_rows.specs.Boxes.{IsBox}
 use Rattle.fraction_table.specs.RowLines.{HoldsRow}
 use Rattle.fraction_table.specs.Tableaus.{FitsBox}
 use Rattle.fraction_table.specs.Wholes.{AreMixtures, low_forms, members_of, number_of}
-use Rattle.fraction_table.proofs.MoreRows.{form_kept, forms_kept, last_form, member_kept, members_more, one_all}
+use Rattle.fraction_table.proofs.MoreRows.{form_kept, forms_kept, member_kept, members_more, one_all}
 use Rattle.fraction_table.proofs.Pivots.{members_long}
 use Rattle.fraction_table.proofs.StartingTables.{members_are}
 use Rattle.integer_pivots.specs.Uses.{held_in, uses_by}
@@ -91,7 +92,7 @@ constants_more costs rows D lows constants f z counted z_is are place place_in =
           let last_member : length members ≡ place = omega (arith, last, counted) in
           subst (λ (p : ℕ). number_at (constants ++ z ∷ []) p ≡ z) last (get_or-append_seam constants z [] (pos 0))
           ∙ z_is
-          ∙ ap (λ (g : Form). number_of D costs.low lows g 0) (sym (last_form rows f))
+          ∙ ap (λ (g : Form). number_of D costs.low lows g 0) (sym (get_or-append_seam rows f [] no_form))
           ∙ ap at
           (sym (grown ∙ subst (λ (p : ℕ). slice_index_or (members ++ Row (length rows) ∷ []) p (Low 0 0)
           ≡ Row (length rows)) last_member (get_or-append_seam members (Row (length rows)) [] (Low 0 0))))
@@ -184,9 +185,6 @@ grown_bounded old new f line b covered g =
           (one_all (λ (z : ℤ). nat_abs z ≤ 2 ^ 39) (row_constant_of old f) covered.constant));
     }
 
-size_is : (z : ℤ) → pos 0 <ℤ z → z ≡ pos (nat_abs z)
-size_is z positive = omega (arith, ints, positive)
-
 -- the kernel with one more row is one
 pub kernel_more : (old new : Kernel) (f : Form) (line : List Fraction) → IsKernel old → FitsBox old.table.costs f →
     IsCovered old f → IsGrown old new f line → IsKernel new
@@ -199,7 +197,7 @@ kernel_more old new f line m fits covered g =
     let s = m.shaped in
     let there = kernel_basis old m in
     let constant : row_constant_of old f ≡ number_of D costs.low (lows_of old) f 0 =
-    ap (λ (z : ℤ). (z *ℤ value f costs.low) +ℤ product_sum f.coefficients old.constants.items) (size_is old.common m.bounded.positive)
+    ap (λ (z : ℤ). (z *ℤ value f costs.low) +ℤ product_sum f.coefficients old.constants.items) (positive_is old.common m.bounded.positive)
     ∙ sym (constant_number old s D costs.low f (omega (arith, fits.count))) in
     let at = basis_more costs old.table.rows.items basis D (lows_of old) f fits.count there.0 in
     let are = constants_more costs old.table.rows.items D (lows_of old) old.constants.items f (row_constant_of old f) s.constants constant there.1 in

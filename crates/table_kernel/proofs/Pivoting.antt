@@ -4,6 +4,7 @@ use Rattle.std.proofs.Common.{Vec, ◌≡◌, ℕ, suc, ◌+◌, ◌*◌, ◌^�
 use Rattle.std.specs.Prelude.{ℤ, pos, ◌*ℤ◌, ◌<ℤ◌, ◌≤ℤ◌, nat_abs, slice_index, slice_index_or, slice_set, vec_capacity, All, Some}
 use Rattle.std.proofs.lemmas.List.{ext_get_or, get_or_default}
 use Rattle.cost_base.specs.Lists.{numbers_from}
+use Rattle.cost_base.proofs.ListLemmas.{length-map-numbers_from, get_or-map-numbers_from}
 use Rattle.whole_numbers.specs.Fractions.{Fraction}
 use Rattle.whole_numbers.specs.Lists.{number_at}
 use Rattle.path_rows.specs.declared.form.Form.{Form}
@@ -12,7 +13,6 @@ use Rattle.path_rows.specs.declared.tree.Member.{Member}
 use Rattle.path_rows.specs.declared.tree.Member.TheVariants.{Low}
 use Rattle.path_rows.specs.Basis.{LeadsPositive, member_form}
 use Rattle.path_rows.specs.Boxes.{IsBox}
-use Rattle.fraction_rows.proofs.FilledRows.{length-mapped, mapped_at}
 use Rattle.fraction_table.specs.Pivots.{IsLeast, KeepsForms, LeadsNoNegative, member_at, numbers_in, turned_column}
 use Rattle.fraction_table.specs.Ranks.{rank}
 use Rattle.fraction_table.specs.Tableaus.{FitsBox}
@@ -26,7 +26,7 @@ use Rattle.fraction_table.proofs.theory.Turns.{turned_rows}
 use Rattle.integer_pivots.specs.declared.uses.Use.{Use}
 use Rattle.integer_pivots.specs.Uses.{held_in}
 use Rattle.integer_pivots.proofs.UseLaws.{uses_kept}
-use Rattle.integer_pivots.proofs.Sizes.{positive_is, size_positive}
+use Rattle.whole_numbers.proofs.Sizes.{positive_is, size_positive}
 use Rattle.integer_pivots.specs.Leads.{AreLeads}
 use Rattle.integer_pivots.specs.Numbers.{AllWithin, weight_of}
 use Rattle.integer_pivots.specs.Turns.{IsTurned, IsTurnedRow, turn_of}
@@ -109,7 +109,7 @@ module _ (k : Kernel) (place column : ℕ) (p : IsPivotIn k place column) where
   line_at_column : (c : ℕ) → c < width_of k → number_at k.line.items c ≡ number_in (form_in k place) (column_of k c)
   line_at_column c c_in =
       ap (λ (zs : List ℤ). number_at zs c) p.line
-      ∙ mapped_at (λ i. number_in (form_in k place) (column_of k i)) 0 (width_of k) c (pos 0) c_in
+      ∙ get_or-map-numbers_from (λ i. number_in (form_in k place) (column_of k i)) 0 (width_of k) c (pos 0) c_in
       ∙ ap (λ i. number_in (form_in k place) (column_of k i)) (zero-add c)
 
   number_is : (c : ℕ) → c < width_of k → number_of (nat_abs k.common) k.table.costs.low (lows_of k) (form_in k place) (suc c) ≡ number_at k.line.items c
@@ -160,11 +160,11 @@ module _ (k : Kernel) (place column : ℕ) (p : IsPivotIn k place column) where
       let g : ℕ → ℤ = number_of (nat_abs k.common) k.table.costs.low (lows_of k) (form_in k place) in
       let rest : map g (numbers_from 1 n) ≡ k.line.items =
       ext_get_or (pos 0) (map g (numbers_from 1 n)) k.line.items
-      (length-mapped g 1 n ∙ sym p.kernel.shaped.line)
+      (length-map-numbers_from g 1 n ∙ sym p.kernel.shaped.line)
       (λ c c_in. (
-      let inside : c < width_of k = omega (arith, c_in, length-mapped g 1 n) in
+      let inside : c < width_of k = omega (arith, c_in, length-map-numbers_from g 1 n) in
       let next : 1 + c ≡ suc c = omega arith in
-      mapped_at g 1 n c (pos 0) inside ∙ ap g next ∙ number_is c inside)) in
+      get_or-map-numbers_from g 1 n c (pos 0) inside ∙ ap g next ∙ number_is c inside)) in
       ap (λ z. z ∷ map g (numbers_from 1 n)) (sym (b.1 place p.place_in)) ∙ ap (λ zs. number_at k.constants.items place ∷ zs) rest
 
   -- the number of x - low is that of its row

@@ -5,12 +5,12 @@ use Rattle.std.specs.Vec.{with_item}
 use Rattle.std.proofs.lemmas.List.{get_or-map, length-map}
 use Rattle.std.proofs.lemmas.List.Elements.{All-append, All-drop, All-map, All-take}
 use Rattle.cost_base.specs.Lists.{numbers_from}
+use Rattle.cost_base.proofs.ListLemmas.{length-map-numbers_from, map-numbers_from-agree}
 use Rattle.whole_numbers.specs.Fractions.{Fraction}
 use Rattle.whole_numbers.specs.Lists.{number_at}
 use Rattle.path_rows.specs.declared.tree.Member.{Member}
 use Rattle.path_rows.specs.declared.tree.Member.TheVariants.{Low}
 use Rattle.path_rows.specs.Basis.{member_form}
-use Rattle.fraction_rows.proofs.FilledRows.{length-mapped, mapped_same}
 use Rattle.fraction_table.specs.RowLines.{HasPlace}
 use Rattle.fraction_table.specs.Wholes.{HasRoom, IsWhole, IsWholeTable, members_of, number_of, numbers_of}
 use Rattle.fraction_table.proofs.BetweenBoxes.{all_written, length-written, written_next}
@@ -33,7 +33,7 @@ place_numbers k s c place place_in =
     ap (λ (z : ℤ). z ∷ map number (numbers_from 1 (width_of k))) (sym (c place place_in))
     ∙ ap (λ (zs : List ℤ). number_at k.constants.items place ∷ zs)
     (shifted number 0 (width_of k)
-    ∙ mapped_same (λ p. number (suc p)) (λ column. number_in (form_in k place) (column_of k column)) 0 (width_of k)
+    ∙ map-numbers_from-agree (λ p. number (suc p)) (λ column. number_in (form_in k place) (column_of k column)) 0 (width_of k)
     (λ column from column_in. column_number k s (nat_abs k.common) k.table.costs.low (form_in k place) column))
 
 -- the line of a place, by its numbers
@@ -190,7 +190,7 @@ lines_wide k =
     wide : (member : Member) → length (fraction_line (nat_abs k.common) k.table.costs k.table.rows.items (lows_of k) member) ≡ suc (width_of k)
     wide member =
         let number = number_of (nat_abs k.common) k.table.costs.low (lows_of k) (member_form (width_of k) k.table.rows.items member) in
-        length-map (map number (numbers_from 0 (suc (width_of k)))) (over (nat_abs k.common)) ∙ length-mapped number 0 (suc (width_of k))
+        length-map (map number (numbers_from 0 (suc (width_of k)))) (over (nat_abs k.common)) ∙ length-map-numbers_from number 0 (suc (width_of k))
 
 -- a kernel while its lines are put
 pub restating : (old new : Kernel) (place : ℕ) → IsMoving old → KeepsAllButRoom old new → new.table.lines.items ≡ restated_to old place → IsMoving new

@@ -7,11 +7,12 @@ use Rattle.std.proofs.lemmas.List.{at_drop_all}
 use Rattle.std.proofs.lemmas.List.Elements.{All-tail}
 use Rattle.std.proofs.lemmas.List.Sums.{sum_by-cons}
 use Rattle.whole_numbers.specs.Lists.{number_at}
+use Rattle.whole_numbers.proofs.Sizes.{sum_size}
 use Rattle.path_rows.specs.declared.form.Term.{Term}
 use Rattle.path_rows.specs.Forms.{terms_from}
 use Rattle.path_rows.proofs.TermLaws.{total, total_more}
 use Rattle.integer_pivots.proofs.Terms.{rest_weight, term_size, terms_weight}
-use Rattle.integer_pivots.proofs.Sizes.{read_number, sum_size}
+use Rattle.integer_pivots.proofs.Sizes.{read_number}
 use Rattle.integer_pivots.proofs.Crossings.{product_small}
 use Rattle.integer_pivots.specs.Numbers.{product_sum}
 use Rattle.table_kernel.proofs.LineSums.{product_at, sum_by_terms}
@@ -44,19 +45,6 @@ weighed_first ts cs terms few small =
     let weight : sum_by term_size ts ≡ sum_by nat_abs cs = ap (sum_by term_size) terms ∙ terms_weight 0 cs in
     let most = coefficients_light (2 ^ 26) cs small in
     record { so_far = omega (arith, ints); from_zero = omega (arith, ints); light = omega (arith, weight, most, few) }
-
-pub weighed_small : (ts : List Term) (index : ℕ) (d : Term) (sum : ℤ) → index < length ts → IsWeighed ts index sum →
-    nat_abs (get_or ts index d).coefficient ≤ 2 ^ 58
-weighed_small ts index d sum index_in w = omega (arith, ints, rest_weight ts index d index_in, w.so_far, w.from_zero, w.light)
-
-pub weighed_more : (ts : List Term) (index : ℕ) (d : Term) (sum : ℤ) → index < length ts → IsWeighed ts index sum →
-    IsWeighed ts (index + 1) (sum +ℤ pos (nat_abs (get_or ts index d).coefficient))
-weighed_more ts index d sum index_in w =
-    let rest = rest_weight ts index d index_in in
-    record { so_far = omega (arith, ints, rest, w.so_far); from_zero = omega (arith, ints, w.from_zero); light = w.light }
-
-pub weighed_sum : (ts : List Term) (index : ℕ) (sum : ℤ) → IsWeighed ts index sum → nat_abs sum ≤ 2 ^ 58
-weighed_sum ts index sum w = omega (arith, ints, w.so_far, w.from_zero, w.light)
 
 pub weighed_all : (ts : List Term) (index : ℕ) (sum : ℤ) (cs : List ℤ) → length ts ≤ index → ts ≡ terms_from 0 cs →
     IsWeighed ts index sum → sum ≡ pos (sum_by nat_abs cs)

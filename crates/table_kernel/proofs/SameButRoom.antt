@@ -1,5 +1,5 @@
 -- Kernels that differ in their room alone.
-use Rattle.std.proofs.Common.{◌≡◌, ◌≤◌, sym, ◌∙◌, ap, subst, length, arith}
+use Rattle.std.proofs.Common.{◌≡◌, ◌≤◌, refl, sym, ◌∙◌, ap, subst, length, arith}
 use Rattle.std.specs.Prelude.{vec_capacity}
 use Rattle.table_kernel.specs.declared.kernel.Kernel.{Kernel}
 use Rattle.table_kernel.specs.Kernels.{IsKernel, stated}
@@ -8,38 +8,16 @@ use Rattle.table_kernel.specs.Turns.{KeepsNumbers}
 -- the one kernel is the other with another room
 pub rebuilt : (old new : Kernel) → KeepsNumbers old new → new ≡ record old { left = new.left; line = new.line; along = new.along }
 rebuilt old new keeps =
-    ap {B = Kernel} (λ t. record new { table = t }) keeps.table
-    ∙ ap {B = Kernel} (λ z. record new { table = old.table; common = z }) keeps.common
-    ∙ ap {B = Kernel} (λ z. record new { table = old.table; common = old.common; reach = z }) keeps.reach
-    ∙ ap {B = Kernel} (λ z. record new { table = old.table; common = old.common; reach = old.reach; weight = z }) keeps.weight
-    ∙ ap {B = Kernel} (λ rows. record new { table = old.table; common = old.common; reach = old.reach; weight = old.weight; lows = rows }) keeps.lows
-    ∙ ap {B = Kernel} (λ zs. record new {
-      table = old.table;
-      common = old.common;
-      reach = old.reach;
-      weight = old.weight;
-      lows = old.lows;
-      constants = zs;
-    }) keeps.constants
-    ∙ ap {B = Kernel} (λ us. record new {
-      table = old.table;
-      common = old.common;
-      reach = old.reach;
-      weight = old.weight;
-      lows = old.lows;
-      constants = old.constants;
-      uses = us;
-    }) keeps.uses
-    ∙ ap {B = Kernel} (λ ls. record new {
-      table = old.table;
-      common = old.common;
-      reach = old.reach;
-      weight = old.weight;
-      lows = old.lows;
-      constants = old.constants;
-      uses = old.uses;
-      leads = ls;
-    }) keeps.leads
+    rw (
+      sym keeps.table,
+      sym keeps.common,
+      sym keeps.reach,
+      sym keeps.weight,
+      sym keeps.lows,
+      sym keeps.leads,
+      sym keeps.constants,
+      sym keeps.uses,
+    ) refl
 
 -- so it stands for the same table
 pub same_stated : (old new : Kernel) → KeepsNumbers old new → stated new ≡ stated old

@@ -5,7 +5,7 @@ use Rattle.std.proofs.lemmas.Int.{ints}
 use Rattle.std.proofs.lemmas.List.{get_or-map, get_or_default, length-append, map-append}
 use Rattle.std.proofs.lemmas.Simd.{map-map}
 use Rattle.cost_base.specs.Lists.{numbers_from}
-use Rattle.cost_base.proofs.ListLemmas.{length-numbers_from, get_or-numbers_from}
+use Rattle.cost_base.proofs.ListLemmas.{length-numbers_from, get_or-numbers_from, length-map-numbers_from, map-numbers_from-agree, get_or-map-numbers_from}
 use Rattle.whole_numbers.specs.Fractions.{Fraction}
 use Rattle.whole_numbers.specs.Lists.{number_at}
 use Rattle.path_rows.specs.declared.form.Form.{Form}
@@ -15,7 +15,6 @@ use Rattle.path_rows.specs.declared.tree.Member.TheVariants.{Low}
 use Rattle.path_rows.specs.Forms.{value}
 use Rattle.path_rows.specs.Boxes.{IsBox}
 use Rattle.path_rows.specs.Basis.{IsFormOf, low_member, member_form, unit}
-use Rattle.fraction_rows.proofs.FilledRows.{length-mapped, mapped_same, mapped_at}
 use Rattle.fraction_table.specs.Tableaus.{FitsBox, Held, starting}
 use Rattle.fraction_table.specs.Wholes.{HasRoom, IsSound, IsWholeTable, high_member, held_of, members_of, number_of}
 use Rattle.fraction_table.specs.declared.stage.Stage.TheVariants.{Open}
@@ -39,7 +38,7 @@ unit_leads n c c_in =
     let own : slice_index (numbers_from 0 n) c ≡ c = get_or-numbers_from 0 n c 0 inside ∙ zero-add c in
     subst (IsLead (map (λ v. unit n v (pos 1)) (numbers_from 0 n)) c) (sym own)
     record {
-      within = omega (arith, inside, length-mapped (λ v. unit n v (pos 1)) 0 n);
+      within = omega (arith, inside, length-map-numbers_from (λ v. unit n v (pos 1)) 0 n);
       before = λ v before. entry v (omega (arith, before, inside)) ∙ unit_other n v c (λ same. omega (arith, same, before));
       there = λ v_in none. one_some (sym (unit_same n c inside) ∙ sym (entry c inside) ∙ none);
     }
@@ -48,7 +47,8 @@ unit_leads n c c_in =
     one_some same = omega (arith, ints)
 
     entry : (v : ℕ) → v < n → number_at (slice_index_or (map (λ u. unit n u (pos 1)) (numbers_from 0 n)) v []) c ≡ number_at (unit n v (pos 1)) c
-    entry v v_in = ap (λ (row : List ℤ). number_at row c) (mapped_at (λ u. unit n u (pos 1)) 0 n v [] v_in ∙ ap (λ u. unit n u (pos 1)) (zero-add v))
+    entry v v_in =
+        ap (λ (row : List ℤ). number_at row c) (get_or-map-numbers_from (λ u. unit n u (pos 1)) 0 n v [] v_in ∙ ap (λ u. unit n u (pos 1)) (zero-add v))
 
 -- the constants of x - low and of high - x at the low corner
 abbrev pub first_constants : CostBox → List ℤ
@@ -62,8 +62,8 @@ first_long costs =
     let n = length costs.low in
     length-append (map (λ v. pos 0) (numbers_from 0 n)) (map (λ v. pos (slice_index costs.high v) -ℤ pos (slice_index costs.low v)) (numbers_from 0 n))
     ∙ ap (λ (k : ℕ). k + length (map (λ v. pos (slice_index costs.high v) -ℤ pos (slice_index costs.low v))
-    (numbers_from 0 n))) (length-mapped (λ v. pos 0) 0 n)
-    ∙ ap (λ (k : ℕ). n + k) (length-mapped (λ v. pos (slice_index costs.high v) -ℤ pos (slice_index costs.low v)) 0 n)
+    (numbers_from 0 n))) (length-map-numbers_from (λ v. pos 0) 0 n)
+    ∙ ap (λ (k : ℕ). n + k) (length-map-numbers_from (λ v. pos (slice_index costs.high v) -ℤ pos (slice_index costs.low v)) 0 n)
 
 -- they are the values of the box's forms there
 values_first : (costs : CostBox) → map (λ member. value (member_form (length costs.low) [] member) costs.low) (members_of costs 0) ≡ first_constants costs
@@ -75,10 +75,10 @@ values_first costs =
     ap (map at) (append-nil (lows ++ highs))
     ∙ map-append at lows highs
     ∙ ap (λ zs. zs ++ map at highs) (map-map at (low_member costs) (numbers_from 0 n)
-    ∙ mapped_same (λ v. at (low_member costs v)) (λ v. pos 0) 0 n
+    ∙ map-numbers_from-agree (λ v. at (low_member costs v)) (λ v. pos 0) 0 n
     (λ v from v_in. low_value costs.low [] v (omega (arith, v_in))))
     ∙ ap (λ zs. map (λ v. pos 0) (numbers_from 0 n) ++ zs) (map-map at (high_member costs) (numbers_from 0 n)
-    ∙ mapped_same (λ v. at (high_member costs v))
+    ∙ map-numbers_from-agree (λ v. at (high_member costs v))
     (λ v. pos (slice_index costs.high v) -ℤ pos (slice_index costs.low v)) 0 n
     (λ v from v_in. high_value costs.low [] v (slice_index costs.high v) (omega (arith, v_in))))
 
@@ -110,7 +110,7 @@ start_at_basis costs rows box fit =
     record {
       high_count = box.high_count;
       counts = λ k d k_in. (fit k d k_in).count;
-      count = length-mapped (low_member costs) 0 n;
+      count = length-map-numbers_from (low_member costs) 0 n;
       members = all_mapped (IsFormOf costs rows) (low_member costs) n (λ k k_in. (k_in, refl));
       positive = omega arith;
       long = starts_long n 0 n;
@@ -149,10 +149,10 @@ starting_shaped k w room rows_are s =
     let many = members_long k.table.costs (length k.table.rows.items) in
     record {
       room = room;
-      lows = ap length s.lows ∙ length-mapped (λ v. unit n v (pos 1)) 0 n;
+      lows = ap length s.lows ∙ length-map-numbers_from (λ v. unit n v (pos 1)) 0 n;
       each = subst (All (λ (row : List ℤ). length row ≡ n)) (sym s.lows)
           (all_mapped (λ (row : List ℤ). length row ≡ n) (λ v. unit n v (pos 1)) n
-          (λ v v_in. length-mapped (λ j. cond (j == v) (pos 1) (pos 0)) 0 n));
+          (λ v v_in. length-map-numbers_from (λ j. cond (j == v) (pos 1) (pos 0)) 0 n));
       leads = ap length s.leads ∙ length-numbers_from 0 n;
       lead = subst (λ (rows : List (List ℤ)). AreLeads rows k.leads.items) (sym s.lows)
           (subst (AreLeads (map (λ v. unit n v (pos 1)) (numbers_from 0 n))) (sym s.leads) (unit_leads n));

@@ -3,9 +3,10 @@ use Rattle.std.proofs.Common.{◌≡◌, ℕ, zero, suc, ◌+◌, ◌<◌, ◌�
 use Rattle.std.specs.Prelude.{ℤ, pos, ◌==◌, nat_abs, slice_index_or, slice_set}
 use Rattle.std.proofs.lemmas.List.Elements.{All-append}
 use Rattle.cost_base.specs.Lists.{numbers_from}
+use Rattle.cost_base.proofs.ListLemmas.{length-map-numbers_from}
 use Rattle.path_rows.specs.Basis.{unit}
 use Rattle.fraction_rows.proofs.Columns.{same_test, other_test}
-use Rattle.fraction_rows.proofs.FilledRows.{length-mapped, mapped_written}
+use Rattle.fraction_rows.proofs.FilledRows.{mapped_written}
 use Rattle.fraction_table.proofs.StartingTables.{all_mapped}
 use Rattle.integer_pivots.specs.Numbers.{AllWithin}
 
@@ -20,7 +21,7 @@ unit_written zeros new width v v_in zeros_are new_is =
     (λ m from m_in other. ap (λ b. cond b (pos 1) (pos 0)) (other_test m v (λ same. other (same ∙ sym (zero-add v))))))
 
 pub zeros_long : (zeros : List ℤ) (count : ℕ) → zeros ≡ map (λ place. pos 0) (numbers_from 0 count) → length zeros ≡ count
-zeros_long zeros count are = ap length are ∙ length-mapped (λ place. pos 0) 0 count
+zeros_long zeros count are = ap length are ∙ length-map-numbers_from (λ place. pos 0) 0 count
 
 pub zeros_within : (zeros : List ℤ) (most count : ℕ) → zeros ≡ map (λ place. pos 0) (numbers_from 0 count) → AllWithin most zeros
 zeros_within zeros most count are = subst (AllWithin most) (sym are) (all_mapped (λ (z : ℤ). nat_abs z ≤ most) (λ place. pos 0) count (λ k k_in. omega arith))

@@ -2,11 +2,11 @@
 use Rattle.std.proofs.Common.{◌≡◌, ℕ, suc, ◌<◌, refl, sym, ◌∙◌, ap, subst, [], ◌∷◌, map, length, zero-add}
 use Rattle.std.specs.Prelude.{ℤ, pos, nat_abs, slice_index_or}
 use Rattle.std.proofs.lemmas.List.{get_or-map, length-map}
+use Rattle.cost_base.proofs.ListLemmas.{length-map-numbers_from, get_or-map-numbers_from}
 use Rattle.whole_numbers.specs.Fractions.{whole}
 use Rattle.whole_numbers.specs.Lists.{number_at}
 use Rattle.path_rows.specs.Basis.{entry}
 use Rattle.path_rows.specs.Steps.{IsStuck}
-use Rattle.fraction_rows.proofs.FilledRows.{length-mapped, mapped_at}
 use Rattle.fraction_table.specs.Pivots.{line_at}
 use Rattle.fraction_table.proofs.Refuting.{IsStuckLine}
 use Rattle.table_kernel.specs.declared.kernel.Kernel.{Kernel}
@@ -21,7 +21,7 @@ pub line_number : (k : Kernel) (place column : ℕ) → column < width_of k →
     number_at (line_numbers k place) column ≡ number_in (form_in k place) (column_of k column)
 line_number k place column column_in =
     let number : ℕ → ℤ = λ c. number_in (form_in k place) (column_of k c) in
-    mapped_at number 0 (width_of k) column (pos 0) column_in ∙ ap number (zero-add column)
+    get_or-map-numbers_from number 0 (width_of k) column (pos 0) column_in ∙ ap number (zero-add column)
 
 pub stated_line : (k : Kernel) → IsMoving k → (place : ℕ) → place < length k.constants.items →
     line_at (stated k) place ≡ map (over (nat_abs k.common)) (number_at k.constants.items place ∷ line_numbers k place)
@@ -36,14 +36,14 @@ stated_entry k m place column place_in column_in =
     let number : ℕ → ℤ = λ c. number_in (form_in k place) (column_of k c) in
     ap (λ line. entry line (suc column)) (stated_line k m place place_in)
     ∙ get_or-map (over (nat_abs k.common)) (line_numbers k place) column (pos 0) (whole (pos 0))
-    (subst (λ (n : ℕ). column < n) (sym (length-mapped number 0 (width_of k))) column_in)
+    (subst (λ (n : ℕ). column < n) (sym (length-map-numbers_from number 0 (width_of k))) column_in)
     ∙ ap (over (nat_abs k.common)) (line_number k place column column_in)
 
 pub stated_long : (k : Kernel) → IsMoving k → (place : ℕ) → place < length k.constants.items → length (line_at (stated k) place) ≡ suc (width_of k)
 stated_long k m place place_in =
     let number : ℕ → ℤ = λ c. number_in (form_in k place) (column_of k c) in
     ap length (stated_line k m place place_in)
-    ∙ ap suc (length-map (line_numbers k place) (over (nat_abs k.common)) ∙ length-mapped number 0 (width_of k))
+    ∙ ap suc (length-map (line_numbers k place) (over (nat_abs k.common)) ∙ length-map-numbers_from number 0 (width_of k))
 
 -- there is a line for each constant
 pub stated_many : (k : Kernel) → IsMoving k → length (stated k).lines.items ≡ length k.constants.items

@@ -1,9 +1,8 @@
 -- What the turn of a row is given, as it is read.
-use Rattle.std.proofs.Common.{◌≡◌, ℕ, ◌*◌, ◌^◌, ◌<◌, ◌≤◌, sym, ◌∙◌, ap, List, [], length, arith}
+use Rattle.std.proofs.Common.{◌≡◌, ℕ, ◌^◌, ◌<◌, ◌≤◌, sym, ◌∙◌, ap, List, [], length, arith}
 use Rattle.std.specs.Prelude.{ℤ, pos, nat_abs, ◌<ℤ◌, ◌≤ℤ◌, slice_index_or}
-use Rattle.std.proofs.Math.Nat.{mul-le-mul_left, mul-le-mul_right}
-use Rattle.std.proofs.lemmas.Int.{ints}
 use Rattle.std.proofs.lemmas.List.{get_or_default}
+use Rattle.whole_numbers.proofs.Sizes.{factor_most}
 use Rattle.whole_numbers.specs.Lists.{number_at}
 use Rattle.integer_pivots.specs.Numbers.{AllWithin}
 use Rattle.integer_pivots.specs.Turns.{AreSmallTurns}
@@ -11,6 +10,7 @@ use Rattle.integer_pivots.proofs.Sizes.{read, read_number, wider}
 use Rattle.integer_pivots.proofs.Crossings.{item_is}
 use Rattle.table_kernel.specs.declared.kernel.Kernel.{Kernel}
 use Rattle.table_kernel.specs.Turnings.{IsReady}
+use Rattle.table_kernel.proofs.Columns.{reach_within}
 
 pub along_number : (k : Kernel) → IsReady k → (var : ℕ) → var < length k.lows.items → nat_abs (number_at k.along.items var) ≤ 2 ^ 22
 along_number k r var var_in = r.along var (pos 0) (omega (arith, var_in, r.lows))
@@ -52,17 +52,11 @@ row_from_read P k var d w across row columns a holds =
 
 -- the reach is small
 pub reach_small : (k : Kernel) → IsReady k → nat_abs k.reach ≤ 2 ^ 22
-reach_small k r = small k.weight k.reach r.weight r.product
-  where
-    small : (weight reach : ℤ) → pos 1 ≤ℤ weight → nat_abs weight * nat_abs reach ≤ 2 ^ 22 → nat_abs reach ≤ 2 ^ 22
-    small weight reach some product = omega (arith, product, mul-le-mul_right (nat_abs reach) (let e : 1 ≤ nat_abs weight = omega (arith, ints, some) in e))
+reach_small k r = reach_within k.reach k.weight r.weight r.product
 
 -- and so is the weight
 pub weight_small : (k : Kernel) → IsReady k → nat_abs k.weight ≤ 2 ^ 22
-weight_small k r = small k.reach k.weight r.reach r.product
-  where
-    small : (reach weight : ℤ) → pos 1 ≤ℤ reach → nat_abs weight * nat_abs reach ≤ 2 ^ 22 → nat_abs weight ≤ 2 ^ 22
-    small reach weight some product = omega (arith, product, mul-le-mul_left (nat_abs weight) (let e : 1 ≤ nat_abs reach = omega (arith, ints, some) in e))
+weight_small k r = factor_most k.reach k.weight (2 ^ 22) r.reach r.product
 
 -- the turns of a row of a kernel are small
 pub row_small : (k : Kernel) (p : ℤ) (var : ℕ) → IsReady k → (pos 0 <ℤ p) × (p ≤ℤ pos (2 ^ 22)) →

@@ -3,11 +3,11 @@ use Rattle.std.specs.declared.alloc.Global.{Global}
 use Rattle.std.proofs.Common.{Vec, ◌≡◌, ℕ, ◌^◌, ◌<◌, ◌≤◌, sym, ◌∙◌, ap, subst, List, [], length, arith, zero-add}
 use Rattle.std.specs.Prelude.{ℤ, pos, ◌≤ℤ◌, nat_abs, slice_index_or, slice_set, vec_capacity, All}
 use Rattle.std.proofs.lemmas.List.{get_or-map}
+use Rattle.cost_base.proofs.ListLemmas.{get_or-map-numbers_from}
 use Rattle.whole_numbers.specs.Lists.{number_at}
 use Rattle.path_rows.specs.declared.tree.Member.{Member}
 use Rattle.path_rows.specs.declared.tree.Member.TheVariants.{Low}
 use Rattle.path_rows.specs.Basis.{member_form}
-use Rattle.fraction_rows.proofs.FilledRows.{mapped_at}
 use Rattle.fraction_table.specs.declared.table.Table.{Table}
 use Rattle.fraction_table.specs.Pivots.{member_at}
 use Rattle.fraction_table.specs.Wholes.{members_of}
@@ -29,7 +29,7 @@ line_within k place m place_in line_is c d c_in =
     let inside : c < width_of k = omega (arith, c_in, m.shaped.line) in
     let is : slice_index_or k.line.items c d ≡ number_in (form_in k place) (column_of k c) =
     ap (λ (zs : List ℤ). slice_index_or zs c d) line_is
-    ∙ mapped_at (λ i. number_in (form_in k place) (column_of k i)) 0 (width_of k) c d inside
+    ∙ get_or-map-numbers_from (λ i. number_in (form_in k place) (column_of k i)) 0 (width_of k) c d inside
     ∙ ap (λ i. number_in (form_in k place) (column_of k i)) (zero-add c) in
     subst (λ (z : ℤ). nat_abs z ≤ 2 ^ 22) (sym is) (place_number_within k m.shaped m.bounded place place_in c)
 

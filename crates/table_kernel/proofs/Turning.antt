@@ -1,7 +1,7 @@
 -- The basis after a pivot of a kernel, with the turned numbers over the pivot's number.
-use Rattle.std.proofs.Common.{◌≡◌, ◌≢◌, ℕ, suc, ◌*◌, ◌<◌, ◌≤◌, refl, sym, ◌∙◌, ap, subst, List, [], ◌∷◌, map, length, arith, inl, inr, get_or-set_same, get_or-set_other}
+use Rattle.std.proofs.Common.{◌≡◌, ℕ, suc, ◌*◌, ◌<◌, ◌≤◌, refl, sym, ◌∙◌, ap, subst, List, [], ◌∷◌, map, length, arith, inl, inr, get_or-set_same, get_or-set_other}
 use Rattle.std.specs.Prelude.{ℤ, pos, ◌-ℤ◌, ◌*ℤ◌, slice_index_or, slice_set, All}
-use Rattle.std.proofs.Math.Nat.{mul_comm}
+use Rattle.std.proofs.Math.Nat.{mul_comm, suc_inj}
 use Rattle.std.proofs.lemmas.Bool.{cases_eq}
 use Rattle.std.proofs.lemmas.List.{ext_get_or, get_or-map, length-map, length-set, map-set}
 use Rattle.std.proofs.lemmas.List.Elements.{All-set}
@@ -11,10 +11,8 @@ use Rattle.whole_numbers.specs.Lists.{number_at}
 use Rattle.path_rows.specs.declared.form.Form.{Form}
 use Rattle.path_rows.specs.declared.form.CostBox.{CostBox}
 use Rattle.path_rows.specs.declared.tree.Member.{Member}
-use Rattle.path_rows.specs.declared.tree.Member.TheVariants.{Low, High, Row}
 use Rattle.path_rows.specs.Basis.{IsFormOf, IsMixture, forms_of, member_form}
 use Rattle.path_rows.specs.Forms.{no_form}
-use Rattle.fraction_rows.proofs.FilledRows.{length-mapped}
 use Rattle.fraction_table.specs.Pivots.{IsLeast}
 use Rattle.fraction_table.specs.Wholes.{AllLong, low_forms, number_of, numbers_of}
 use Rattle.fraction_table.proofs.theory.Blends.{form_mixture}
@@ -23,17 +21,10 @@ use Rattle.fraction_table.proofs.theory.Resolved.{resolved}
 use Rattle.fraction_table.proofs.theory.TurnedLeads.{leads_turned}
 use Rattle.fraction_table.proofs.theory.TurnedNumbers.{IsEntry, elsewhere_turned, long_turned, mixtures_turned, numbers_at, numbers_long, own_turned}
 use Rattle.fraction_table.proofs.theory.Turns.{number_other, turned_rows}
+use Rattle.fraction_table.proofs.WholeTurns.{form_long}
 use Rattle.integer_pivots.specs.Turns.{IsTurned, IsTurnedRow, turn_of}
 use Rattle.table_kernel.specs.Numbers.{lows_by}
 use Rattle.table_kernel.proofs.AtBasis.{AreAtBasis, number_up, scaled_by, scaled_down}
-
--- a form of the box has a coefficient for each variable
-pub form_long : (costs : CostBox) (rows : List Form) (member : Member) →
-    All (λ f. length f.coefficients ≡ length costs.low) rows → IsFormOf costs rows member →
-    length (member_form (length costs.low) rows member).coefficients ≡ length costs.low
-form_long costs rows (Low v bound) counts is = length-mapped _ 0 (length costs.low)
-form_long costs rows (High v bound) counts is = length-mapped _ 0 (length costs.low)
-form_long costs rows (Row row) counts is = counts row no_form is
 
 -- What a pivot needs: the form of a member enters at a column in which it has a positive number, and which is the least
 -- of those.
@@ -87,11 +78,8 @@ basis_turned costs rows basis D lows entering j a b p =
       elsewhere = rw forms_are (elsewhere_turned n D a costs.low lows bs f rs j entry_is as_many b.elsewhere);
       lead = leads_turned n a D lows rs (slice_index_or bs j no_form).coefficients j counted long at_j p.positive
           b.positive p.j_in (b.own j p.j_in)
-          (λ k k_in other. b.elsewhere j (suc k) p.j_in (omega (arith, k_in)) (next_apart other)) p.least b.lead;
+          (λ k k_in other. b.elsewhere j (suc k) p.j_in (omega (arith, k_in)) (λ h. other (suc_inj h))) p.least b.lead;
     }
-  where
-    next_apart : {x y : ℕ} → x ≢ y → suc x ≢ suc y
-    next_apart {x} {y} apart h = apart (omega (arith, h))
 
 -- and with numbers over the new one alone, of which the turned ones are multiples
 pub basis_after : (costs : CostBox) (rows : List Form) (basis : List Member) (D : ℕ) (lows news : List (List ℤ))

@@ -1,7 +1,6 @@
 //! One more row: its form, and its constant at the present basis.
-ghost use Rattle.std.specs.Prelude.{◌≡◌, ◌⊎◌, ◌^◌, ◌*◌, ◌<◌, ◌≤◌, ◌↔◌, pos, ◌*ℤ◌, ◌≤ℤ◌, ◌∷◌, [], ◌++◌, nat_abs, length, map, All, IfOk, IsTrue, OnOk};
-ghost use Rattle.cost_base.specs.Lists.{numbers_from};
-ghost use Rattle.fraction_rows.specs.TableRows.{nothing};
+ghost use Rattle.std.specs.Prelude.{◌≡◌, ◌⊎◌, ◌^◌, ◌*◌, ◌<◌, ◌≤◌, ◌↔◌, pos, ◌*ℤ◌, ◌≤ℤ◌, ◌∷◌, [], ◌++◌, nat_abs, length, All, IfOk, IsTrue, OnOk};
+ghost use Rattle.fraction_rows.specs.TableRows.{blank_row};
 ghost use Rattle.fraction_table.specs.RowLines.{HoldsSame};
 ghost use Rattle.fraction_table.specs.Tableaus.{FitsBox};
 ghost use Rattle.fraction_table.specs.Wholes.{held_of};
@@ -110,7 +109,7 @@ impl Kernel {
         ensures kernel { IsKernel self.old → IsKernel self.new }
         ensures place { OnOk result (HasRowPlace self.new) }
         ensures form { IfOk result (λ row. row.form ≡ form.now) }
-        ensures blank { IfOk result (λ row. row.line ≡ nothing ∷ map (λ column. nothing) (numbers_from 0 (length self.old.table.costs.low))) }
+        ensures blank { IfOk result (λ row. row.line ≡ blank_row (length self.old.table.costs.low)) }
     {
         if self.constants.reserve(1).is_err() {
             return Err(OutOfMemory);
@@ -141,7 +140,7 @@ impl Kernel {
         requires place { HasRowPlace self.old }
         requires fits { FitsBox self.old.table.costs row.form }
         requires covered { IsCovered self.old row.form }
-        requires blank { row.line ≡ nothing ∷ map (λ column. nothing) (numbers_from 0 (width_of self.old)) }
+        requires blank { row.line ≡ blank_row (width_of self.old) }
         ensures kernel { IsKernel self.new }
         ensures held { held_of self.new.table Open ≡
             record {

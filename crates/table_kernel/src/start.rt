@@ -1,5 +1,5 @@
 //! The kernel of a box without rows.
-ghost use Rattle.std.specs.Prelude.{◌≡◌, ◌^◌, ◌<◌, ◌≤◌, ◌++◌, [], ◌∷◌, pos, ◌-ℤ◌, length, map, slice_index, vec_capacity, IfOk, OnOk};
+ghost use Rattle.std.specs.Prelude.{◌≡◌, ◌^◌, ◌<◌, ◌≤◌, ◌++◌, [], pos, ◌-ℤ◌, length, map, slice_index, vec_capacity, IfOk};
 ghost use Rattle.cost_base.specs.Lists.{numbers_from};
 ghost use Rattle.path_rows.specs.Basis.{unit};
 ghost use Rattle.path_rows.specs.Boxes.{IsBox};
@@ -17,23 +17,13 @@ use path_rows::CostBox;
 use std::alloc::Global;
 use wide_fraction::Top;
 
-/// Puts a number at the end of a list.
-fn push(list: &mut Vec<i64>, number: i64) -> Result<(), OutOfMemory>
-    ensures { OnOk result (list.new.items ≡ list.old.items ++ number ∷ []) }
-{
-    match list.push(number) {
-        Ok(()) => Ok(()),
-        Err(_) => Err(OutOfMemory),
-    }
-}
-
 /// A list of zeros.
 fn zeros(alloc: Global, count: usize) -> Result<Vec<i64>, OutOfMemory>
     ensures { IfOk result (λ list. list.items ≡ map (λ place. pos 0) (numbers_from 0 count)) }
 {
     let mut list = Vec::new(alloc);
     for _ in 0..count {
-        push(&mut list, 0)?;
+        list.push(0)?;
     }
     Ok(list)
 }
@@ -42,10 +32,7 @@ fn zeros(alloc: Global, count: usize) -> Result<Vec<i64>, OutOfMemory>
 fn room_of(alloc: Global, width: usize) -> Result<Vec<usize>, OutOfMemory>
     ensures { IfOk result (λ room. width ≤ vec_capacity room) }
 {
-    match Vec::with_capacity(alloc, width) {
-        Ok(room) => Ok(room),
-        Err(_) => Err(OutOfMemory),
-    }
+    Ok(Vec::with_capacity(alloc, width)?)
 }
 
 /// A list of zeros with a 1 at one place.
@@ -64,10 +51,7 @@ fn unit_rows(alloc: Global, width: usize) -> Result<Vec<Listed<i64>>, OutOfMemor
 {
     let mut columns = Vec::new(alloc);
     for var in 0..width {
-        match columns.push(unit_row(alloc, width, var)?) {
-            Ok(()) => {}
-            Err(_) => return Err(OutOfMemory),
-        }
+        columns.push(unit_row(alloc, width, var)?)?;
     }
     Ok(columns)
 }
@@ -78,10 +62,7 @@ fn unit_leads(alloc: Global, width: usize) -> Result<Vec<usize>, OutOfMemory>
 {
     let mut leads = Vec::new(alloc);
     for var in 0..width {
-        match leads.push(var) {
-            Ok(()) => {}
-            Err(_) => return Err(OutOfMemory),
-        }
+        leads.push(var)?;
     }
     Ok(leads)
 }
@@ -98,7 +79,7 @@ fn bound_constants(alloc: Global, costs: &CostBox) -> Result<Vec<i64>, OutOfMemo
     let high = costs.high.as_slice();
     let mut constants = zeros(alloc, low.len())?;
     for var in 0..low.len() {
-        push(&mut constants, range_of(low[var], high[var]))?;
+        constants.push(range_of(low[var], high[var]))?;
     }
     Ok(constants)
 }

@@ -37,16 +37,10 @@ pub listed_at : (ts : List ℤ) → map (number_at ts) (numbers_from 0 (length t
 listed_at [] = refl
 listed_at (t ∷ ts) = ap (λ zs. t ∷ zs) (shifted (number_at (t ∷ ts)) 0 (length ts) ∙ listed_at ts)
 
--- a coordinate of the sum of the forms, each times its coefficient
-abbrev pub blend_at : List ℤ → List Form → ℕ → ℤ
-blend_at [] gs i = pos 0
-blend_at (c ∷ cs) [] i = pos 0
-blend_at (c ∷ cs) (g ∷ gs) i = (c *ℤ coordinate g i) +ℤ blend_at cs gs i
-
 -- the sum of forms is the mixture by the sums of their numbers
 pub lows_mixture : (D n : ℕ) (cs : List ℤ) (gs : List Form) (rows : List (List ℤ)) (basis : List Form) (i : ℕ) →
     AllLong n rows → AreMixtures D basis gs rows →
-    (pos D *ℤ blend_at cs gs i) ≡ mixture (map (from_lows cs rows) (numbers_from 0 n)) (one_form ∷ basis) i
+    (pos D *ℤ mixture cs gs i) ≡ mixture (map (from_lows cs rows) (numbers_from 0 n)) (one_form ∷ basis) i
 lows_mixture D n [] gs rows basis i long are =
     ring (pos D ∷ []) (var 0 ⊗ num (pos 0)) (num (pos 0)) refl ∙ sym (mixture_none 0 n (one_form ∷ basis) i)
 lows_mixture D n (c ∷ cs) [] [] basis i long are =
@@ -58,7 +52,7 @@ lows_mixture D n (c ∷ cs) (g ∷ gs) (ts ∷ rows) basis i long are =
     let own : mixture (map (number_at ts) (numbers_from 0 n)) (one_form ∷ basis) i ≡ mixture ts (one_form ∷ basis) i =
     ap (λ m. mixture (map (number_at ts) (numbers_from 0 m)) (one_form ∷ basis) i) (sym long.0) ∙ ap (λ zs. mixture zs (one_form ∷ basis) i) (listed_at ts) in
     let first : (pos D *ℤ coordinate g i) ≡ mixture (map (number_at ts) (numbers_from 0 n)) (one_form ∷ basis) i = are.0 i ∙ sym own in
-    ring_by (pos D ∷ c ∷ coordinate g i ∷ blend_at cs gs i ∷ mixture (map (number_at ts) (numbers_from 0 n))
+    ring_by (pos D ∷ c ∷ coordinate g i ∷ mixture cs gs i ∷ mixture (map (number_at ts) (numbers_from 0 n))
     (one_form ∷ basis) i ∷ mixture (map (from_lows cs rows) (numbers_from 0 n)) (one_form ∷ basis) i ∷ [])
     (var 0 ⊗ (var 1 ⊗ var 2 ⊕ var 3)) (var 1 ⊗ var 4 ⊕ var 5)
     (using (var 1) (var 0 ⊗ var 2) (var 4) first (using (num (pos 1)) (var 0 ⊗ var 3) (var 5) rest nothing)) refl
@@ -67,14 +61,14 @@ lows_mixture D n (c ∷ cs) (g ∷ gs) (ts ∷ rows) basis i long are =
 -- A form that is its value at the low corner plus the blend of the forms x - low is the mixture by its own numbers.
 pub form_mixture : (D n : ℕ) (low : List ℕ) (gs : List Form) (rows : List (List ℤ)) (basis : List Form) (f : Form) →
     AllLong (suc n) rows → AreMixtures D basis gs rows →
-    ((i : ℕ) → coordinate f i ≡ ((value f low *ℤ coordinate one_form i) +ℤ blend_at f.coefficients gs i)) →
+    ((i : ℕ) → coordinate f i ≡ ((value f low *ℤ coordinate one_form i) +ℤ mixture f.coefficients gs i)) →
     IsMixture f basis D (numbers_of n D low rows f)
 form_mixture D n low gs rows basis f long are resolved i =
     let others = map (from_lows f.coefficients rows) (numbers_from 1 n) in
     let rest : mixture (map (number_of D low rows f) (numbers_from 1 n)) basis i ≡ mixture others basis i =
     ap (λ zs. mixture zs basis i) (shifted (number_of D low rows f) 0 n ∙ sym (shifted (from_lows f.coefficients rows) 0 n)) in
     ap (λ z. pos D *ℤ z) (resolved i)
-    ∙ ring_by (pos D ∷ value f low ∷ coordinate one_form i ∷ blend_at f.coefficients gs i ∷ from_lows f.coefficients rows 0 ∷ mixture others basis i ∷ [])
+    ∙ ring_by (pos D ∷ value f low ∷ coordinate one_form i ∷ mixture f.coefficients gs i ∷ from_lows f.coefficients rows 0 ∷ mixture others basis i ∷ [])
     (var 0 ⊗ (var 1 ⊗ var 2 ⊕ var 3)) ((var 0 ⊗ var 1 ⊕ var 4) ⊗ var 2 ⊕ var 5)
     (using (num (pos 1)) (var 0 ⊗ var 3) (var 4 ⊗ var 2 ⊕ var 5) (lows_mixture D (suc n) f.coefficients gs rows basis i long are) nothing) refl
     ∙ ap (λ z. (((pos D *ℤ value f low) +ℤ from_lows f.coefficients rows 0) *ℤ coordinate one_form i) +ℤ z) (sym rest)

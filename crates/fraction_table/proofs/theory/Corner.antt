@@ -2,12 +2,13 @@
 use Rattle.std.proofs.Common.{◌≡◌, ℕ, suc, ◌<◌, refl, sym, ap, List, [], ◌∷◌, map, length, inl, inr, arith}
 use Rattle.std.specs.Prelude.{ℤ, pos, negsuc, ◌+ℤ◌, ◌-ℤ◌, ◌*ℤ◌, ◌<ℤ◌, ◌≤ℤ◌}
 use Rattle.std.proofs.lemmas.Int.{ints}
+use Rattle.std.proofs.lemmas.List.Elements.{All-tail}
 use Rattle.whole_numbers.proofs.Orders.{negative_factor, negative_product, opposite_product}
 use Rattle.whole_numbers.proofs.Ring.{var, num, ◌⊕◌, ◌⊗◌, ring}
 use Rattle.area_graph.specs.declared.Point.{Point}
 use Rattle.whole_numbers.specs.Lists.{number_at}
 use Rattle.path_rows.specs.declared.form.Form.{Form}
-use Rattle.path_rows.specs.Forms.{value_at}
+use Rattle.path_rows.specs.Forms.{AreMet, value_at}
 use Rattle.path_rows.specs.Basis.{one_form, IsMixture, LeadsPositive}
 use Rattle.path_rows.specs.Earnest.{LexLess}
 use Rattle.fraction_table.specs.Pivots.{LeadsNoNegative}
@@ -18,29 +19,25 @@ abbrev pub NotAbove : List ℤ → Type 0
 NotAbove [] = Unit {0}
 NotAbove (z ∷ zs) = (z ≤ℤ pos 0) × NotAbove zs
 
--- each form is at least 0 at the point
-abbrev pub MetAt : List Form → Point → Type 0
-MetAt [] p = Unit {0}
-MetAt (f ∷ fs) p = (pos 0 ≤ℤ value_at f p) × MetAt fs p
-
-sum_low : (a b : ℤ) → a ≤ℤ pos 0 → b ≤ℤ pos 0 → (a +ℤ b) ≤ℤ pos 0
+pub sum_low : (a b : ℤ) → a ≤ℤ pos 0 → b ≤ℤ pos 0 → (a +ℤ b) ≤ℤ pos 0
 sum_low a b first second = omega (arith, ints)
 
-sum_negative : (a b : ℤ) → a <ℤ pos 0 → b ≤ℤ pos 0 → (a +ℤ b) <ℤ pos 0
+pub sum_negative : (a b : ℤ) → a <ℤ pos 0 → b ≤ℤ pos 0 → (a +ℤ b) <ℤ pos 0
 sum_negative a b first second = omega (arith, ints)
 
-mixed_low : (ms : List ℤ) (fs : List Form) (p : Point) → NotAbove ms → MetAt fs p → mixed_at ms fs p ≤ℤ pos 0
+mixed_low : (ms : List ℤ) (fs : List Form) (p : Point) → NotAbove ms → AreMet fs p → mixed_at ms fs p ≤ℤ pos 0
 mixed_low [] fs p low met = omega (arith, ints)
 mixed_low (m ∷ ms) [] p low met = omega (arith, ints)
 mixed_low (m ∷ ms) (f ∷ fs) p low met =
-    sum_low (m *ℤ value_at f p) (mixed_at ms fs p) (opposite_product m (value_at f p) low.0 met.0) (mixed_low ms fs p low.1 met.1)
+    sum_low (m *ℤ value_at f p) (mixed_at ms fs p) (opposite_product m (value_at f p) low.0 (met 0 f (omega arith)))
+    (mixed_low ms fs p low.1 (All-tail (λ g. pos 0 ≤ℤ value_at g p) f fs met))
 
 pub one_value : (p : Point) → value_at one_form p ≡ pos p.scale
 one_value p = ring (pos p.scale ∷ []) (num (pos 1) ⊗ var 0 ⊕ num (pos 0)) (var 0) refl
 
 -- A form whose constant is negative and none of whose other entries is positive is negative wherever the basis is met.
 pub stuck_negative : (r : Form) (basis : List Form) (D : ℕ) (m : ℤ) (ms : List ℤ) (p : Point) →
-    IsMixture r basis D (m ∷ ms) → m <ℤ pos 0 → NotAbove ms → MetAt basis p → 0 < p.scale → value_at r p <ℤ pos 0
+    IsMixture r basis D (m ∷ ms) → m <ℤ pos 0 → NotAbove ms → AreMet basis p → 0 < p.scale → value_at r p <ℤ pos 0
 stuck_negative r basis D m ms p is below low met scale_positive =
     negative_factor D (value_at r p)
     (rw (equation_at r basis D (m ∷ ms) p is)

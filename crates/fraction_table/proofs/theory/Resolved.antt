@@ -4,24 +4,24 @@ use Rattle.std.proofs.Common.{◌≡◌, ◌≢◌, ℕ, zero, suc, ◌+◌, ◌
 use Rattle.std.specs.Prelude.{ℤ, pos, ◌+ℤ◌, ◌*ℤ◌, neg_ℤ, ◌==◌, slice_index_or, All}
 use Rattle.std.proofs.lemmas.Bool.{cases_lt}
 use Rattle.std.proofs.lemmas.List.{get_or_past}
+use Rattle.cost_base.proofs.ListLemmas.{length-map-numbers_from, get_or-map-numbers_from}
 use Rattle.whole_numbers.specs.Fractions.{Fraction, IsLowest}
 use Rattle.whole_numbers.proofs.Ring.{var, num, ◌⊕◌, ◌⊗◌, neg, ring}
 use Rattle.path_rows.specs.declared.form.Form.{Form}
 use Rattle.path_rows.specs.Forms.{dot, value}
-use Rattle.path_rows.specs.Basis.{AreEntries, coordinate, one_form, unit}
+use Rattle.path_rows.specs.Basis.{AreEntries, coordinate, mixture, one_form, unit}
 use Rattle.fraction_rows.specs.TableRows.{AreNumbers}
 use Rattle.fraction_table.specs.Wholes.{number_of, numbers_of, AllLong, AreMixtures, low_forms, Stand}
 use Rattle.fraction_rows.proofs.Columns.{same_test, other_test}
-use Rattle.fraction_rows.proofs.FilledRows.{length-mapped, mapped_at}
-use Rattle.fraction_table.proofs.theory.Blends.{blend_at, form_mixture}
+use Rattle.fraction_table.proofs.theory.Blends.{form_mixture}
 
 unit_at : (n own u : ℕ) → u < n → slice_index_or (unit n own (pos 1)) u (pos 0) ≡ cond (u == own) (pos 1) (pos 0)
 unit_at n own u u_in =
-    mapped_at (λ k. cond (k == own) (pos 1) (pos 0)) 0 n u (pos 0) u_in ∙ ap (λ k. cond (k == own) (pos 1) (pos 0)) (zero-add u)
+    get_or-map-numbers_from (λ k. cond (k == own) (pos 1) (pos 0)) 0 n u (pos 0) u_in ∙ ap (λ k. cond (k == own) (pos 1) (pos 0)) (zero-add u)
 
 unit_past : (n own u : ℕ) → n ≤ u → slice_index_or (unit n own (pos 1)) u (pos 0) ≡ pos 0
 unit_past n own u past =
-    let counted = length-mapped (λ k. cond (k == own) (pos 1) (pos 0)) 0 n in
+    let counted = length-map-numbers_from (λ k. cond (k == own) (pos 1) (pos 0)) 0 n in
     get_or_past (unit n own (pos 1)) u (pos 0) (omega arith)
 
 pub unit_same : (n own : ℕ) → own < n → slice_index_or (unit n own (pos 1)) own (pos 0) ≡ pos 1
@@ -34,7 +34,7 @@ unit_other n own u other =
       | inr past ↦ unit_past n own u past
     ]
 
-blend_constant : (n a : ℕ) (cs : List ℤ) (ls : List ℕ) → blend_at cs (low_forms n a ls) 0 ≡ neg_ℤ (dot cs ls)
+blend_constant : (n a : ℕ) (cs : List ℤ) (ls : List ℕ) → mixture cs (low_forms n a ls) 0 ≡ neg_ℤ (dot cs ls)
 blend_constant n a [] ls = refl
 blend_constant n a (c ∷ cs) [] = refl
 blend_constant n a (c ∷ cs) (l ∷ ls) =
@@ -44,7 +44,7 @@ blend_constant n a (c ∷ cs) (l ∷ ls) =
 no_term : (c z : ℤ) → z ≡ pos 0 → ((c *ℤ z) +ℤ pos 0) ≡ pos 0
 no_term c z e = ap (λ w. (c *ℤ w) +ℤ pos 0) e ∙ ring (c ∷ []) (var 0 ⊗ num (pos 0) ⊕ num (pos 0)) (num (pos 0)) refl
 
-blend_before : (n a u : ℕ) (cs : List ℤ) (ls : List ℕ) → u < a → blend_at cs (low_forms n a ls) (suc u) ≡ pos 0
+blend_before : (n a u : ℕ) (cs : List ℤ) (ls : List ℕ) → u < a → mixture cs (low_forms n a ls) (suc u) ≡ pos 0
 blend_before n a u [] ls before = refl
 blend_before n a u (c ∷ cs) [] before = refl
 blend_before n a u (c ∷ cs) (l ∷ ls) before =
@@ -56,7 +56,7 @@ blend_before n a u (c ∷ cs) (l ∷ ls) before =
 
 -- at a variable the blend has that variable's coefficient
 blend_there : (n a k u : ℕ) (cs : List ℤ) (ls : List ℕ) → length cs ≡ length ls → a + length cs ≤ n → u ≡ a + k →
-    blend_at cs (low_forms n a ls) (suc u) ≡ slice_index_or cs k (pos 0)
+    mixture cs (low_forms n a ls) (suc u) ≡ slice_index_or cs k (pos 0)
 blend_there n a k u [] ls same fits there = refl
 blend_there n a k u (c ∷ cs) [] same fits there = absurd (omega arith)
 blend_there n a zero u (c ∷ cs) (l ∷ ls) same fits there =
@@ -74,7 +74,7 @@ blend_there n a (suc k) u (c ∷ cs) (l ∷ ls) same fits there =
 
 -- a form at each coordinate: its value at the low corner, and the blend of the forms x - low
 pub resolved : (low : List ℕ) (f : Form) → length f.coefficients ≡ length low → (i : ℕ) →
-    coordinate f i ≡ ((value f low *ℤ coordinate one_form i) +ℤ blend_at f.coefficients
+    coordinate f i ≡ ((value f low *ℤ coordinate one_form i) +ℤ mixture f.coefficients
     (low_forms (length low) 0 low) i)
 resolved low f same zero =
     ring (f.constant ∷ dot f.coefficients low ∷ []) (var 0) ((var 0 ⊕ var 1) ⊗ num (pos 1) ⊕ neg (var 1)) refl
@@ -102,7 +102,7 @@ pub are_entries : (top D : ℕ) (low : List ℕ) (rows : List (List ℤ)) (basis
 are_entries top D low rows basis f entries positive as_many same long are numbers stand =
     record {
       count = stand_length D entries (numbers_of (length low) D low rows f) stand
-          ∙ ap suc (length-mapped (number_of D low rows f) 1 (length low) ∙ sym as_many);
+          ∙ ap suc (length-map-numbers_from (number_of D low rows f) 1 (length low) ∙ sym as_many);
       lowest = all_lowest top entries numbers;
       common = D;
       positive = positive;

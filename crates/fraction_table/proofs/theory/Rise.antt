@@ -11,15 +11,15 @@ pub length-scaled : (k : ℕ) (zs : List ℤ) → length (scaled k zs) ≡ lengt
 length-scaled k [] = refl
 length-scaled k (z ∷ zs) = ap suc (length-scaled k zs)
 
+opposite : (c v : ℤ) → (c +ℤ v) ≡ pos 0 → c ≡ neg_ℤ v
+opposite c v h = omega (arith, ints)
+
 -- where b isn't positive, that is a sum of multiples
 turned_low : (a : ℕ) (xs : List ℤ) (u : ℕ) (b : ℤ) (ys : List ℤ) → (b +ℤ pos u) ≡ pos 0 → turned_column a xs b ys ≡ summed (scaled a xs) (scaled u ys)
 turned_low a [] u b ys e = refl
 turned_low a (x ∷ xs) u b [] e = refl
 turned_low a (x ∷ xs) u b (y ∷ ys) e = cc (turned_low a xs u b ys e, first)
   where
-    opposite : (c v : ℤ) → (c +ℤ v) ≡ pos 0 → c ≡ neg_ℤ v
-    opposite c v h = omega (arith, ints)
-
     first : ((pos a *ℤ x) -ℤ (b *ℤ y)) ≡ ((pos a *ℤ x) +ℤ (pos u *ℤ y))
     first = rw (opposite b (pos u) e) (ring (pos a ∷ x ∷ pos u ∷ y ∷ []) ((var 0 ⊗ var 1) ⊖ (neg (var 2) ⊗ var 3)) ((var 0 ⊗ var 1) ⊕ (var 2 ⊗ var 3)) refl)
 
@@ -44,9 +44,6 @@ rise_is D a [] u b (y ∷ ys) e same = absurd (omega arith)
 rise_is D a (x ∷ xs) u b [] e same = absurd (omega arith)
 rise_is D a (x ∷ xs) u b (y ∷ ys) e same = cc (rise_is D a xs u b ys e (omega arith), first)
   where
-    opposite : (c v : ℤ) → (c +ℤ v) ≡ pos 0 → c ≡ neg_ℤ v
-    opposite c v h = omega (arith, ints)
-
     first : ((pos D *ℤ ((pos a *ℤ x) -ℤ (b *ℤ y))) -ℤ ((pos D *ℤ pos a) *ℤ x)) ≡ (pos (D * u) *ℤ y)
     first = rw (opposite b (pos u) e)
         (ring (pos D ∷ pos a ∷ x ∷ pos u ∷ y ∷ [])

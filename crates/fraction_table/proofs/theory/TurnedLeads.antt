@@ -1,6 +1,7 @@
 -- The columns of x - low lead positive after a pivot whose column was chosen as the least.
 use Rattle.std.proofs.Common.{◌≡◌, ◌≢◌, ℕ, zero, suc, ◌*◌, ◌<◌, ◌⊎◌, refl, sym, ◌∙◌, ap, subst, List, [], ◌∷◌, length, arith, inl, inr}
 use Rattle.std.specs.Prelude.{ℤ, pos, negsuc, ◌+ℤ◌, ◌-ℤ◌, ◌*ℤ◌, ◌<ℤ◌}
+use Rattle.std.proofs.Math.Nat.{suc_inj}
 use Rattle.std.proofs.lemmas.Bool.{cases_eq}
 use Rattle.std.proofs.lemmas.Int.{ints}
 use Rattle.whole_numbers.proofs.Ring.{var, num, ◌⊕◌, ◌⊖◌, ◌⊗◌, ring, ring_by, using, nothing}
@@ -107,13 +108,10 @@ leads_turned n a D lows rs cs j counted long at_j a_positive D_positive j_in own
           (subst LeadsPositive (sym (column_same D lows rs (suc j) long (omega (arith, counted))))
           (scaled_leads D (numbers_in (suc j) lows) D_positive (lead j j_in)))
       | inr other ↦
-          subst LeadsPositive (sym (column_other a D lows rs (suc j) (suc k) long at_j (next_apart other) (omega (arith, counted))))
+          subst LeadsPositive (sym (column_other a D lows rs (suc j) (suc k) long at_j (λ h. other (suc_inj h)) (omega (arith, counted))))
           (by_sign (number_at rs (suc k)) (LeadsPositive (turned_column a (numbers_in (suc k) lows) (number_at rs (suc k)) (numbers_in (suc j) lows)))
           (λ u low. turned_leads a (numbers_in (suc k) lows) u (number_at rs (suc k)) (numbers_in (suc j) lows)
           a_positive low (length-numbers_in (suc k) lows (suc j)) (lead k k_in) (lead j j_in))
           (λ high. least_leads a D (number_at rs (suc k)) (suc k) (suc j) cs lows D_positive high own
           (elsewhere k k_in other) (least k k_in other a at_j high)))
     ]
-  where
-    next_apart : {x y : ℕ} → x ≢ y → suc x ≢ suc y
-    next_apart {x} {y} apart h = apart (omega (arith, h))

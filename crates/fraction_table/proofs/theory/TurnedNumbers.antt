@@ -2,27 +2,28 @@
 -- basis' forms are their own.
 use Rattle.std.proofs.Common.{◌≡◌, ◌≢◌, ℕ, suc, ◌+◌, ◌*◌, ◌<◌, ◌≤◌, refl, sym, ◌∙◌, ap, subst, List, [], ◌∷◌, map, length, arith, inl, inr, zero-add, get_or-set_same, get_or-set_other}
 use Rattle.std.specs.Prelude.{ℤ, pos, ◌-ℤ◌, ◌*ℤ◌, slice_index_or, slice_set}
+use Rattle.std.proofs.Math.Nat.{suc_inj}
 use Rattle.std.proofs.lemmas.Bool.{cases_eq}
 use Rattle.std.proofs.lemmas.List.{length-set}
 use Rattle.cost_base.specs.Lists.{numbers_from}
+use Rattle.cost_base.proofs.ListLemmas.{length-map-numbers_from, get_or-map-numbers_from, map-numbers_from-agree}
 use Rattle.whole_numbers.proofs.Ring.{var, ◌⊗◌, ring}
 use Rattle.whole_numbers.specs.Lists.{number_at}
 use Rattle.path_rows.specs.declared.form.Form.{Form}
 use Rattle.path_rows.specs.Forms.{no_form}
 use Rattle.path_rows.specs.Basis.{IsMixture}
 use Rattle.fraction_table.specs.Wholes.{AllLong, AreMixtures, number_of, numbers_of}
-use Rattle.fraction_rows.proofs.FilledRows.{length-mapped, mapped_at, mapped_same}
 use Rattle.fraction_table.proofs.theory.Blends.{listed_at}
 use Rattle.fraction_table.proofs.theory.Pivot.{turned, crossed, length-crossed, pivot_keeps}
 use Rattle.fraction_table.proofs.theory.Turns.{turned_rows, turned_other, turned_same, number_other, number_same, stays, enters}
 
 pub numbers_long : (n D : ℕ) (low : List ℕ) (lows : List (List ℤ)) (f : Form) → length (numbers_of n D low lows f) ≡ suc n
-numbers_long n D low lows f = length-mapped (number_of D low lows f) 0 (suc n)
+numbers_long n D low lows f = length-map-numbers_from (number_of D low lows f) 0 (suc n)
 
 pub numbers_at : (n D : ℕ) (low : List ℕ) (lows : List (List ℤ)) (f : Form) (place : ℕ) → place < suc n →
     number_at (numbers_of n D low lows f) place ≡ number_of D low lows f place
 numbers_at n D low lows f place place_in =
-    mapped_at (number_of D low lows f) 0 (suc n) place (pos 0) place_in ∙ ap (number_of D low lows f) (zero-add place)
+    get_or-map-numbers_from (number_of D low lows f) 0 (suc n) place (pos 0) place_in ∙ ap (number_of D low lows f) (zero-add place)
 
 length-turned : (fs rs : List ℤ) (j D : ℕ) → length fs ≡ length rs → length (turned fs rs j D) ≡ length fs
 length-turned fs rs j D same =
@@ -51,7 +52,7 @@ numbers_turned n D a low lows f rs j counted long at_j j_in =
           ∙ sym (turned_other fs rs (suc j) D place same other (omega (arith, same, counted)))
     ]
     ) in
-    mapped_same (number_of (D * a) low (turned_rows lows rs (suc j) D) f) (number_at news) 0 (suc n) place_turned
+    map-numbers_from-agree (number_of (D * a) low (turned_rows lows rs (suc j) D) f) (number_at news) 0 (suc n) place_turned
     ∙ ap (λ m. map (number_at news) (numbers_from 0 m)) (sym (length-turned fs rs (suc j) D same ∙ numbers_long n D low lows f))
     ∙ listed_at news
 
@@ -99,14 +100,11 @@ own_turned n D a low lows bs r rs j e as_many own elsewhere k k_in =
           ∙ ring (pos a ∷ pos D ∷ []) (var 0 ⊗ var 1) (var 1 ⊗ var 0) refl)
       | inr other ↦
           ap (λ (f : Form). number_of (D * a) low (turned_rows lows rs (suc j) D) f (suc k)) (get_or-set_other bs j k r no_form other)
-          ∙ stays D a low lows (slice_index_or bs k no_form) rs j (suc k) e.long e.at_j (next_apart other)
+          ∙ stays D a low lows (slice_index_or bs k no_form) rs j (suc k) e.long e.at_j (λ h. other (suc_inj h))
           (omega (arith, e.counted, k_in))
-          (elsewhere k (suc j) k_in (omega (arith, e.j_in)) (next_apart (λ h. other (sym h))))
+          (elsewhere k (suc j) k_in (omega (arith, e.j_in)) (λ h. other (sym (suc_inj h))))
           ∙ ap (λ z. z *ℤ pos a) (own k k_in)
     ]
-  where
-    next_apart : {x y : ℕ} → x ≢ y → suc x ≢ suc y
-    next_apart {x} {y} apart h = apart (omega (arith, h))
 
 -- and 0 elsewhere
 pub elsewhere_turned : (n D a : ℕ) (low : List ℕ) (lows : List (List ℤ)) (bs : List Form) (r : Form) (rs : List ℤ)
@@ -124,13 +122,10 @@ elsewhere_turned n D a low lows bs r rs j e as_many elsewhere k place k_in place
       | inr other ↦
           ap (λ (f : Form). number_of (D * a) low (turned_rows lows rs (suc j) D) f place) (get_or-set_other bs j k r no_form other)
           ∙ kept (slice_index_or bs k no_form)
-          (elsewhere k (suc j) k_in (omega (arith, e.j_in)) (next_apart (λ h. other (sym h))))
+          (elsewhere k (suc j) k_in (omega (arith, e.j_in)) (λ h. other (sym (suc_inj h))))
           (elsewhere k place k_in place_in apart)
     ]
   where
-    next_apart : {x y : ℕ} → x ≢ y → suc x ≢ suc y
-    next_apart {x} {y} differ h = differ (omega (arith, h))
-
     -- a form with 0 at the pivot's column keeps a 0
     kept : (f : Form) → number_of D low lows f (suc j) ≡ pos 0 → number_of D low lows f place ≡ pos 0 →
         number_of (D * a) low (turned_rows lows rs (suc j) D) f place ≡ pos 0

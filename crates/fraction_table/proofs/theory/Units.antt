@@ -3,6 +3,7 @@ use Rattle.std.proofs.Common.{◌≡◌, ◌≢◌, ℕ, zero, suc, ◌+◌, ◌
 use Rattle.std.specs.Prelude.{ℤ, pos, negsuc, ◌+ℤ◌, ◌-ℤ◌, ◌*ℤ◌, ◌==◌, neg_ℤ, slice_index, slice_index_or}
 use Rattle.std.proofs.lemmas.List.{get_or-map}
 use Rattle.cost_base.specs.Lists.{numbers_from}
+use Rattle.cost_base.proofs.ListLemmas.{map-numbers_from-agree}
 use Rattle.whole_numbers.proofs.Ring.{var, num, ◌⊕◌, ◌⊖◌, ◌⊗◌, neg, ring}
 use Rattle.whole_numbers.specs.Lists.{number_at}
 use Rattle.path_rows.specs.declared.form.Form.{Form}
@@ -11,7 +12,6 @@ use Rattle.path_rows.specs.Forms.{dot, value}
 use Rattle.path_rows.specs.Basis.{member_form, unit}
 use Rattle.fraction_table.specs.Wholes.{AllLong, from_lows, number_of, numbers_of}
 use Rattle.fraction_rows.proofs.Columns.{same_test, other_test}
-use Rattle.fraction_rows.proofs.FilledRows.{mapped_same}
 use Rattle.fraction_table.proofs.theory.Blends.{listed_at}
 
 -- the coefficients from a on
@@ -93,7 +93,7 @@ low_numbers D low lows rows v counted long v_in =
     let ts = slice_index_or lows v [] in
     let own : (place : ℕ) → from_lows f.coefficients lows place ≡ number_at ts place =
     λ place. unit_from_lows n v place (pos 1) lows v_in counted ∙ ring (number_at ts place ∷ []) (num (pos 1) ⊗ var 0) (var 0) refl in
-    mapped_same (number_of D low lows f) (number_at ts) 0 (suc n) (λ place from place_in. here f ts (low_value low rows v v_in) own place)
+    map-numbers_from-agree (number_of D low lows f) (number_at ts) 0 (suc n) (λ place from place_in. here f ts (low_value low rows v v_in) own place)
     ∙ ap (λ m. map (number_at ts) (numbers_from 0 m)) (sym (long_at (suc n) lows v long (omega (arith, counted))))
     ∙ listed_at ts
   where

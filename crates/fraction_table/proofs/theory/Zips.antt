@@ -1,5 +1,5 @@
 -- Facts of two lists, place by place.
-use Rattle.std.proofs.Common.{◌≡◌, ℕ, zero, suc, ◌<◌, refl, List, [], ◌∷◌, length, arith}
+use Rattle.std.proofs.Common.{◌≡◌, ℕ, zero, suc, ◌<◌, List, [], ◌∷◌, length, arith}
 use Rattle.std.specs.Prelude.{slice_index_or}
 use Rattle.std.specs.List.{AllZip}
 
@@ -17,9 +17,3 @@ zip_from R [] (y ∷ ys) d e same all = absurd (omega arith)
 zip_from R (x ∷ xs) [] d e same all = absurd (omega arith)
 zip_from R (x ∷ xs) (y ∷ ys) d e same all =
     (all 0 (omega arith), zip_from R xs ys d e (omega arith) (λ k k_in. all (suc k) (omega arith)))
-
-pub zip_long : {A B : Type 0} (R : A → B → Type 0) (xs : List A) (ys : List B) → AllZip R xs ys → length xs ≡ length ys
-zip_long R [] [] all = refl
-zip_long R [] (y ∷ ys) all = absurd all
-zip_long R (x ∷ xs) [] all = absurd all
-zip_long R (x ∷ xs) (y ∷ ys) all = let rest = zip_long R xs ys all.1 in omega arith

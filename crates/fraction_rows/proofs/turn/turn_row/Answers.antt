@@ -12,11 +12,15 @@ use Rattle.fraction_rows.specs.Turns.{IsTurnStep}
 use Rattle.fraction_rows.specs.Turns.IsTurnStep.{crossing, entering}
 use Rattle.fraction_rows.proofs.NamedSteps.{named_passes}
 use Rattle.fraction_rows.proofs.RowLaws.{number_at, written_numbers, crossed_keeps, times_not_zero, times_number}
+use Rattle.fraction_rows.proofs.turn.turn_row.Goals.{After-entry-own}
 use Rattle.fraction_rows.proofs.turn.turn_row.Goals as goal
 
+-- the row's own entry is a number of the table
+own_is : (c : After-entry-own) → IsNumber c.args.top c.entry-own.result
+own_is c = subst (IsNumber c.args.top) (sym c.entry-own.ensures) (number_at c.args.top c.args.row.now (suc c.args.column) c.requires.numbers c.requires.column)
+
 pub cross-requires-clause-factor : goal.cross-requires-clause-factor
-cross-requires-clause-factor c =
-    subst (IsNumber c.args.top) (sym c.entry-own.ensures) (number_at c.args.top c.args.row.now (suc c.args.column) c.requires.numbers c.requires.column)
+cross-requires-clause-factor c = own_is (goal.at.cross-requires-clause-factor c).After-entry-own
 
 pub returns-in_err-cross-clause-wide : goal.returns-in_err-cross-clause-wide
 returns-in_err-cross-clause-wide c =
@@ -31,10 +35,7 @@ returns-in_err-cross-clause-wide c =
     )
 
 pub mul-requires-clause-left_within : goal.mul-requires-clause-left_within
-mul-requires-clause-left_within c =
-    let own_is = subst (IsNumber c.args.top) (sym c.entry-own.ensures)
-    (number_at c.args.top c.args.row.now (suc c.args.column) c.requires.numbers c.requires.column) in
-    own_is.within
+mul-requires-clause-left_within c = (own_is (goal.at.mul-requires-clause-left_within c).After-entry-own).within
 
 pub returns-in_err-entered-clause-wide : goal.returns-in_err-entered-clause-wide
 returns-in_err-entered-clause-wide c =
@@ -52,27 +53,25 @@ returns-in_err-entered-clause-wide c =
 pub replace-requires-clause-before : goal.replace-requires-clause-before
 replace-requires-clause-before c none =
     let own_at = number_at c.args.top c.args.row.now (suc c.args.column) c.requires.numbers c.requires.column in
-    let own_is = subst (IsNumber c.args.top) (sym c.entry-own.ensures) own_at in
+    let own = own_is (goal.at.replace-requires-clause-before c).After-entry-own in
     let kept = crossed_keeps c.entry-own.result c.args.row.now c.args.quotients.now (suc c.args.column) c.args.top
-    c.requires.quotients c.requires.column own_at own_is.lowest.positive c.requires.none_there in
+    c.requires.quotients c.requires.column own_at own.lowest.positive c.requires.none_there in
     let own_none : c.entry-own.result ≡ nothing = c.entry-own.ensures ∙ sym kept
     ∙ ap (λ (l : List Fraction). entry l (suc c.args.column)) (sym c.in_ok-cross.ensures.crossed) ∙ none in
     false≢true (subst IsTrue c.if-is_zero.false (c.is_zero.ensures.1 (ap (λ (q : Fraction). q.numerator) own_none)))
 
 pub replace-requires-clause-not_zero : goal.replace-requires-clause-not_zero
 replace-requires-clause-not_zero c zero_is =
-    let own_is = subst (IsNumber c.args.top) (sym c.entry-own.ensures)
-    (number_at c.args.top c.args.row.now (suc c.args.column) c.requires.numbers c.requires.column) in
-    times_not_zero c.entry-own.result c.args.inverse own_is.lowest.positive c.requires.inverse.lowest.positive
+    let own = own_is (goal.at.replace-requires-clause-not_zero c).After-entry-own in
+    times_not_zero c.entry-own.result c.args.inverse own.lowest.positive c.requires.inverse.lowest.positive
     (λ e. false≢true (subst IsTrue c.if-is_zero.false (c.is_zero.ensures.1 e))) c.requires.not_zero
     (ap (λ (q : Fraction). q.numerator) (sym c.in_ok-entered.ensures.exact) ∙ zero_is)
 
 pub returns-clause-numbers : goal.returns-clause-numbers
 returns-clause-numbers c =
-    let own_is = subst (IsNumber c.args.top) (sym c.entry-own.ensures)
-    (number_at c.args.top c.args.row.now (suc c.args.column) c.requires.numbers c.requires.column) in
+    let own = own_is (goal.at.returns-clause-numbers c).After-entry-own in
     let entered_is = times_number c.args.top c.entry-own.result c.args.inverse c.in_ok-entered.entered
-    own_is.lowest.positive c.requires.inverse.lowest.positive c.in_ok-entered.ensures.exact
+    own.lowest.positive c.requires.inverse.lowest.positive c.in_ok-entered.ensures.exact
     c.in_ok-entered.ensures.within in
     subst (AreNumbers c.args.top) (sym (c.swap.ensures.x_after ∙ c.replace.ensures))
     (written_numbers c.args.top c.cross.new.into (suc c.args.column) c.in_ok-entered.entered c.in_ok-cross.ensures.numbers entered_is)

@@ -8,4 +8,4 @@ use Rattle.fraction_table.proofs.start.starting_basis.Goals as goal
 pub loop-var-preserved : goal.loop-var-preserved
 loop-var-preserved c =
     put_more [] c.loop-var.basis.items c.push.new.self.items (λ v. Low v (slice_index c.args.low.now v)) c.loop-var.var
-    _ c.in-Ok.ensures.items c.loop-var.invariant refl
+    _ c.in_ok-push.ensures.items c.loop-var.invariant refl

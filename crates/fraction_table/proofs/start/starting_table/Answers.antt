@@ -1,6 +1,7 @@
 -- The new table is what a tableau keeps.
 use Rattle.std.proofs.Common.{suc, ◌∙◌, ap, length}
-use Rattle.fraction_table.proofs.SoundTables.{blank_long, started}
+use Rattle.fraction_rows.proofs.BlankRows.{blank_long}
+use Rattle.fraction_table.proofs.SoundTables.{started}
 use Rattle.fraction_table.proofs.start.starting_table.Goals as goal
 
 pub returns-clause-sound : goal.returns-clause-sound

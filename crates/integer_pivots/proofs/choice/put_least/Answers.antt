@@ -2,46 +2,34 @@
 use Rattle.std.proofs.Common.{◌∙◌, sym, arith, Less, Equal, Greater}
 use Rattle.std.proofs.lemmas.Cmp.{int_ranked}
 use Rattle.integer_pivots.proofs.Narrowing.{IsUnderway, column_positive, equal_step, first_positive, greater_step, less_step, rest_follows, rest_stays}
+use Rattle.integer_pivots.proofs.choice.put_least.Goals.{In-loop-index}
 use Rattle.integer_pivots.proofs.choice.put_least.Goals as goal
 use Rattle.integer_pivots.proofs.choice.put_least.Goals.{in-Equal, in-Greater, in-Less}
 
+-- the columns are on their way to the least ones
+underway : (c : In-loop-index) → IsUnderway c.args.numbers.now c.args.line.now c.args.left.now c.loop-index.left c.loop-index.kept c.loop-index.index
+underway c = record {
+  each = c.requires.positive;
+  some = c.loop-index.invariant.some;
+  index_in = omega arith;
+  same = c.loop-index.auto.left;
+  rest = c.loop-index.invariant.rest;
+  least = c.loop-index.invariant.least;
+}
+
 pub column_order-requires-clause-column : goal.column_order-requires-clause-column
 column_order-requires-clause-column c =
-    let s : IsUnderway c.args.numbers.now c.args.line.now c.args.left.now c.loop-index.left c.loop-index.kept c.loop-index.index =
-    record {
-      each = c.requires.positive;
-      some = c.loop-index.invariant.some;
-      index_in = omega arith;
-      same = c.loop-index.auto.left;
-      rest = c.loop-index.invariant.rest;
-      least = c.loop-index.invariant.least;
-    } in
+    let s = underway (goal.at.column_order-requires-clause-column c).In-loop-index in
     (column_positive c.args.numbers.now c.args.line.now c.args.left.now c.loop-index.left c.loop-index.kept c.loop-index.index s).0
 
 pub column_order-requires-clause-other : goal.column_order-requires-clause-other
 column_order-requires-clause-other c =
-    let s : IsUnderway c.args.numbers.now c.args.line.now c.args.left.now c.loop-index.left c.loop-index.kept c.loop-index.index =
-    record {
-      each = c.requires.positive;
-      some = c.loop-index.invariant.some;
-      index_in = omega arith;
-      same = c.loop-index.auto.left;
-      rest = c.loop-index.invariant.rest;
-      least = c.loop-index.invariant.least;
-    } in
+    let s = underway (goal.at.column_order-requires-clause-other c).In-loop-index in
     (first_positive c.args.numbers.now c.args.line.now c.args.left.now c.loop-index.left c.loop-index.kept c.loop-index.index s).0
 
 pub column_order-requires-clause-positive : goal.column_order-requires-clause-positive
 column_order-requires-clause-positive c =
-    let s : IsUnderway c.args.numbers.now c.args.line.now c.args.left.now c.loop-index.left c.loop-index.kept c.loop-index.index =
-    record {
-      each = c.requires.positive;
-      some = c.loop-index.invariant.some;
-      index_in = omega arith;
-      same = c.loop-index.auto.left;
-      rest = c.loop-index.invariant.rest;
-      least = c.loop-index.invariant.least;
-    } in
+    let s = underway (goal.at.column_order-requires-clause-positive c).In-loop-index in
     (first_positive c.args.numbers.now c.args.line.now c.args.left.now c.loop-index.left c.loop-index.kept c.loop-index.index s).1
 
 pub loop-index-preserved : goal.loop-index-preserved
@@ -52,15 +40,7 @@ loop-index-preserved c =
     let now = c.loop-index.left in
     let kept = c.loop-index.kept in
     let index = c.loop-index.index in
-    let s : IsUnderway ns line olds now kept index =
-    record {
-      each = c.requires.positive;
-      some = c.loop-index.invariant.some;
-      index_in = omega arith;
-      same = c.loop-index.auto.left;
-      rest = c.loop-index.invariant.rest;
-      least = c.loop-index.invariant.least;
-    } in
+    let s = underway (goal.at.loop-index-preserved c).In-loop-index in
     elim c.match-column_order.branch [
       | in-Less w ↦ rw (w.left-is, w.kept-is) record {
         some = (omega arith, omega arith);

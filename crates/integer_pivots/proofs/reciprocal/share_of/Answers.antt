@@ -3,7 +3,8 @@ use Rattle.std.proofs.Common.{◌≡◌, ℕ, ◌+◌, ◌^◌, ◌≤◌, ◌�
 use Rattle.whole_numbers.specs.Fractions.{gcd}
 use Rattle.whole_numbers.specs.Lists.{number_at}
 use Rattle.integer_pivots.specs.Reciprocals.{IsShare}
-use Rattle.integer_pivots.proofs.Sizes.{read_number, size_most, size_positive}
+use Rattle.whole_numbers.proofs.Sizes.{size_positive}
+use Rattle.integer_pivots.proofs.Sizes.{read_number, size_most}
 use Rattle.integer_pivots.proofs.SharedDivisors.{share_more, share_of_none}
 use Rattle.integer_pivots.proofs.reciprocal.share_of.Goals as goal
 

@@ -10,5 +10,5 @@ use Rattle.integer_pivots.proofs.uses.empty_uses.Goals as goal
 pub loop-preserved : goal.loop-preserved
 loop-preserved c =
     put_more [] (held_in c.loop.uses.items) (held_in c.push.new.self.items) (λ var. []) c.loop.counter c.new.result.items
-    (ap held_in c.in-Ok.ensures.items ∙ map-append (λ (list : Vec Use Global). list.items) c.loop.uses.items (c.new.result ∷ []))
+    (ap held_in c.in_ok-push.ensures.items ∙ map-append (λ (list : Vec Use Global). list.items) c.loop.uses.items (c.new.result ∷ []))
     c.loop.invariant c.new.ensures.items

@@ -21,8 +21,8 @@ loop-var-preserved c =
     let same = to_z-of_z w64 c.range_of.result fits in
     record {
       constants = put_more (map (λ v. pos 0) (numbers_from 0 (length low))) c.loop-var.constants.items
-          c.push.new.list.items (λ v. pos (slice_index high v) -ℤ pos (slice_index low v)) c.loop-var.var _
-          c.in_ok-push.ensures c.loop-var.invariant.constants (same ∙ c.range_of.ensures.range);
-      small = within_more (2 ^ 27) c.loop-var.constants.items c.push.new.list.items _ c.in_ok-push.ensures
+          c.push.new.self.items (λ v. pos (slice_index high v) -ℤ pos (slice_index low v)) c.loop-var.var _
+          c.in_ok-push.ensures.items c.loop-var.invariant.constants (same ∙ c.range_of.ensures.range);
+      small = within_more (2 ^ 27) c.loop-var.constants.items c.push.new.self.items _ c.in_ok-push.ensures.items
           c.loop-var.invariant.small (subst (λ z. nat_abs z < 2 ^ 27) (sym same) c.range_of.ensures.small);
     }

@@ -7,7 +7,7 @@ use Rattle.table_kernel.proofs.start.unit_leads.Goals as goal
 pub loop-var-preserved : goal.loop-var-preserved
 loop-var-preserved c =
     let var = c.loop-var.var in
-    c.in-Ok.ensures.items
+    c.in_ok-push.ensures.items
     ∙ ap (λ vs. vs ++ var ∷ []) c.loop-var.invariant
     ∙ ap (λ (v : ℕ). numbers_from 0 var ++ v ∷ []) (sym (zero-add var))
     ∙ sym (numbers_from-push 0 var)

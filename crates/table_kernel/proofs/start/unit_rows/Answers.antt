@@ -8,4 +8,4 @@ use Rattle.table_kernel.proofs.start.unit_rows.Goals as goal
 pub loop-var-preserved : goal.loop-var-preserved
 loop-var-preserved c =
     put_more [] c.loop-var.columns.items c.push.new.self.items (λ v. unit c.args.width v (pos 1)) c.loop-var.var _
-    c.in-Ok.ensures.items c.loop-var.invariant c.in_ok-unit_row.ensures
+    c.in_ok-push.ensures.items c.loop-var.invariant c.in_ok-unit_row.ensures

@@ -6,4 +6,4 @@ use Rattle.table_kernel.proofs.start.zeros.Goals as goal
 
 pub loop-preserved : goal.loop-preserved
 loop-preserved c =
-    put_more [] c.loop.list.items c.push.new.list.items (λ place. pos 0) c.loop.counter (pos 0) c.in_ok-push.ensures c.loop.invariant refl
+    put_more [] c.loop.list.items c.push.new.self.items (λ place. pos 0) c.loop.counter (pos 0) c.in_ok-push.ensures.items c.loop.invariant refl

@@ -1,8 +1,7 @@
 -- A row without columns is one of zeros.
-use Rattle.std.proofs.Common.{◌≡◌, ℕ, ◌-◌, ◌∙◌, ap, List, ◌∷◌, map, length, arith}
-use Rattle.cost_base.specs.Lists.{numbers_from}
+use Rattle.std.proofs.Common.{◌≡◌, ℕ, ◌-◌, ◌∙◌, ap, List, ◌∷◌, length, arith}
 use Rattle.whole_numbers.specs.Fractions.{Fraction}
-use Rattle.fraction_rows.specs.TableRows.{filled, nothing}
+use Rattle.fraction_rows.specs.TableRows.{blank_row, filled, nothing}
 use Rattle.fraction_rows.proofs.FilledRows.{width_is}
 use Rattle.fraction_rows.proofs.row.TableRow.clear.Goals as goal
 
@@ -12,4 +11,4 @@ returns c =
     let width : s.width ≡ length c.args.self.now - 1 = omega (arith, width_is s.constant s.width s.entries.items c.args.self.now c.self.view_is) in
     ap (λ (q : Fraction). q ∷ filled s.width c.clear.new.self.items) c.whole-self-inside.ensures
     ∙ ap (λ (es : List (ℕ × Fraction)). nothing ∷ filled s.width es) c.clear.ensures.items
-    ∙ ap (λ (w : ℕ). nothing ∷ map (λ column. nothing) (numbers_from 0 w)) width
+    ∙ ap blank_row width

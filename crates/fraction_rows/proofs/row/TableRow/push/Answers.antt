@@ -1,5 +1,5 @@
 -- Behind the columns that the row has there is room for one more.
-use Rattle.std.proofs.Common.{◌≡◌, ◌≢◌, ◌<◌, ◌≤◌, ℕ, suc, ◌∙◌, ap, sym, List, ◌∷◌, length, arith}
+use Rattle.std.proofs.Common.{◌≡◌, ◌<◌, ◌≤◌, ℕ, suc, ◌∙◌, ap, sym, List, ◌∷◌, length, arith}
 use Rattle.std.specs.Prelude.{slice_set}
 use Rattle.whole_numbers.specs.Fractions.{Fraction}
 use Rattle.path_rows.specs.Basis.{entry}
@@ -50,9 +50,6 @@ invariant_of-self c =
           c.self.invariant.marked c.put_entry.ensures.put;
     }
 
-apart : (a b : ℕ) → a ≢ b → b ≢ a
-apart a b e = omega arith
-
 pub returns : goal.returns
 returns c =
     let s = c.self.inside in
@@ -61,5 +58,5 @@ returns c =
     row_written s.constant s.width s.entries.items c.put_entry.new.entries.items c.args.column c.args.value column_in
     (put_here c.args.column c.args.column c.args.value s.entries.items c.put_entry.new.entries.items c.requires.number
     rises (omega arith) c.put_entry.ensures.put)
-    (λ m m_in other. put_other c.args.column m c.args.value s.entries.items c.put_entry.new.entries.items (apart m c.args.column other) c.put_entry.ensures.put)
+    (λ m m_in other. put_other c.args.column m c.args.value s.entries.items c.put_entry.new.entries.items (λ same. other (sym same)) c.put_entry.ensures.put)
     ∙ ap (λ (l : List Fraction). slice_set l (suc c.args.column) c.args.value) c.self.view_is

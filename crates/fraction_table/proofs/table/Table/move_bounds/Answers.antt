@@ -6,7 +6,25 @@ use Rattle.fraction_table.specs.Tableaus.{between}
 use Rattle.fraction_table.specs.Moves.{IsMoved}
 use Rattle.fraction_table.proofs.Shifts.{moved_same, unboxed_shape}
 use Rattle.fraction_table.proofs.BetweenBoxes.{AreAlike, all_moved, high_move, high_step, keeps_both, low_move, low_step, none_moved}
+use Rattle.fraction_table.proofs.table.Table.move_bounds.Goals.{After-as_slice-high, After-move_low, After-move_high}
 use Rattle.fraction_table.proofs.table.Table.move_bounds.Goals as goal
+
+-- the two boxes have as many bounds
+alike : (c : After-as_slice-high) → AreAlike c.args.self.now.costs c.args.costs.now
+alike c = record { high = c.requires.unboxed.high_count; new_low = c.requires.low; new_high = c.requires.high }
+
+-- the loop's variable is one of the box's
+v_in : (c : After-move_low) → c.loop-var.var < length c.args.self.now.costs.low
+v_in c = omega (arith, c.loop-var-test.true, ap length c.as_slice-low.ensures, c.requires.low)
+
+-- the table between the variable's two moves
+middle : (c : After-move_high) → AreAlike c.args.self.now.costs c.args.costs.now → c.loop-var.var < length c.args.self.now.costs.low →
+    IsMoved c.args.self.now (between c.args.self.now.costs c.args.costs.now (suc c.loop-var.var) c.loop-var.var) c.move_low.new.self
+middle c like inside =
+    let v = c.loop-var.var in
+    low_step c.args.self.now c.loop-var.self c.move_low.new.self c.args.costs.now v (slice_index c.as_slice-low.result.now v)
+    like inside (ap (λ bounds. slice_index bounds v) c.as_slice-low.ensures) c.loop-var.invariant.moved
+    c.in_ok-move_low.ensures.moved
 
 pub loop-var-init : goal.loop-var-init
 loop-var-init c =
@@ -23,13 +41,12 @@ loop-var-preserved c =
     let old = c.args.self.now in
     let costs = c.args.costs.now in
     let v = c.loop-var.var in
-    let alike : AreAlike old.costs costs = record { high = c.requires.unboxed.high_count; new_low = c.requires.low; new_high = c.requires.high } in
-    let v_in : v < length old.costs.low = omega (arith, c.loop-var-test.true, ap length c.as_slice-low.ensures, c.requires.low) in
-    let middle = low_step old c.loop-var.self c.move_low.new.self costs v (slice_index c.as_slice-low.result.now v)
-    alike v_in (ap (λ bounds. slice_index bounds v) c.as_slice-low.ensures) c.loop-var.invariant.moved
-    c.in_ok-move_low.ensures.moved in
+    let at = goal.at.loop-var-preserved c in
+    let like = alike at.After-as_slice-high in
+    let inside = v_in at.After-move_low in
     let last = high_step old c.move_low.new.self c.move_high.new.self costs v (slice_index c.as_slice-high.result.now v)
-    alike v_in (ap (λ bounds. slice_index bounds v) c.as_slice-high.ensures) middle
+    like inside (ap (λ bounds. slice_index bounds v) c.as_slice-high.ensures)
+    (middle at.After-move_high like inside)
     c.in_ok-move_high.ensures.moved in
     let next : suc v ≡ v + 1 = omega arith in
     record {
@@ -70,11 +87,12 @@ returns-in_err-move_low-clause-wide c =
     let old = c.args.self.now in
     let costs = c.args.costs.now in
     let v = c.loop-var.var in
-    let alike : AreAlike old.costs costs = record { high = c.requires.unboxed.high_count; new_low = c.requires.low; new_high = c.requires.high } in
-    let v_in : v < length old.costs.low = omega (arith, c.loop-var-test.true, ap length c.as_slice-low.ensures, c.requires.low) in
+    let at = goal.at.returns-in_err-move_low-clause-wide c in
+    let like = alike at.After-as_slice-high in
+    let inside = v_in at.After-move_low in
     rw p.1
-    (low_move old c.loop-var.self costs v (slice_index c.as_slice-low.result.now v) c.in_err-move_low.field-0.0 alike
-    v_in (ap (λ bounds. slice_index bounds v) c.as_slice-low.ensures)
+    (low_move old c.loop-var.self costs v (slice_index c.as_slice-low.result.now v) c.in_err-move_low.field-0.0 like
+    inside (ap (λ bounds. slice_index bounds v) c.as_slice-low.ensures)
     c.loop-var.invariant.keeps c.loop-var.invariant.moved c.in_err-move_low.ensures.wide)
 
 pub returns-in_err-move_low-clause-keeps : goal.returns-in_err-move_low-clause-keeps
@@ -87,15 +105,14 @@ returns-in_err-move_high-clause-wide c =
     let old = c.args.self.now in
     let costs = c.args.costs.now in
     let v = c.loop-var.var in
-    let alike : AreAlike old.costs costs = record { high = c.requires.unboxed.high_count; new_low = c.requires.low; new_high = c.requires.high } in
-    let v_in : v < length old.costs.low = omega (arith, c.loop-var-test.true, ap length c.as_slice-low.ensures, c.requires.low) in
-    let middle = low_step old c.loop-var.self c.move_low.new.self costs v (slice_index c.as_slice-low.result.now v)
-    alike v_in (ap (λ bounds. slice_index bounds v) c.as_slice-low.ensures) c.loop-var.invariant.moved
-    c.in_ok-move_low.ensures.moved in
+    let at = goal.at.returns-in_err-move_high-clause-wide c in
+    let like = alike at.After-as_slice-high in
+    let inside = v_in at.After-move_low in
     rw p.1
     (high_move old c.move_low.new.self costs v (slice_index c.as_slice-high.result.now v) c.in_err-move_high.field-0.0
-    alike v_in (ap (λ bounds. slice_index bounds v) c.as_slice-high.ensures)
-    (keeps_both old c.loop-var.self c.move_low.new.self c.loop-var.invariant.keeps c.move_low.ensures.keeps) middle c.in_err-move_high.ensures.wide)
+    like inside (ap (λ bounds. slice_index bounds v) c.as_slice-high.ensures)
+    (keeps_both old c.loop-var.self c.move_low.new.self c.loop-var.invariant.keeps c.move_low.ensures.keeps)
+    (middle at.After-move_high like inside) c.in_err-move_high.ensures.wide)
 
 pub returns-in_err-move_high-clause-keeps : goal.returns-in_err-move_high-clause-keeps
 returns-in_err-move_high-clause-keeps c =
@@ -107,8 +124,7 @@ pub returns-clause-moved : goal.returns-clause-moved
 returns-clause-moved c =
     let old = c.args.self.now in
     let costs = c.args.costs.now in
-    let alike : AreAlike old.costs costs = record { high = c.requires.unboxed.high_count; new_low = c.requires.low; new_high = c.requires.high } in
-    all_moved old c.loop-var.self costs c.loop-var.var alike
+    all_moved old c.loop-var.self costs c.loop-var.var (alike (goal.at.returns-clause-moved c).After-as_slice-high)
     (omega (
       arith,
       c.loop-var-test.false,

@@ -4,7 +4,7 @@ use Rattle.std.specs.Prelude.{slice_index}
 use Rattle.std.proofs.lemmas.List.{length-set}
 use Rattle.std.proofs.lemmas.Result.{err_from_is_err_and}
 use Rattle.path_rows.specs.Boxes.{with_low}
-use Rattle.fraction_table.proofs.Shifts.{IsMovedTo, kept_number, lines_many, low_after, low_stays, low_wide, unboxed_shape}
+use Rattle.fraction_table.proofs.Shifts.{IsMovedTo, kept_number, lines_many, low_after, low_stays, low_wide, rows_kept, unboxed_shape}
 use Rattle.fraction_table.proofs.table.Table.move_low.Goals.{After-set}
 use Rattle.fraction_table.proofs.table.Table.move_low.Goals as goal
 
@@ -34,9 +34,7 @@ returns-in_err-shift-clause-wide c =
     c.in_err-shift.ensures.wide)
 
 pub returns-in_err-shift-clause-keeps : goal.returns-in_err-shift-clause-keeps
-returns-in_err-shift-clause-keeps c =
-    let k = c.shift.ensures.keeps in
-    record { top = k.top; rows = k.rows; width = ap (λ costs. length costs.low) k.costs }
+returns-in_err-shift-clause-keeps c = rows_kept c.args.self.now c.shift.new.self c.shift.ensures.keeps
 
 -- the table after the bound was set
 moved_here : (c : After-set) →

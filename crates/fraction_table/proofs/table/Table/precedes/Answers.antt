@@ -1,14 +1,31 @@
 -- The columns are compared at each line, until one shows a difference.
-use Rattle.std.proofs.Common.{◌<◌, suc, ◌∙◌, ap, sym, subst, List, length, arith}
+use Rattle.std.proofs.Common.{◌≡◌, ℕ, ◌<◌, ◌≤◌, suc, ◌∙◌, ap, sym, subst, List, length, arith}
 use Rattle.std.proofs.lemmas.Result.{err_from_is_err_and}
 use Rattle.cost_base.specs.declared.StepName.TheVariants.{Div, Mul}
 use Rattle.whole_numbers.specs.Fractions.{Fraction, divided}
 use Rattle.wide_fraction.specs.declared.steps.Wide.{Wide}
 use Rattle.path_rows.specs.Basis.{entry}
 use Rattle.fraction_rows.specs.TableRows.{AreNumbers}
+use Rattle.fraction_table.specs.Pivots.{line_at}
 use Rattle.fraction_table.proofs.Pivots.{line_long, line_read, lines_long, whole_line}
 use Rattle.fraction_table.proofs.Choices.{found_order, greater_ordered, less_ordered, level_more, level_ordered, multiple_wide, ratio_wide}
+use Rattle.fraction_table.proofs.table.Table.precedes.Goals.{After-index-in-loop-place}
 use Rattle.fraction_table.proofs.table.Table.precedes.Goals as goal
+
+-- the loop's place is one of the lines, and its line was read
+place_in : (c : After-index-in-loop-place) → c.loop-place.place < length c.args.self.now.lines.items
+place_in c = omega (arith, c.loop-place-test.true, ap length c.as_slice-place-end.ensures, lines_long c.args.self.now c.requires.whole)
+
+place_read : (c : After-index-in-loop-place) → c.index-in-loop-place.result.now ≡ line_at c.args.self.now c.loop-place.place
+place_read c =
+    line_read c.args.self.now c.loop-place.place c.index-in-loop-place.result.now c.index-in-loop-place.ensures (place_in c)
+
+-- and it has an entry in each column
+entry_in : (c : After-index-in-loop-place) (k : ℕ) →
+    (1 ≤ suc k) × (suc k ≤ length c.args.self.now.basis.items) → suc k < length c.index-in-loop-place.result.now
+entry_in c k k_in =
+    let t = c.args.self.now in
+    omega (arith, ap length (place_read c), line_long t c.requires.whole c.loop-place.place (place_in c), k_in, c.requires.whole.unboxed.count)
 
 pub entry_quotient-requires-clause-numbers : goal.entry_quotient-requires-clause-numbers
 entry_quotient-requires-clause-numbers c =
@@ -35,44 +52,33 @@ index-requires-in-loop-place c =
 
 pub entry_order-requires-clause-column : goal.entry_order-requires-clause-column
 entry_order-requires-clause-column c =
-    let t = c.args.self.now in
-    let place_in : c.loop-place.place < length t.lines.items =
-    omega (arith, c.loop-place-test.true, ap length c.as_slice-place-end.ensures, lines_long t c.requires.whole) in
-    let fs_are = line_read t c.loop-place.place c.index-in-loop-place.result.now c.index-in-loop-place.ensures place_in in
-    omega (arith, ap length fs_are, line_long t c.requires.whole c.loop-place.place place_in, c.requires.column.column, c.requires.whole.unboxed.count)
+    entry_in (goal.at.entry_order-requires-clause-column c).After-index-in-loop-place c.args.column c.requires.column.column
 
 pub entry_order-requires-clause-other : goal.entry_order-requires-clause-other
 entry_order-requires-clause-other c =
-    let t = c.args.self.now in
-    let place_in : c.loop-place.place < length t.lines.items =
-    omega (arith, c.loop-place-test.true, ap length c.as_slice-place-end.ensures, lines_long t c.requires.whole) in
-    let fs_are = line_read t c.loop-place.place c.index-in-loop-place.result.now c.index-in-loop-place.ensures place_in in
-    omega (arith, ap length fs_are, line_long t c.requires.whole c.loop-place.place place_in, c.requires.other.column, c.requires.whole.unboxed.count)
+    entry_in (goal.at.entry_order-requires-clause-other c).After-index-in-loop-place c.args.other c.requires.other.column
 
 pub entry_order-requires-clause-numbers : goal.entry_order-requires-clause-numbers
 entry_order-requires-clause-numbers c =
     let t = c.args.self.now in
-    let place_in : c.loop-place.place < length t.lines.items =
-    omega (arith, c.loop-place-test.true, ap length c.as_slice-place-end.ensures, lines_long t c.requires.whole) in
-    subst (AreNumbers t.top) (sym (line_read t c.loop-place.place c.index-in-loop-place.result.now
-    c.index-in-loop-place.ensures place_in)) (whole_line t c.requires.whole c.loop-place.place place_in).numbers
+    let at = (goal.at.entry_order-requires-clause-numbers c).After-index-in-loop-place in
+    subst (AreNumbers t.top) (sym (place_read at)) (whole_line t c.requires.whole c.loop-place.place (place_in at)).numbers
 
 pub returns-in_err-order-clause-wide : goal.returns-in_err-order-clause-wide
 returns-in_err-order-clause-wide c =
     let p = err_from_is_err_and c.from_residual-in_err-order.result c.from_residual-in_err-order.ensures.1 in
     let t = c.args.self.now in
     let q = c.in_ok-quotient.quotient in
-    let place_in : c.loop-place.place < length t.lines.items =
-    omega (arith, c.loop-place-test.true, ap length c.as_slice-place-end.ensures, lines_long t c.requires.whole) in
+    let at = (goal.at.returns-in_err-order-clause-wide c).After-index-in-loop-place in
     let row_is = line_read t c.args.line c.index.result.now c.index.ensures c.requires.line in
-    let fs_are = line_read t c.loop-place.place c.index-in-loop-place.result.now c.index-in-loop-place.ensures place_in in
     rw (p.1, p.2)
     (multiple_wide t c.requires.whole c.args.line c.args.column c.args.other c.loop-place.place q
-    c.in_err-order.field-0.0 c.requires.line c.requires.column c.requires.other place_in
+    c.in_err-order.field-0.0 c.requires.line c.requires.column c.requires.other (place_in at)
     (c.in_ok-quotient.ensures.exact
     ∙ ap {B = Fraction} (λ (row : List Fraction).
     divided (entry row (suc c.args.other)) (entry row (suc c.args.column))) row_is)
-    (c.in_err-order.ensures.named ∙ ap {B = Wide} (λ (fs : List Fraction). record { step = Mul; left = entry fs (suc c.args.column); right = q }) fs_are)
+    (c.in_err-order.ensures.named
+    ∙ ap {B = Wide} (λ (fs : List Fraction). record { step = Mul; left = entry fs (suc c.args.column); right = q }) (place_read at))
     c.in_err-order.ensures.passes)
 
 pub returns-in-Less-clause-order : goal.returns-in-Less-clause-order
@@ -80,8 +86,7 @@ returns-in-Less-clause-order c =
     let t = c.args.self.now in
     let low_in : c.loop-place.place < length t.costs.low = omega (arith, c.loop-place-test.true, ap length c.as_slice-place-end.ensures) in
     let row_is = line_read t c.args.line c.index.result.now c.index.ensures c.requires.line in
-    let fs_are = line_read t c.loop-place.place c.index-in-loop-place.result.now c.index-in-loop-place.ensures
-    (omega (arith, low_in, lines_long t c.requires.whole)) in
+    let fs_are = place_read (goal.at.returns-in-Less-clause-order c).After-index-in-loop-place in
     less_ordered t c.args.line c.args.column c.args.other c.loop-place.place c.requires.line c.requires.column c.requires.other low_in c.loop-place.invariant
     (found_order t c.args.line c.loop-place.place c.args.column c.args.other c.index.result.now
     c.index-in-loop-place.result.now c.in_ok-quotient.quotient c.in_ok-order.order _ row_is fs_are
@@ -92,8 +97,7 @@ returns-in-Greater-clause-order c =
     let t = c.args.self.now in
     let low_in : c.loop-place.place < length t.costs.low = omega (arith, c.loop-place-test.true, ap length c.as_slice-place-end.ensures) in
     let row_is = line_read t c.args.line c.index.result.now c.index.ensures c.requires.line in
-    let fs_are = line_read t c.loop-place.place c.index-in-loop-place.result.now c.index-in-loop-place.ensures
-    (omega (arith, low_in, lines_long t c.requires.whole)) in
+    let fs_are = place_read (goal.at.returns-in-Greater-clause-order c).After-index-in-loop-place in
     greater_ordered t c.args.line c.args.column c.args.other c.loop-place.place c.requires.line c.requires.column c.requires.other low_in c.loop-place.invariant
     (found_order t c.args.line c.loop-place.place c.args.column c.args.other c.index.result.now
     c.index-in-loop-place.result.now c.in_ok-quotient.quotient c.in_ok-order.order _ row_is fs_are
@@ -104,8 +108,7 @@ loop-place-preserved c =
     let t = c.args.self.now in
     let low_in : c.loop-place.place < length t.costs.low = omega (arith, c.loop-place-test.true, ap length c.as_slice-place-end.ensures) in
     let row_is = line_read t c.args.line c.index.result.now c.index.ensures c.requires.line in
-    let fs_are = line_read t c.loop-place.place c.index-in-loop-place.result.now c.index-in-loop-place.ensures
-    (omega (arith, low_in, lines_long t c.requires.whole)) in
+    let fs_are = place_read (goal.at.loop-place-preserved c).After-index-in-loop-place in
     level_more t c.args.line c.args.column c.args.other c.loop-place.place c.loop-place.invariant
     (found_order t c.args.line c.loop-place.place c.args.column c.args.other c.index.result.now
     c.index-in-loop-place.result.now c.in_ok-quotient.quotient c.in_ok-order.order _ row_is fs_are

@@ -1,5 +1,6 @@
 use Rattle.std.proofs.Common.{ℕ, ◌*◌, ◌/◌, ◌^◌, ◌≤◌, ◌∙◌, sym, ap, subst, nat_abs}
-use Rattle.integer_pivots.proofs.Sizes.{size_most, size_positive}
+use Rattle.whole_numbers.proofs.Sizes.{size_positive}
+use Rattle.integer_pivots.proofs.Sizes.{size_most}
 use Rattle.integer_pivots.proofs.Reciprocals.{quotient_near, quotient_of}
 use Rattle.integer_pivots.proofs.reciprocal.Divisor.quotient.Goals as goal
 

@@ -1,21 +1,13 @@
 -- A step of the divisor.
-use Rattle.std.proofs.Common.{ℕ, ◌<◌, arith, length, subst}
-use Rattle.fraction_table.proofs.Pivots.{members_long}
+use Rattle.std.proofs.Common.{ℕ, ◌<◌, arith, subst}
 use Rattle.table_kernel.specs.Kernels.{width_of}
-use Rattle.table_kernel.proofs.Corners.{common_read, constant_read, divisor_first, divisor_more}
+use Rattle.table_kernel.proofs.Corners.{common_read, constant_in, constant_read, divisor_first, divisor_more}
 use Rattle.table_kernel.proofs.kernel.Kernel.common_divisor.Goals as goal
 
 pub index-requires : goal.index-requires
 index-requires c =
     let k = c.args.self.now in
-    omega (
-      arith,
-      c.loop-var-test.true,
-      c.width-var-end.ensures,
-      c.requires.kernel.shaped.constants,
-      members_long k.table.costs (length k.table.rows.items),
-      k.constants.ok.0,
-    )
+    omega (arith, constant_in k c.requires.kernel c.loop-var.var (omega (arith, c.loop-var-test.true, c.width-var-end.ensures)), k.constants.ok.0)
 
 pub loop-var-init : goal.loop-var-init
 loop-var-init c =

@@ -2,10 +2,13 @@
 use Rattle.std.proofs.Common.{rules, ◌∙◌, ◌+◌, ap, arith, w16, w64, to_z, of_z, Fits}
 use Rattle.std.specs.Prelude.{nat_abs, pos, ◌-ℤ◌, slice_index}
 use Rattle.path_rows.specs.declared.tree.Member.TheVariants.{High}
+use Rattle.path_rows.specs.Boxes.{with_high}
+use Rattle.fraction_table.specs.Moves.{IsMoved}
 use Rattle.fraction_table.proofs.Shifts.{high_stays}
 use Rattle.integer_pivots.proofs.Sizes.{read_number}
-use Rattle.table_kernel.specs.Kernels.{stated}
-use Rattle.table_kernel.proofs.BoundMoves.{forms_many, high_moves, shift_room, small_fall}
+use Rattle.table_kernel.specs.Kernels.{IsMoving, stated}
+use Rattle.table_kernel.proofs.BoundMoves.{forms_many, high_moves, put_highs, shift_room, small_fall}
+use Rattle.table_kernel.proofs.kernel.Kernel.move_high.Goals.{After-set}
 use Rattle.table_kernel.proofs.kernel.Kernel.move_high.Goals as goal
 
 pub returns-then-bound-high-clause-moved : goal.returns-then-bound-high-clause-moved
@@ -25,31 +28,27 @@ shift-requires-clause-small c =
     high_fits.fits c.ranges.bound.fits c.range_of-fall.ensures.range in
     omega (arith, small, ap nat_abs (read_number c.range_of-fall.result (omega (arith, small))))
 
-pub returns-clause-kernel : goal.returns-clause-kernel
-returns-clause-kernel c =
-    let k = c.args.self.now in
-    let high = slice_index c.as_slice.result.now c.args.var in
-    let after = high_moves k c.shift.new.self c.requires.kernel c.args.var c.args.bound high
-    (c.width.result + c.args.var) (to_z w64 (of_z w64 c.range_of-fall.result)) c.set.new.self c.requires.var
-    (ap (λ n. n + c.args.var) c.width.ensures)
-    c.shift.ensures.keeps c.shift.ensures.costs (ap (λ bounds. slice_index bounds c.args.var) c.as_slice.ensures)
+-- the kernel that is left, and how it has moved
+moves_on : (c : After-set) →
+    IsMoving (put_highs c.shift.new.self c.set.new.self)
+    × IsMoved (stated c.args.self.now) (with_high c.args.self.now.table.costs c.args.var c.args.bound)
+    (stated (put_highs c.shift.new.self c.set.new.self))
+moves_on c =
+    high_moves c.args.self.now c.shift.new.self c.requires.kernel c.args.var c.args.bound
+    (slice_index c.as_slice.result.now c.args.var) (c.width.result + c.args.var) (to_z w64 (of_z w64 c.range_of-fall.result))
+    c.set.new.self c.requires.var (ap (λ n. n + c.args.var) c.width.ensures) c.shift.ensures.keeps
+    c.shift.ensures.costs (ap (λ bounds. slice_index bounds c.args.var) c.as_slice.ensures)
     (read_number c.range_of-fall.result (omega (arith, c.range_of-fall.ensures.small))
     ∙ c.range_of-fall.ensures.range)
-    c.shift.ensures.shifted c.set.ensures c.requires.room in
-    after.0
+    c.shift.ensures.shifted c.set.ensures c.requires.room
+
+pub returns-clause-kernel : goal.returns-clause-kernel
+returns-clause-kernel c = (moves_on (goal.at.returns-clause-kernel c).After-set).0
 
 pub returns-clause-moved : goal.returns-clause-moved
 returns-clause-moved c =
-    let k = c.args.self.now in
-    let high = slice_index c.as_slice.result.now c.args.var in
-    let after = high_moves k c.shift.new.self c.requires.kernel c.args.var c.args.bound high
-    (c.width.result + c.args.var) (to_z w64 (of_z w64 c.range_of-fall.result)) c.set.new.self c.requires.var
-    (ap (λ n. n + c.args.var) c.width.ensures)
-    c.shift.ensures.keeps c.shift.ensures.costs (ap (λ bounds. slice_index bounds c.args.var) c.as_slice.ensures)
-    (read_number c.range_of-fall.result (omega (arith, c.range_of-fall.ensures.small))
-    ∙ c.range_of-fall.ensures.range)
-    c.shift.ensures.shifted c.set.ensures c.requires.room in
-    record { costs_are = after.1.costs_are; basis = after.1.basis }
+    let moved = (moves_on (goal.at.returns-clause-moved c).After-set).1 in
+    record { costs_are = moved.costs_are; basis = moved.basis }
 
 pub returns-clause-room : goal.returns-clause-room
 returns-clause-room c more may =

@@ -2,7 +2,7 @@
 use Rattle.std.proofs.Common.{◌≡◌, ◌^◌, [], ◌∷◌, ◌++◌, ◌∙◌, arith, length, subst, sym, ap, refl, w64, to_z, of_z}
 use Rattle.std.specs.Prelude.{ℤ, nat_abs}
 use Rattle.std.proofs.lemmas.Int.{ints}
-use Rattle.fraction_table.proofs.SoundTables.{blank_long}
+use Rattle.fraction_rows.proofs.BlankRows.{blank_long}
 use Rattle.integer_pivots.proofs.UseLaws.{lists_many, uses_put}
 use Rattle.integer_pivots.specs.Uses.{HaveRoom}
 use Rattle.integer_pivots.specs.Numbers.{weight_of}

@@ -3,9 +3,8 @@ use Rattle.std.proofs.Common.{ℕ, ◌+◌, ◌*◌, ◌/◌, ◌<◌, ◌∙◌
 use Rattle.std.specs.Prelude.{List, slice_index}
 use Rattle.std.proofs.Math.Nat.{div-le_self}
 use Rattle.std.proofs.lemmas.List.{length-set}
-use Rattle.fraction_table.proofs.Pivots.{members_long}
 use Rattle.table_kernel.specs.Kernels.{width_of}
-use Rattle.table_kernel.proofs.Corners.{constant_read, values_more}
+use Rattle.table_kernel.proofs.Corners.{constant_in, constant_read, values_more}
 use Rattle.table_kernel.proofs.kernel.Kernel.put_values.Goals as goal
 
 pub index-requires : goal.index-requires
@@ -13,10 +12,7 @@ index-requires c =
     let k = c.args.self.now in
     omega (
       arith,
-      c.loop-var-test.true,
-      ap length c.as_slice-low.ensures,
-      c.requires.kernel.shaped.constants,
-      members_long k.table.costs (length k.table.rows.items),
+      constant_in k c.requires.kernel c.loop-var.var (omega (arith, c.loop-var-test.true, ap length c.as_slice-low.ensures)),
       k.constants.ok.0,
     )
 

@@ -3,10 +3,11 @@ use Rattle.std.proofs.Common.{◌≡◌, ◌^◌, ◌≤◌, ◌∙◌, ap, sym,
 use Rattle.std.specs.Prelude.{pos, nat_abs, slice_index_or}
 use Rattle.whole_numbers.specs.Lists.{number_at}
 use Rattle.integer_pivots.specs.Turns.{AreSmallTurns, AreTouched, AreWholeTurns}
-use Rattle.integer_pivots.proofs.Sizes.{read_number}
+use Rattle.integer_pivots.proofs.Sizes.{read, read_number}
 use Rattle.integer_pivots.proofs.Crossings.{item_is}
 use Rattle.integer_pivots.proofs.SharedDivisors.{row_told, same_read}
-use Rattle.table_kernel.proofs.TurnArgs.{along_number, row_from_read, row_read, row_small, row_to_read}
+use Rattle.table_kernel.proofs.TurnArgs.{IsRowRead, along_number, row_from_read, row_read, row_small, row_to_read}
+use Rattle.table_kernel.proofs.kernel.Kernel.row_turns_whole.Goals.{After-as_slice-3}
 use Rattle.table_kernel.proofs.kernel.Kernel.row_turns_whole.Goals as goal
 
 pub returns-then-turn : goal.returns-then-turn
@@ -26,6 +27,15 @@ returns-then-turn c =
       λ whole. c.divides_share.ensures.1 (told.1 whole),
     )
 
+-- the variable's row, as it is read
+row_given : (c : After-as_slice-3) →
+    IsRowRead c.args.self.now c.args.var c.args.turn.common (read c.index-along.result.now) c.as_slice-2.result.now
+    c.as_slice.result.now c.as_slice-3.result.now
+row_given c =
+    row_read c.args.self.now c.args.var c.args.turn.common c.index-along.result.now c.as_slice-2.result.now
+    c.as_slice.result.now _ c.as_slice-3.result.now c.requires.ready c.requires.var c.requires.turn.2
+    c.index-along.ensures c.as_slice-2.ensures.value (c.as_slice.ensures ∙ c.index.ensures) c.as_slice-3.ensures.value
+
 pub turns_whole-requires : goal.turns_whole-requires
 turns_whole-requires c =
     let k = c.args.self.now in
@@ -35,9 +45,7 @@ turns_whole-requires c =
     let across = c.as_slice-2.result.now in
     let row = c.as_slice.result.now in
     let columns = c.as_slice-3.result.now in
-    let given = row_read k v d c.index-along.result.now across row _ columns c.requires.ready c.requires.var
-    c.requires.turn.2 c.index-along.ensures c.as_slice-2.ensures.value (c.as_slice.ensures ∙ c.index.ensures)
-    c.as_slice-3.ensures.value in
+    let given = row_given (goal.at.turns_whole-requires c).After-as_slice-3 in
     record {
       divisor = c.requires.divisor;
       small = row_to_read (λ e w line numbers _. AreSmallTurns p e w line numbers) k v d _ across row columns given
@@ -49,14 +57,13 @@ pub returns : goal.returns
 returns c =
     let k = c.args.self.now in
     let v = c.args.var in
-    let p = c.args.turn.pivot in
     let d = c.args.turn.common in
     let across = c.as_slice-2.result.now in
     let row = c.as_slice.result.now in
     let columns = c.as_slice-3.result.now in
-    let given = row_read k v d c.index-along.result.now across row _ columns c.requires.ready c.requires.var
-    c.requires.turn.2 c.index-along.ensures c.as_slice-2.ensures.value (c.as_slice.ensures ∙ c.index.ensures)
-    c.as_slice-3.ensures.value in (
-      λ holds. row_from_read (λ e w line numbers _. AreWholeTurns p e w line numbers) k v d _ across row columns given (c.turns_whole.ensures.0 holds),
-      λ whole. c.turns_whole.ensures.1 (row_to_read (λ e w line numbers _. AreWholeTurns p e w line numbers) k v d _ across row columns given whole),
+    let given = row_given (goal.at.returns c).After-as_slice-3 in (
+      λ holds. row_from_read (λ e w line numbers _. AreWholeTurns c.args.turn.pivot e w line numbers) k v d _ across row columns given
+          (c.turns_whole.ensures.0 holds),
+      λ whole. c.turns_whole.ensures.1
+          (row_to_read (λ e w line numbers _. AreWholeTurns c.args.turn.pivot e w line numbers) k v d _ across row columns given whole),
     )
