@@ -1,11 +1,11 @@
 -- Requests that are asked one after another.
 use Rattle.std.proofs.Common.{◌≡◌, ℕ, ◌+◌, ◌<◌, ◌≤◌, refl, sym, ◌∙◌, ap, subst, inl, inr, get_or, List, [], ◌∷◌, ◌++◌, length, arith, append_assoc, append-nil}
-use Rattle.std.specs.Prelude.{ℤ, pos, ◌-ℤ◌, ◌<ℤ◌, ◌≤ℤ◌, ◌⊎◌, All, Bool, MatchBool, Option, Some, false, slice_get, true}
-use Rattle.std.proofs.lemmas.Int.{ints}
+use Rattle.std.specs.Prelude.{pos, ◌<ℤ◌, ◌≤ℤ◌, ◌⊎◌, All, Bool, MatchBool, Option, Some, false, slice_get, true}
+use Rattle.std.specs.Int.Signed.{clash_ℤ}
 use Rattle.std.proofs.lemmas.Bool.{cases_lt}
 use Rattle.std.proofs.lemmas.List.{get_or-map, length-map, map-append}
 use Rattle.std.proofs.lemmas.Option.{slice_get-get_or}
-use Rattle.std.proofs.lemmas.List.Elements.{All-contains, All-from_get_or, All-nil, All-push, All-weaker, Contains-push}
+use Rattle.std.proofs.lemmas.List.Elements.{All-from_get_or, All-push, All-weaker}
 use Rattle.std.proofs.lemmas.List.Quantifiers.{all_pairs_push}
 use Rattle.area_graph.specs.declared.Point.{Point}
 use Rattle.area_graph.specs.Area.{Area}
@@ -21,10 +21,12 @@ use Rattle.rival_separation.specs.Rivals.{IsCheapest}
 use Rattle.form_search.specs.Sources.{Grows, IsAnswered}
 use Rattle.form_search.specs.declared.source.Asked.{Asked}
 use Rattle.form_search.specs.declared.source.Asked.TheVariants.{Nothing, Added}
+use Rattle.form_search.proofs.SourceLaws.{grows_none}
 use Rattle.cost_branching.specs.Pools.{AreRows, Differ, IsPool}
 use Rattle.cost_branching.specs.Rivals.{BeginWith, IsKept, IsTooCheap, IsTrueOf, KnownRows, LeadsAt}
 use Rattle.cost_branching.specs.Asking.{AnswersBelow, AreAllAsked, AreAsked, AreAskedAmong, IsAskedOf, NoRow, OneRow}
-use Rattle.cost_branching.specs.SourceLaws.{row_met, value_between}
+use Rattle.cost_branching.specs.SourceLaws.{row_met}
+use Rattle.cost_branching.proofs.NewForms.{between_negative, grows_more, new_rival}
 
 -- where the forms of rows are at least 0, each of them is
 rows_met : (p : DesignProblem) (rows : List Row) (forms : List Form) (point : Point) → forms ≡ forms_of_rows p rows →
@@ -40,7 +42,7 @@ pub none_asked : (point : Point) (old : KnownRows) (forms : List Form) →
 none_asked point old forms in_step met = record {
   problem = refl;
   in_step = in_step;
-  grows = record { more = []; same = sym (append-nil forms); more_true = All-nil (IsTrueOf old.problem) };
+  grows = grows_none (IsTrueOf old.problem) forms;
   apart = λ k d k_in. inr (rows_met old.problem old.rows forms point in_step.forms met k d k_in);
   answer = (refl, λ k k_in. absurd (omega arith));
 }
@@ -131,17 +133,10 @@ begun_more first point request old forms new new_forms true begun one = record {
 begun_more first point request old forms new new_forms false begun one =
     record { more = begun.more; same = ap (λ (s : KnownRows). s.rows) one.rows ∙ begun.same }
 
-below_zero : (rival wanted scale : ℕ) → rival < wanted + scale → ((pos rival -ℤ pos wanted) -ℤ pos scale) <ℤ pos 0
-below_zero rival wanted scale cheap = omega (arith, ints)
-
-not_both : (z : ℤ) → pos 0 ≤ℤ z → z <ℤ pos 0 → ⊥
-not_both z above below = omega (arith, ints)
-
 row_negative : (p : DesignProblem) (point : Point) (row : Row) → IsProblem p → length point.values ≡ length p.low →
     IsTooCheap p point row.request row.rival.edges → value_at (form_of_row p row) point <ℤ pos 0
 row_negative p point row kept count cheap =
-    subst (λ (z : ℤ). z <ℤ pos 0) (sym (value_between p point (path_edges (slice_get p.paths row.request)) row.rival.edges kept count))
-    (below_zero (cost p.graph point row.rival.edges) (cost p.graph point (path_edges (slice_get p.paths row.request))) point.scale cheap.cheap)
+    between_negative p point (path_edges (slice_get p.paths row.request)) row.rival.edges kept count cheap.cheap
 
 same_row_form : (p : DesignProblem) (a b : Row) → a.request ≡ b.request → a.rival.edges ≡ b.rival.edges → form_of_row p a ≡ form_of_row p b
 same_row_form p a b same_request same_edges = cc
@@ -151,7 +146,7 @@ differs : (p : DesignProblem) (point : Point) (requests : ℕ) (a row : Row) →
     value_at (form_of_row p row) point <ℤ pos 0 → Apart p point requests a → Differ a row
 differs p point requests a row here negative (inl before) same_request same_edges = omega arith
 differs p point requests a row here negative (inr met) same_request same_edges =
-    not_both (value_at (form_of_row p row) point) (subst (λ (f : Form). pos 0 ≤ℤ value_at f point) (same_row_form p a row same_request same_edges) met) negative
+    clash_ℤ negative (subst (λ (f : Form). pos 0 ≤ℤ value_at f point) (same_row_form p a row same_request same_edges) met)
 
 -- a pool with one row more
 pool_more : (p : DesignProblem) (point : Point) (requests : ℕ) (rows : List Row) (forms : List Form) (row : Row) →
@@ -162,14 +157,6 @@ pool_more p point requests rows forms row pool apart here cheap negative = recor
   rows = All-push (IsRow p) rows row pool.rows cheap.rival;
   once = all_pairs_push Differ rows row pool.once (λ k d k_in. differs p point requests (get_or rows k d) row here negative (apart k d k_in));
   forms = ap (λ (fs : List Form). fs ++ form_of_row p row ∷ []) pool.forms ∙ sym (map-append (form_of_row p) rows (row ∷ []));
-}
-
-grows_more : (p : DesignProblem) (old_forms forms : List Form) (form : Form) → Grows (IsTrueOf p) old_forms forms →
-    IsTrueOf p form → Grows (IsTrueOf p) old_forms (forms ++ form ∷ [])
-grows_more p old_forms forms form grows is = record {
-  more = grows.more ++ form ∷ [];
-  same = ap (λ (fs : List Form). fs ++ form ∷ []) grows.same ∙ append_assoc old_forms grows.more (form ∷ []);
-  more_true = All-push (IsTrueOf p) grows.more form grows.more_true is;
 }
 
 row_added : (point : Point) (requests : ℕ) (old : KnownRows) (old_forms : List Form) (now : KnownRows)
@@ -184,20 +171,14 @@ row_added point requests old old_forms now forms asked row are met count kept he
     record {
       problem = are.problem;
       in_step = pool_more p point requests now.rows forms row are.in_step are.apart here cheap negative;
-      grows = grows_more p old_forms forms (form_of_row p row) are.grows
+      grows = grows_more (IsTrueOf p) old_forms forms (form_of_row p row) are.grows
           (record { kept = kept; of_row = record { row = row; is_row = cheap.rival; same = refl } });
       apart = All-push (Apart p point (requests + 1)) now.rows row
           (All-weaker (Apart p point requests) (Apart p point (requests + 1)) (apart_more p point requests) now.rows
           are.apart) (inl (omega arith));
       answer = (
-        λ leads. not_both (value_at (form_of_row p row) point) (row_met p point row kept.problem count cheap.rival leads) negative,
-        record {
-          form = form_of_row p row;
-          is_new = Contains-push forms (form_of_row p row);
-          not_old = λ has. not_both (value_at (form_of_row p row) point)
-              (All-contains (λ f. pos 0 ≤ℤ value_at f point) old_forms (form_of_row p row) met has) negative;
-          negative = negative;
-        },
+        λ leads. clash_ℤ negative (row_met p point row kept.problem count cheap.rival leads),
+        new_rival point old_forms forms (form_of_row p row) met negative,
       );
     }
 
@@ -244,7 +225,7 @@ none_asked_among point old forms are met = record {
   more = [];
   rows = sym (append-nil (forms_of_rows old.problem old.rows));
   forms = sym (append-nil forms);
-  grows = record { more = []; same = sym (append-nil forms); more_true = All-nil (IsTrueOf old.problem) };
+  grows = grows_none (IsTrueOf old.problem) forms;
 }
 
 pub more_lead_among : (point : Point) (requests : ℕ) (old : KnownRows) (old_forms : List Form) (now : KnownRows)
@@ -291,7 +272,7 @@ one_added_among point requests old old_forms now forms new new_forms asked are m
       forms = one.forms ∙ ap (λ (f : Form). forms ++ f ∷ []) row_form
           ∙ ap (λ (fs : List Form). fs ++ form ∷ []) are.forms ∙ append_assoc old_forms are.more (form ∷ []);
       grows = subst (λ (fs : List Form). Grows (IsTrueOf p) old_forms fs) (sym (one.forms ∙ ap (λ (f : Form). forms ++ f ∷ []) row_form))
-          (grows_more p old_forms forms form are.grows
+          (grows_more (IsTrueOf p) old_forms forms form are.grows
           (record {
             kept = subst IsKept are.own.problem one.kept;
             of_row = record {

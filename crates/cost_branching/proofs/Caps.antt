@@ -1,8 +1,8 @@
 -- What a search over the box at a cap decides.
-use Rattle.std.proofs.Common.{◌≡◌, ℕ, ◌<◌, ◌≤◌, refl, sym, ◌∙◌, ap, subst, get_or, List, [], ◌++◌, length, take, arith}
+use Rattle.std.proofs.Common.{◌≡◌, ℕ, ◌<◌, refl, sym, ◌∙◌, ap, subst, get_or, List, [], ◌++◌, length, take, arith}
 use Rattle.std.specs.Prelude.{All, min}
 use Rattle.std.proofs.lemmas.List.{append-nil, get_or-map, length-map, take_at}
-use Rattle.std.proofs.lemmas.List.Elements.{All-from_get_or, All-map}
+use Rattle.std.proofs.lemmas.List.Elements.{All-map}
 use Rattle.path_rows.specs.declared.form.CostBox.{CostBox}
 use Rattle.path_rows.specs.declared.form.Row.{Row}
 use Rattle.path_rows.specs.Forms.{Form}
@@ -16,10 +16,6 @@ use Rattle.form_search.specs.declared.found.Found.TheVariants.{Costs, Refuted, S
 use Rattle.cost_branching.specs.Pools.{IsPool, MoreRows, Pooled}
 use Rattle.cost_branching.specs.Decisions.{IsDecided}
 use Rattle.cost_branching.specs.Rivals.{IsKept, IsTrueOf}
-
--- each lower bound is at least 1
-pub lows_from : (p : DesignProblem) → IsProblem p → All (λ low. 1 ≤ low) p.low
-lows_from p kept = All-from_get_or (λ low. 1 ≤ low) p.low 0 (λ k k_in. (kept.ordered k k_in).0)
 
 -- costs of the box at a cap are costs of the box
 pub uncapped : (box : CostBox) (cap : ℕ) (w : List ℕ) → IsInBox (capped box cap) w → IsInBox box w

@@ -1,2 +1,3 @@
+pub mod NewForms
 pub mod Asked
 pub mod Caps

@@ -1,7 +1,7 @@
 -- Laws of the source of rivals: its true forms hold where each path leads, they stand in one list, and a path that leads
 -- at multiples of costs leads at the costs.
 use Rattle.std.proofs.Common.{◌≡◌, ℕ, zero, suc, ◌+◌, ◌*◌, ◌^◌, ◌<◌, ◌≤◌, refl, sym, ◌∙◌, subst, ap, inl, inr, get_or, List, [], ◌∷◌, map, length, arith}
-use Rattle.std.specs.Prelude.{ℤ, pos, ◌-ℤ◌, ◌≤ℤ◌, nat_abs, All, Contains, slice_get, slice_index, Option, None, Some}
+use Rattle.std.specs.Prelude.{ℤ, pos, ◌-ℤ◌, ◌≤ℤ◌, nat_abs, All, Contains, slice_get, slice_index}
 use Rattle.std.proofs.lemmas.Int.{ints}
 use Rattle.std.proofs.lemmas.List.{length-map, get_or-map}
 use Rattle.std.proofs.lemmas.List.Elements.{Contains-append_left, Contains-append_right}
@@ -21,12 +21,12 @@ use Rattle.path_rows.specs.declared.form.Row.{Row}
 use Rattle.path_rows.specs.Forms.{Form}
 use Rattle.path_rows.specs.Forms.{IsSmallForm, value, value_at}
 use Rattle.path_rows.specs.Problems.{DesignProblem, IsProblem, ends_of, no_request}
-use Rattle.path_rows.specs.Rows.{IsRivalOf, IsRouteOf, LeadsEach, form_between, form_of_row, path_edges}
+use Rattle.path_rows.specs.Rows.{IsRivalOf, LeadsEach, form_between, form_of_row, path_edges}
 use Rattle.path_rows.proofs.FormBounds.{simple_form_small}
 use Rattle.path_rows.proofs.FormLaws.{value-form_between}
 use Rattle.path_rows.proofs.FormSizes.{value_size}
 use Rattle.path_rows.proofs.PathBounds.{path-known, simple-short}
-use Rattle.path_rows.proofs.RowForms.{RowPaths, row_paths}
+use Rattle.path_rows.proofs.RowForms.{RowPaths, route_of_rival, row_paths}
 use Rattle.form_search.specs.Sources.{IsTrueForm, scaled}
 use Rattle.cost_branching.specs.Candidates.{begun_by, candidate_forms, edge_lists, forms_of_requests, lists_within}
 use Rattle.cost_branching.specs.Rivals.{IsTrueOf}
@@ -52,10 +52,6 @@ rival_dearer g point (r ∷ rs) (suc k) es leads rival = rival_dearer g point rs
 
 -- The paths of a row.
 
-route_of_rival : (g : Area) (r : Option Request) (es : List ℕ) → IsRivalOf g r es → IsRouteOf g r es
-route_of_rival g None es rival = absurd rival
-route_of_rival g (Some r) es rival = rival.0
-
 abbrev path_at : DesignProblem → Row → List ℕ
 path_at p row = (get_or p.paths row.request no_request).path.edges
 
@@ -80,6 +76,12 @@ row_met p point row kept count rival leads =
 below : (a b c : ℕ) → a ≤ b → b < c → a < c
 below a b c first later = omega arith
 
+-- what a form that is small for so many variables comes to at costs
+pub small_value : (n : ℕ) (form : Form) (w : List ℕ) → IsSmallForm n form → All (λ x. (1 ≤ x) × (x ≤ 65535)) w → nat_abs (value form w) < 2 ^ 27
+small_value n form w small each =
+    below (nat_abs (value form w)) _ (2 ^ 27)
+    (value_size form w (λ k d k_in. let within = each k d k_in in omega arith)) small.size
+
 pub true_forms_hold : (p : DesignProblem) (form : Form) → IsTrueOf p form → IsTrueForm (length p.low) (LeadsEach p) form
 true_forms_hold p form is =
     let row = is.of_row.row in
@@ -90,7 +92,7 @@ true_forms_hold p form is =
     record {
       count = small.count;
       sizes = small.sizes;
-      values = λ w count each. below (nat_abs (value form w)) _ (2 ^ 27) (value_size form w (λ k d k_in. let within = each k d k_in in omega arith)) small.size;
+      values = λ w count each. small_value (length p.low) form w small each;
       met = λ point count leads. subst (λ (f : Form). pos 0 ≤ℤ value_at f point) is.of_row.same
           (row_met p point row is.kept.problem count is.of_row.is_row leads);
     }

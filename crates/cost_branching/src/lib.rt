@@ -11,4 +11,4 @@ mod rivals;
 pub use form_search::Found;
 pub use one_cap::decide;
 pub use pool::Pool;
-pub use rivals::{Begun, Rivals, keeps_conditions, row_of};
+pub use rivals::{Begun, Rivals, keeps_conditions, path_count, row_of, variable_count};

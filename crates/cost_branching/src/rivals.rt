@@ -72,6 +72,20 @@ pub fn keeps_conditions(problem: &Problem)
     problem.graph.keeps_conditions();
 }
 
+/// How many wanted paths a problem has.
+pub fn path_count(problem: &Problem) -> u32
+    ensures { result ≡ length problem.now.paths }
+{
+    problem.paths.as_slice().len() as u32
+}
+
+/// How many variables a problem has.
+pub fn variable_count(problem: &Problem) -> u32
+    ensures { result ≡ length problem.now.low }
+{
+    problem.low.as_slice().len() as u32
+}
+
 /// The row of a request and a rival's edges. Its own start plays no part.
 ///
 /// # Errors
@@ -181,13 +195,6 @@ fn ask_one(
     Ok(true)
 }
 
-/// How many requests a problem has.
-fn requests(problem: &Problem) -> u32
-    ensures { result ≡ length problem.now.paths }
-{
-    problem.paths.as_slice().len() as u32
-}
-
 /// Asks for the cheapest rival of each request that is marked, in the requests' order; a path of another one leads.
 fn ask_marked(
     alloc: Global,
@@ -208,7 +215,7 @@ fn ask_marked(
     ensures more { BeginWith rows.old.items rows.new.items }
     ensures grows { Grows (IsTrueOf problem.now) pool.old pool.new }
 {
-    let count = requests(problem);
+    let count = path_count(problem);
     let mut asked = Asked::Nothing;
     for request in 0..count {
         if ask_one(alloc, problem, asker, request, point, rows, pool)? {
@@ -317,8 +324,7 @@ impl<'a, B: Begun> RowSource for Rivals<'a, B> {
     ghost candidates = { λ s. candidate_forms s.problem };
 
     fn variables(&self) -> u32 {
-        let problem = self.problem;
-        problem.low.as_slice().len() as u32
+        variable_count(self.problem)
     }
 
     fn ask(

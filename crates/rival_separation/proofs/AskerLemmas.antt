@@ -7,11 +7,8 @@ use Rattle.std.proofs.lemmas.List.Elements.{All-push, Contains-append_left, Cont
 use Rattle.area_graph.specs.declared.Point.{Point}
 use Rattle.area_graph.specs.Area.{Area}
 use Rattle.path_rows.specs.declared.problem.Request.{Request}
-use Rattle.path_rows.specs.Problems.{ends_of, no_request, request_at}
-use Rattle.spf_ties.specs.Distances.{Findings}
-use Rattle.rival_separation.specs.declared.asker.Shared.{Shared}
-use Rattle.rival_separation.specs.Askers.{IsReady, RequestLeads, lead_at}
-use Rattle.rival_separation.specs.Rivals.{IsFound, IsFoundTo}
+use Rattle.path_rows.specs.Problems.{no_request, request_at}
+use Rattle.rival_separation.specs.Askers.{RequestLeads}
 
 -- the numbers below n, and n
 pub one_more : (n count : ℕ) (order new : List ℕ) → All (λ k. k < count) order → ((k : ℕ) → k < n → Contains order k) →
@@ -23,16 +20,6 @@ one_more n count order new known each more same = (
     | inr last ↦ subst (λ (i : ℕ). Contains (order ++ n ∷ []) i) (let same : n ≡ k = omega arith in same) (Contains-push order n)
   ]),
 )
-
--- what is ready for a request has the distances with which its path is compared
-pub ready_found : (g : Area) (p : Point) (requests : List Request) (room : Findings) (k : ℕ) (shared : Shared) →
-    IsReady g p requests room k shared →
-    IsFoundTo g p (ends_of (request_at requests k)) (lead_at g p (request_at requests k)) room
-ready_found g p requests room k shared ready = record {
-  limit = shared.limit;
-  above = ready.above;
-  found = subst (λ (i : ℕ). IsFound g p (ends_of (request_at requests i)) shared.limit room) ready.of_request ready.shares.found;
-}
 
 -- what holds of each number in the order holds of each request's number
 pub order_reaches : (order : List ℕ) (count place : ℕ) → ((k : ℕ) → k < count → Contains order k) →

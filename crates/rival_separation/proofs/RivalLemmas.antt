@@ -1,5 +1,5 @@
 -- Offers, deviations and the way along tight edges.
-use Rattle.std.proofs.Common.{◌≡◌, ◌≢◌, ℕ, zero, suc, ◌+◌, ◌*◌, ◌^◌, ◌<◌, ◌≤◌, refl, sym, ◌∙◌, ap, subst, List, [], ◌∷◌, ◌++◌, All, length, get_or, take, Option, Some, None, true, false, inl, inr, arith, append_assoc, length-append}
+use Rattle.std.proofs.Common.{◌≡◌, ◌≢◌, ℕ, zero, suc, ◌+◌, ◌*◌, ◌^◌, ◌<◌, ◌≤◌, refl, sym, ◌∙◌, ap, subst, List, [], ◌∷◌, ◌++◌, All, length, get_or, take, Option, Some, None, true, false, inl, inr, arith, append-nil, append_assoc, length-append}
 use Rattle.std.proofs.Math.Seq.{take-append_seam}
 use Rattle.std.proofs.lemmas.Bool.{cases_lt, eqb-true}
 use Rattle.std.proofs.lemmas.List.Sums.{sum_by-cons, sum_by-append}
@@ -360,10 +360,6 @@ completes_more g p ends limit room Whole walk v f graph fits found so_far known 
           (so_far.whole (f ∷ rest) longer_path (omega (arith, here, adds, costs, longer))));
     }
 
-append_nil : (xs : List ℕ) → xs ++ [] ≡ xs
-append_nil [] = refl
-append_nil (x ∷ xs) = ap (λ ys. x ∷ ys) (append_nil xs)
-
 -- at the end the walk is whole
 pub completed : (g : Area) (p : Point) (ends : Ends) (limit : ℕ) (room : Findings) (Whole : List ℕ → Type 0)
     (walk : List ℕ) (v : ℕ) → IsFound g p ends limit room → Completes g p ends room Whole walk v →
@@ -375,7 +371,7 @@ completed g p ends limit room Whole walk v found so_far arrived =
     } in
     let least = is_least g p (ends_from ends v) limit (distance_at room v) so_far.least (found.least v so_far.known) so_far.distance in
     let none_less = least.none_less [] path in
-    subst Whole (append_nil walk) (so_far.whole [] path (omega arith))
+    subst Whole (append-nil walk) (so_far.whole [] path (omega arith))
 
 -- short of the end some tight edge is left
 pub some_next : (g : Area) (p : Point) (ends : Ends) (limit : ℕ) (room : Findings) (Whole : List ℕ → Type 0)
@@ -418,9 +414,10 @@ kept_tight : (g : Area) (p : Point) (room : Findings) (kept es : List ℕ) → A
 kept_tight g p room kept [] tight = tt
 kept_tight g p room kept (e ∷ es) tight = (tight.0, kept_tight g p room kept es tight.1)
 
-pub found_kept : (g : Area) (p : Point) (ends : Ends) (limit : ℕ) (room : Findings) (kept : List ℕ) →
-    IsFound g p ends limit room → IsFound g p ends limit (record room { path = kept })
-found_kept g p ends limit room kept found = record {
+-- what a room found stays found with any path kept
+pub found_kept : (g : Area) (p : Point) (ends : Ends) (limit : ℕ) (room : Findings) (kept : List ℕ) (new : Findings) →
+    new ≡ record room { path = kept } → IsFound g p ends limit room → IsFound g p ends limit new
+found_kept g p ends limit room kept new same found = subst (IsFound g p ends limit) (sym same) (record {
   room_for = record { vertices = found.room_for.vertices; edges = found.room_for.edges };
   marks = found.marks;
   least = found.least;
@@ -428,7 +425,7 @@ found_kept g p ends limit room kept found = record {
     λ least. tight_kept g p room kept es ((found.tight v es path near).0 least),
     λ tight. (found.tight v es path near).1 (kept_tight g p room kept es tight),
   );
-}
+})
 
 pub completes_kept : (g : Area) (p : Point) (ends : Ends) (room : Findings) (Whole : List ℕ → Type 0)
     (walk kept : List ℕ) (v : ℕ) → Completes g p ends room Whole walk v →

@@ -249,31 +249,22 @@ impl Asker {
         is_beaten(graph, self.request_at(requests, place), point, &self.room)
     }
 
-    /// Marks the request at a place of the order, or takes its mark away.
-    fn mark_at(
-        &mut self,
-        graph: &Graph,
-        requests: &[Request],
-        point: &Point,
-        place: usize,
-        shared: Option<Shared>,
-    ) -> Shared
+    /// Marks the request at a place of the order, or takes its mark away; the room has the distances that serve it.
+    fn mark_at(&mut self, graph: &Graph, requests: &[Request], point: &Point, place: usize)
         requires asker { IsAskerFor graph.now requests.now self.old }
         requires fits { FitsPoint graph.now point.now }
         requires paths { ArePathsOf graph.now requests.now }
         requires place { place < length self.old.order }
-        requires shared { MayShare graph.now point.now requests.now self.old.room shared }
+        requires found { IsFoundTo graph.now point.now (ends_of (request_at requests.now (slice_index self.old.order place)))
+            (lead_at graph.now point.now (request_at requests.now (slice_index self.old.order place))) self.old.room }
         ensures asker { IsAskerFor graph.now requests.now self.new }
-        ensures order { self.new.order ≡ self.old.order }
-        ensures shared { MayShare graph.now point.now requests.now self.new.room (Some result) }
+        ensures same { self.new ≡ record self.old { marks = self.new.marks } }
         ensures here { IsMarkTrue graph.now point.now requests.now self.new.marks (slice_index self.old.order place) }
         ensures kept { (k : ℕ) → IsMarkTrue graph.now point.now requests.now self.old.marks k → IsMarkTrue graph.now point.now requests.now self.new.marks k }
     {
-        let shared = self.prepare(graph, requests, point, place, shared);
         let beaten = self.is_beaten_at(graph, requests, point, place);
         let number = self.number_at(place);
         self.beaten[number as usize] = beaten;
-        shared
     }
 
     /// Marks each request that has a rival which costs less at a point than its path and the scale, and no other. The
@@ -287,7 +278,9 @@ impl Asker {
     {
         let mut shared = None;
         for place in 0..self.places() {
-            shared = Some(self.mark_at(graph, requests, point, place, shared));
+            let ready = self.prepare(graph, requests, point, place, shared);
+            self.mark_at(graph, requests, point, place);
+            shared = Some(ready);
         }
     }
 

@@ -1,3 +1,4 @@
 pub mod PrefixLemmas
 pub mod DepartureLemmas
 pub mod GrownTrees
+pub mod PutPrefixes

@@ -19,7 +19,8 @@ use path_rows::Request;
 use rival_separation::{Deviation, leave_by};
 use spf_ties::Room;
 
-/// Makes the path that the room keeps the prefix of a place.
+/// Makes the path that the room keeps the prefix of a place: its edges are found from the place back to the root, and then
+/// the path is turned around.
 fn put_prefix(graph: &Graph, request: &Request, tree: &PrefixTree, place: usize, room: &mut Room)
     requires room { IsRoomFor graph.now room.old }
     requires tree { (wanted : List (List ℕ)) × IsTreeOf graph.now (ends_of request.now) wanted tree.now }
@@ -27,13 +28,14 @@ fn put_prefix(graph: &Graph, request: &Request, tree: &PrefixTree, place: usize,
     ensures { (wanted done : List (List ℕ)) (tree : IsGrown wanted done tree.now) → room.new ≡ record room.old { path = prefix_at tree.prefixes place } }
 {
     graph.keeps_conditions();
-    if place == 0 {
-        room.clear_path();
-        return;
+    room.clear_path();
+    let mut at = place;
+    while at != 0 {
+        let step = tree.steps()[at - 1];
+        room.add_to_path(step.edge);
+        at = step.place;
     }
-    let step = tree.steps()[place - 1];
-    put_prefix(graph, request, tree, step.place, room);
-    room.add_to_path(step.edge);
+    room.reverse_path();
 }
 
 /// Makes the path that the room keeps the cheapest outsider: up to the place of the best departure it is that place's prefix.

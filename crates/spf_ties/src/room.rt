@@ -1,6 +1,6 @@
 //! The room in which distances are found and kept.
 
-ghost use Rattle.std.specs.Prelude.{◌≡◌, ◌↔◌, ◌++◌, ◌∷◌, List, Some, ℕ, ◌<◌, [], replicate, length, IfOk, IsTrue, None, false, slice_index_or, true};
+ghost use Rattle.std.specs.Prelude.{◌≡◌, ◌↔◌, ◌++◌, ◌∷◌, List, Some, ℕ, ◌<◌, [], replicate, length, reverse, IfOk, IsTrue, None, false, slice_index_or, true};
 ghost use Rattle.area_graph.specs.Distances.{AreMarks};
 ghost use Rattle.area_graph.specs.Costs.{FitsPoint, cost};
 ghost use Rattle.area_graph.specs.Paths.{IsPathOf};
@@ -209,6 +209,13 @@ impl Room {
         ensures { self.new ≡ record self.old { path = self.old.path ++ edge ∷ [] } }
     {
         self.path.push_reserved(edge);
+    }
+
+    /// Turns the path that the room keeps around, so that its last edge comes first.
+    pub fn reverse_path(&mut self)
+        ensures { self.new ≡ record self.old { path = reverse self.old.path } }
+    {
+        self.path.reverse();
     }
 
     /// The edges of the path that the room keeps.

@@ -1,24 +1,22 @@
 -- Sets that are asked one after another.
-use Rattle.std.proofs.Common.{◌≡◌, ℕ, ◌+◌, ◌<◌, ◌≤◌, refl, sym, ◌∙◌, ap, subst, inl, inr, get_or, List, [], ◌∷◌, ◌++◌, length, arith, append_assoc, append-nil}
-use Rattle.std.specs.Prelude.{ℤ, pos, ◌-ℤ◌, ◌<ℤ◌, ◌≤ℤ◌, ◌↔◌, All, Contains}
-use Rattle.std.proofs.lemmas.Int.{ints}
+use Rattle.std.proofs.Common.{◌≡◌, ℕ, ◌+◌, ◌<◌, ◌≤◌, refl, sym, ◌∙◌, ap, subst, inl, inr, List, [], ◌∷◌, ◌++◌, length, arith, append_assoc}
+use Rattle.std.specs.Prelude.{◌↔◌}
 use Rattle.std.proofs.lemmas.Bool.{cases_lt}
 use Rattle.std.proofs.lemmas.List.{map-append}
-use Rattle.std.proofs.lemmas.List.Elements.{All-contains, All-from_get_or, All-nil, All-push, Contains-push}
+use Rattle.std.proofs.lemmas.List.Elements.{All-contains, All-from_get_or, All-push}
 use Rattle.area_graph.specs.declared.Point.{Point}
 use Rattle.area_graph.specs.declared.Path.{Path}
-use Rattle.area_graph.specs.Costs.{cost}
 use Rattle.path_rows.specs.Forms.{Form, AreMet}
-use Rattle.path_rows.specs.Forms.{value_at}
-use Rattle.path_rows.specs.Problems.{DesignProblem, IsProblem}
-use Rattle.form_search.specs.Sources.{Grows, IsAnswered, SameSource}
+use Rattle.path_rows.specs.Problems.{DesignProblem}
+use Rattle.form_search.specs.Sources.{IsAnswered, SameSource}
 use Rattle.form_search.specs.declared.source.Asked.{Asked}
 use Rattle.form_search.specs.declared.source.Asked.TheVariants.{Nothing, Added}
 use Rattle.cost_branching.specs.Rivals.{IsKept}
-use Rattle.cost_branching.specs.SourceLaws.{value_between}
+use Rattle.form_search.proofs.SourceLaws.{grows_none}
+use Rattle.cost_branching.proofs.NewForms.{between_negative, grows_more, new_rival}
 use Rattle.spread_sets.specs.declared.spread.SetRow.{SetRow}
 use Rattle.spread_sets.specs.declared.spread.SetRow.TheVariants.{Rival}
-use Rattle.spread_sets.specs.Spreads.{IsSetRow, Shares, SharesEach, cost_in, edges_of, first_of, form_of_set_row, forms_of_set_rows}
+use Rattle.spread_sets.specs.Spreads.{IsSetRow, Shares, SharesEach, edges_of, first_of, form_of_set_row}
 use Rattle.spread_sets.specs.MemberSets.{AreMemberSets}
 use Rattle.spread_sets.specs.Sources.{AreInStep, IsTooCheap, IsTrueOfSets, KnownSets, candidates_of, set_at, tie_rows}
 use Rattle.spread_sets.specs.Asking.{AnswersBelow, AreAllAsked, AreAsked, NoRow, OneRow}
@@ -30,21 +28,24 @@ none_asked point s forms in_step = record {
   problem = refl;
   sets = refl;
   in_step = in_step;
-  grows = record { more = []; same = sym (append-nil forms); more_true = All-nil (IsTrueOfSets s.problem s.sets) };
+  grows = grows_none (IsTrueOfSets s.problem s.sets) forms;
   answer = (refl, λ k k_in. absurd (omega arith));
 }
+
+-- the first sets share, and one more
+pub shares_more : (p : DesignProblem) (sets : List (List ℕ)) (point : Point) (count : ℕ) →
+    ((k : ℕ) → k < count → Shares p point (set_at sets k)) → Shares p point (set_at sets count) → (k : ℕ) →
+    k < count + 1 → Shares p point (set_at sets k)
+shares_more p sets point count before shares k k_in = elim (cases_lt k count) [
+  | inl earlier ↦ before k earlier
+  | inr last ↦ subst (λ (i : ℕ). Shares p point (set_at sets i)) (let e : count ≡ k = omega arith in e) shares
+]
 
 -- one set more, which shares
 answers_more : (old : KnownSets) (point : Point) (count : ℕ) (old_forms forms : List Form) (asked : Asked) →
     AnswersBelow old point count old_forms forms asked → Shares old.problem point (set_at old.sets count) →
     AnswersBelow old point (count + 1) old_forms forms asked
-answers_more old point count old_forms forms Nothing answer shares = (
-  answer.0,
-  λ k k_in. elim (cases_lt k count) [
-    | inl before ↦ answer.1 k before
-    | inr last ↦ subst (λ (i : ℕ). Shares old.problem point (set_at old.sets i)) (let e : count ≡ k = omega arith in e) shares
-  ],
-)
+answers_more old point count old_forms forms Nothing answer shares = (answer.0, shares_more old.problem old.sets point count answer.1 shares)
 answers_more old point count old_forms forms Added answer shares = answer
 
 -- the problem and the sets under other names
@@ -72,19 +73,6 @@ more_share point count old old_forms now forms new new_forms asked are one =
 
 -- one set more, of which a row came
 
-below_zero : (rival wanted scale : ℕ) → rival < wanted + scale → ((pos rival -ℤ pos wanted) -ℤ pos scale) <ℤ pos 0
-below_zero rival wanted scale cheap = omega (arith, ints)
-
-not_both : (z : ℤ) → pos 0 ≤ℤ z → z <ℤ pos 0 → ⊥
-not_both z above below = omega (arith, ints)
-
-rival_negative : (p : DesignProblem) (point : Point) (set : List ℕ) (rival : Path) → IsProblem p →
-    length point.values ≡ length p.low → IsTooCheap p point set rival.edges →
-    value_at (form_of_set_row p (Rival (first_of set) rival)) point <ℤ pos 0
-rival_negative p point set rival kept count cheap =
-    subst (λ (z : ℤ). z <ℤ pos 0) (sym (value_between p point (edges_of p (first_of set)) rival.edges kept count))
-    (below_zero (cost p.graph point rival.edges) (cost_in p point set) point.scale cheap.cheap)
-
 -- rows with one more
 pub in_step_more : (now : KnownSets) (forms : List Form) (row : SetRow) → AreInStep now forms →
     IsSetRow now.problem now.sets row →
@@ -95,15 +83,6 @@ in_step_more now forms row in_step is = record {
   begun = ap (λ (rs : List SetRow). rs ++ row ∷ []) in_step.begun ∙ append_assoc (tie_rows now.sets) in_step.more (row ∷ []);
   forms = ap (λ (fs : List Form). fs ++ form_of_set_row now.problem row ∷ []) in_step.forms
       ∙ sym (map-append (form_of_set_row now.problem) now.rows (row ∷ []));
-}
-
-grows_more : (p : DesignProblem) (sets : List (List ℕ)) (old_forms forms : List Form) (form : Form) →
-    Grows (IsTrueOfSets p sets) old_forms forms → IsTrueOfSets p sets form →
-    Grows (IsTrueOfSets p sets) old_forms (forms ++ form ∷ [])
-grows_more p sets old_forms forms form grows is = record {
-  more = grows.more ++ form ∷ [];
-  same = ap (λ (fs : List Form). fs ++ form ∷ []) grows.same ∙ append_assoc old_forms grows.more (form ∷ []);
-  more_true = All-push (IsTrueOfSets p sets) grows.more form grows.more_true is;
 }
 
 pub too_cheap_not : (p : DesignProblem) (point : Point) (set es : List ℕ) → IsTooCheap p point set es → Shares p point set → ⊥
@@ -122,23 +101,17 @@ row_added point count p sets old_rows old_forms rows forms asked rival are met l
     let set = set_at sets count in
     let row : SetRow = Rival (first_of set) rival in
     let has = listed_at sets count [] inside in
-    let negative = rival_negative p point set rival kept.problem length_is cheap in
+    let negative = between_negative p point (edges_of p (first_of set)) rival.edges kept.problem length_is cheap.cheap in
     let is_row : IsSetRow p sets row = (set, record { listed = has; first = refl }, cheap.rival) in
     record {
       problem = refl;
       sets = refl;
       in_step = in_step_more (record { problem = p; sets = sets; rows = rows }) forms row are.in_step is_row;
-      grows = grows_more p sets old_forms forms (form_of_set_row p row) are.grows
+      grows = grows_more (IsTrueOfSets p sets) old_forms forms (form_of_set_row p row) are.grows
           (record { kept = kept; are = members; of_row = record { row = row; is_row = is_row; same = refl } });
       answer = (
         λ each. too_cheap_not p point set rival.edges cheap (All-contains (Shares p point) sets set each has),
-        record {
-          form = form_of_set_row p row;
-          is_new = Contains-push forms (form_of_set_row p row);
-          not_old = λ has_form. not_both (value_at (form_of_set_row p row) point)
-              (All-contains (λ f. pos 0 ≤ℤ value_at f point) old_forms (form_of_set_row p row) met has_form) negative;
-          negative = negative;
-        },
+        new_rival point old_forms forms (form_of_set_row p row) met negative,
       );
     }
 
@@ -211,15 +184,6 @@ all_share p sets point count all shares = All-from_get_or (Shares p point) sets 
 pub not_all_share : (p : DesignProblem) (sets : List (List ℕ)) (point : Point) (k : ℕ) → k < length sets →
     (Shares p point (set_at sets k) → ⊥) → SharesEach p sets point → ⊥
 not_all_share p sets point k inside not each = not (each k [] inside)
-
--- the first sets share, and one more
-pub shares_more : (p : DesignProblem) (sets : List (List ℕ)) (point : Point) (count : ℕ) →
-    ((k : ℕ) → k < count → Shares p point (set_at sets k)) → Shares p point (set_at sets count) → (k : ℕ) →
-    k < count + 1 → Shares p point (set_at sets k)
-shares_more p sets point count before shares k k_in = elim (cases_lt k count) [
-  | inl earlier ↦ before k earlier
-  | inr last ↦ subst (λ (i : ℕ). Shares p point (set_at sets i)) (let e : count ≡ k = omega arith in e) shares
-]
 
 -- What no call changes.
 

@@ -1,10 +1,8 @@
 -- What a search over sets comes to, and what is answered.
-use Rattle.std.proofs.Common.{◌≡◌, ℕ, ◌+◌, ◌<◌, ◌≤◌, refl, sym, ◌∙◌, ap, subst, get_or, List, [], map, length, arith}
-use Rattle.std.specs.Prelude.{All, Contains}
+use Rattle.std.proofs.Common.{◌≡◌, ℕ, ◌≤◌, refl, sym, ◌∙◌, ap, subst, get_or, List, map, length}
+use Rattle.std.specs.Prelude.{All}
 use Rattle.std.proofs.lemmas.List.Elements.{All-map}
-use Rattle.cost_base.specs.Lists.{numbers_from}
 use Rattle.path_rows.specs.declared.form.CostBox.{CostBox}
-use Rattle.path_rows.specs.declared.tree.Entry.{Entry}
 use Rattle.path_rows.specs.Forms.{Form}
 use Rattle.path_rows.specs.Problems.{DesignProblem, IsProblem}
 use Rattle.path_rows.specs.Rows.{box_of}
@@ -12,15 +10,12 @@ use Rattle.path_rows.specs.Boxes.{capped}
 use Rattle.path_rows.specs.Answers.{greatest_bound, whole_box}
 use Rattle.form_search.specs.Finds.{IsFound}
 use Rattle.form_search.specs.declared.found.Found.{Found}
-use Rattle.form_search.specs.declared.found.Found.TheVariants.{Costs, Refuted, Spent}
 use Rattle.cost_branching.specs.Rivals.{IsKept}
-use Rattle.printed_rows.specs.NewNumbers.{IsPrinted}
 use Rattle.printed_rows.proofs.CapBoxes.{floor_below_ceiling, no_low_above}
 use Rattle.set_reader.specs.SpreadSets.{AreSetsOf}
 use Rattle.spread_sets.specs.declared.finding.Sought.{Sought}
 use Rattle.spread_sets.specs.declared.member_sets.MemberSet.{MemberSet}
-use Rattle.spread_sets.specs.declared.spread.SetRow.{SetRow}
-use Rattle.spread_sets.specs.Spreads.{IsFormOfSetRow, IsSetRow, SharesEach, all_sets, form_of_set_row, forms_of_set_rows}
+use Rattle.spread_sets.specs.Spreads.{IsSetRow, SharesEach, all_sets, form_of_set_row, forms_of_set_rows}
 use Rattle.spread_sets.specs.MemberSets.{AreMemberSets, HasTree, IsMemberSet, sets_in}
 use Rattle.spread_sets.specs.Sources.{AreInStep, IsSought, IsTrueOfSets, KnownSets}
 use Rattle.spread_sets.proofs.MadeSets.{sets_below}

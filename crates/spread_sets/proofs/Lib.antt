@@ -4,6 +4,7 @@ pub mod PrintedSets
 pub mod Ties
 pub mod AskedSets
 pub mod MadeSets
+pub mod LineNumbers
 pub mod TieForms
 pub mod Separations
 pub mod Findings

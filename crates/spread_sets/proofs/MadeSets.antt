@@ -1,8 +1,8 @@
 -- Sets that are made one after another, and the trees of their paths' prefixes.
-use Rattle.std.proofs.Common.{◌≡◌, ℕ, zero, suc, ◌+◌, ◌<◌, ◌≤◌, refl, sym, ◌∙◌, ap, subst, get_or, List, [], ◌∷◌, ◌++◌, map, length, take, arith, append-nil, append_assoc, Bool, true, false}
+use Rattle.std.proofs.Common.{◌≡◌, ℕ, ◌+◌, ◌<◌, ◌≤◌, refl, sym, ◌∙◌, ap, subst, get_or, List, [], ◌∷◌, ◌++◌, map, length, take, arith, append-nil, append_assoc, Bool, true, false}
 use Rattle.std.specs.Prelude.{All, Contains, cond, filter}
-use Rattle.std.proofs.lemmas.List.{get_or_default, map-append, take_all, take_more}
-use Rattle.std.proofs.lemmas.List.Elements.{All-more, All-nil, All-push, filter-append}
+use Rattle.std.proofs.lemmas.List.{map-append, take_all, take_more}
+use Rattle.std.proofs.lemmas.List.Elements.{All-more, All-push, filter-append}
 use Rattle.cost_base.specs.Lists.{numbers_from}
 use Rattle.cost_base.proofs.ListLemmas.{numbers_from-push}
 use Rattle.path_rows.specs.Problems.{DesignProblem}

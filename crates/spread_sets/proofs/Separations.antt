@@ -1,5 +1,5 @@
 -- What the separation needs of a set, and what it tells.
-use Rattle.std.proofs.Common.{◌≡◌, ℕ, zero, suc, ◌+◌, ◌<◌, ◌≤◌, refl, sym, ◌∙◌, ap, subst, get_or, List, [], ◌∷◌, map, length, arith, Bool, true, false}
+use Rattle.std.proofs.Common.{◌≡◌, ℕ, ◌+◌, ◌<◌, ◌≤◌, refl, sym, ◌∙◌, ap, subst, get_or, List, [], map, length, arith, Bool, true, false}
 use Rattle.std.specs.Prelude.{All, Contains, MatchBool, None, replicate, slice_get}
 use Rattle.std.proofs.lemmas.List.{get_or-map, get_or_default, length-map, length-replicate}
 use Rattle.std.proofs.lemmas.List.Elements.{All-contains, All-map}
@@ -13,10 +13,8 @@ use Rattle.path_rows.specs.Rows.{IsRouteOf, form_between, form_of_row, path_edge
 use Rattle.path_rows.specs.declared.form.Row.{Row}
 use Rattle.path_rows.proofs.PathBounds.{request_of_route}
 use Rattle.spf_ties.specs.Distances.{Findings, IsRoomFor}
-use Rattle.set_separation.specs.declared.prefix_tree.Step.{Step}
 use Rattle.set_separation.specs.Departures.{IsTiedTree}
 use Rattle.set_separation.specs.Outsiders.{CostAtLeast, IsCheapestOutsider}
-use Rattle.set_separation.specs.PrefixTrees.{IsTreeOf}
 use Rattle.spread_sets.specs.declared.member_sets.MemberSet.{MemberSet}
 use Rattle.spread_sets.specs.declared.spread.SetRow.{SetRow}
 use Rattle.spread_sets.specs.declared.spread.SetRow.TheVariants.{Rival}

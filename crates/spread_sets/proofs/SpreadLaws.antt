@@ -1,5 +1,5 @@
 -- Spread-fit costs meet the forms of all rows, and under them the cheapest paths are the members.
-use Rattle.std.proofs.Common.{◌≡◌, ◌≢◌, ℕ, zero, suc, ◌+◌, ◌*◌, ◌<◌, ◌≤◌, refl, sym, ◌∙◌, ap, subst, inl, inr, get_or, List, [], ◌∷◌, map, length, arith, Bool, true, false}
+use Rattle.std.proofs.Common.{◌≡◌, ◌≢◌, ℕ, suc, ◌+◌, ◌≤◌, refl, sym, subst, inl, inr, get_or, List, [], ◌∷◌, map, length, arith, Bool, true, false}
 use Rattle.std.specs.Prelude.{ℤ, pos, ◌-ℤ◌, ◌≤ℤ◌, ◌⊎◌, All, Contains}
 use Rattle.std.proofs.lemmas.Int.{ints}
 use Rattle.std.proofs.lemmas.List.Elements.{All-contains, All-cons, All-map, All-nil}
@@ -8,30 +8,20 @@ use Rattle.cost_base.proofs.ByteLemmas.{same_bytes-true, same_bytes-same}
 use Rattle.area_graph.specs.Paths.{IsPathOf}
 use Rattle.area_graph.specs.Costs.{at_costs, cost}
 use Rattle.path_rows.specs.Problems.{DesignProblem, IsProblem}
-use Rattle.path_rows.specs.Forms.{value}
-use Rattle.path_rows.specs.Boxes.{IsInBox}
-use Rattle.path_rows.specs.Rows.{box_of, forms_of_rows}
-use Rattle.path_rows.proofs.TreeShapes.{few_entries}
-use Rattle.printed_rows.proofs.CapBoxes.{cost_bounds, floor_below_ceiling}
-use Rattle.set_reader.specs.SpreadSets.{AreSetsOf}
-use Rattle.set_separation.specs.Outsiders.{IsOutsider}
-use Rattle.spread_sets.specs.declared.spread.SetRow.{SetRow}
+use Rattle.path_rows.proofs.AtCosts.{value_at_costs}
 use Rattle.spread_sets.specs.declared.spread.SetRow.TheVariants.{Rival, Same}
-use Rattle.spread_sets.specs.declared.spread.Spread.TheVariants.{Fit, Impossible, Unknown}
-use Rattle.spread_sets.specs.Spreads.{IsNamed, IsSetRow, IsSpreadFit, Shares, all_sets, cost_in, edges_of, ends_in, first_of, form_of_set_row, paths_of}
+use Rattle.spread_sets.specs.Spreads.{IsNamed, IsSpreadFit, Shares, all_sets, cost_in, edges_of, ends_in, first_of, form_of_set_row, paths_of}
 use Rattle.spread_sets.specs.MemberSets.{IsMemberSet}
-use Rattle.spread_sets.specs.Laws.{CheapestAreMembers, IsCheapest, MeetsSetRows, SpreadMeansMet}
-use Rattle.spread_sets.specs.SourceLaws.{between_at, first_listed, member_path, row_met, tie_at, value_at_costs}
+use Rattle.spread_sets.specs.Laws.{CheapestAreMembers, MeetsSetRows, SpreadMeansMet}
+use Rattle.spread_sets.specs.SourceLaws.{between_at, first_listed, member_path, row_met, tie_at}
 use Rattle.spread_sets.proofs.SetLaws.{all_sets_are, listed_at}
+use Rattle.spread_sets.proofs.Ties.{same_cost}
 
 -- spread-fit costs meet the rows
 pub fit_met : (p : DesignProblem) (sets : List (List ℕ)) (w : List ℕ) → IsProblem p → IsSpreadFit p sets w → MeetsSetRows p sets w
 fit_met p sets w kept fit row is =
     subst (λ (z : ℤ). pos 0 ≤ℤ z) (value_at_costs (form_of_set_row p row) w)
     (row_met p sets row (at_costs w) kept (sym fit.within.low_count) is fit.shares)
-
-same_cost : (a b : ℕ) → pos 0 ≤ℤ (pos a -ℤ pos b) → pos 0 ≤ℤ (pos b -ℤ pos a) → a ≡ b
-same_cost a b first other = omega (arith, ints)
 
 dearer : (a b : ℕ) → pos 0 ≤ℤ ((pos a -ℤ pos b) -ℤ pos 1) → b + 1 ≤ a
 dearer a b met = omega (arith, ints)

@@ -94,7 +94,7 @@ rows_met p rows forms point same met k d k_in =
     let here = subst (λ (fs : List Form). AreMet fs point) same met k no_form (omega (arith, length-map rows (form_of_set_row p))) in
     subst (λ (f : Form). pos 0 ≤ℤ value_at f point) (get_or-map (form_of_set_row p) rows k d no_form k_in) here
 
-same_cost : (a b : ℕ) → pos 0 ≤ℤ (pos a -ℤ pos b) → pos 0 ≤ℤ (pos b -ℤ pos a) → a ≡ b
+pub same_cost : (a b : ℕ) → pos 0 ≤ℤ (pos a -ℤ pos b) → pos 0 ≤ℤ (pos b -ℤ pos a) → a ≡ b
 same_cost a b first other = omega (arith, ints)
 
 abbrev CostsAs : DesignProblem → Point → ℕ → ℕ → Type 0

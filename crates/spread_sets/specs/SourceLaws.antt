@@ -1,26 +1,24 @@
 -- Laws of the source of sets: its true forms hold where each set shares, they stand in one list, and sets that share at
 -- multiples of costs share at the costs.
-use Rattle.std.proofs.Common.{◌≡◌, ℕ, zero, suc, ◌+◌, ◌*◌, ◌^◌, ◌<◌, ◌≤◌, refl, sym, ◌∙◌, subst, ap, get_or, List, [], ◌∷◌, ◌++◌, map, length, arith}
-use Rattle.std.specs.Prelude.{ℤ, pos, ◌+ℤ◌, ◌-ℤ◌, ◌*ℤ◌, ◌≤ℤ◌, nat_abs, All, Contains}
+use Rattle.std.proofs.Common.{◌≡◌, ℕ, zero, suc, ◌+◌, ◌*◌, ◌^◌, ◌<◌, ◌≤◌, refl, sym, ◌∙◌, subst, ap, get_or, List, [], ◌∷◌, map, length, arith}
+use Rattle.std.specs.Prelude.{ℤ, pos, ◌+ℤ◌, ◌-ℤ◌, ◌*ℤ◌, ◌≤ℤ◌, nat_abs, Contains}
 use Rattle.std.proofs.lemmas.Int.{ints}
 use Rattle.std.proofs.lemmas.List.Elements.{All-contains, Contains-append_left, Contains-append_right}
-use Rattle.std.proofs.Math.Nat.{mul-le-mul_left}
 use Rattle.whole_numbers.proofs.Ring.{var, num, ◌⊕◌, ◌⊖◌, ◌⊗◌, ring}
 use Rattle.area_graph.specs.declared.Point.{Point}
-use Rattle.area_graph.specs.Area.{Area}
 use Rattle.area_graph.specs.Paths.{Ends, IsPathOf}
 use Rattle.area_graph.specs.Costs.{at_costs, cost}
 use Rattle.path_rows.specs.declared.problem.Request.{Request}
 use Rattle.path_rows.specs.Forms.{Form}
-use Rattle.path_rows.specs.Forms.{IsSmallForm, dot, value, value_at}
+use Rattle.path_rows.specs.Forms.{dot, value, value_at}
 use Rattle.path_rows.specs.Problems.{DesignProblem, IsProblem, ends_of, no_request, request_at}
 use Rattle.path_rows.specs.Rows.{fixed_cost, form_between}
+use Rattle.path_rows.proofs.AtCosts.{value_at_costs}
 use Rattle.path_rows.proofs.FormBounds.{simple_form_small}
-use Rattle.path_rows.proofs.FormSizes.{value_size}
 use Rattle.form_search.specs.Sources.{IsTrueForm, scaled}
 use Rattle.cost_branching.specs.Candidates.{edge_lists}
 use Rattle.cost_branching.specs.Rivals.{IsKept}
-use Rattle.cost_branching.specs.SourceLaws.{at_least, contains-map, divided, path_listed, scaled_cost, value_between}
+use Rattle.cost_branching.specs.SourceLaws.{at_least, contains-map, divided, path_listed, scaled_cost, small_value, value_between}
 use Rattle.set_separation.specs.Outsiders.{IsOutsider}
 use Rattle.spread_sets.specs.declared.spread.SetRow.{SetRow}
 use Rattle.spread_sets.specs.declared.spread.SetRow.TheVariants.{Rival, Same}
@@ -67,22 +65,7 @@ value_of_tie p point first second kept count =
     (dot (form_of_tie p.graph (length p.low) first second).coefficients point.values)
     (pos (cost p.graph point second) -ℤ pos (cost p.graph point first)) (value_between p point first second kept count)
 
-one_right : (z : ℤ) → (z *ℤ pos 1) ≡ z
-one_right z = omega (arith, ints)
-
--- a value at costs is the value at their point
-pub value_at_costs : (f : Form) (w : List ℕ) → value_at f (at_costs w) ≡ value f w
-value_at_costs f w = ap (λ z. z +ℤ dot f.coefficients w) (one_right f.constant)
-
 -- Every row's form holds where each set shares.
-
-below : (a b c : ℕ) → a ≤ b → b < c → a < c
-below a b c first later = omega arith
-
-small_value : (n : ℕ) (form : Form) (w : List ℕ) → IsSmallForm n form → All (λ x. (1 ≤ x) × (x ≤ 65535)) w → nat_abs (value form w) < 2 ^ 27
-small_value n form w small each =
-    below (nat_abs (value form w)) _ (2 ^ 27)
-    (value_size form w (λ k d k_in. let within = each k d k_in in omega arith)) small.size
 
 -- the form of a rival
 rival_met : (p : DesignProblem) (sets : List (List ℕ)) (set es : List ℕ) (point : Point) → IsProblem p →

@@ -11,10 +11,10 @@ use crate::member_sets::{MemberSet, all_sets, with_trees};
 use crate::source::{Begun, Spreads};
 use crate::spread::{SetRow, Spread};
 use cost_base::OutOfMemory;
-use cost_branching::keeps_conditions;
+use cost_branching::{keeps_conditions, path_count};
 use form_search::{FormPool, Found, search};
-use path_rows::{CostBox, Problem, box_at};
-use printed_rows::{PrintedTree, greatest_of, printed};
+use path_rows::{CostBox, Problem, box_at, greatest_of};
+use printed_rows::{PrintedTree, printed};
 use set_reader::Sets;
 use std::alloc::Global;
 use std::marker::Brand;
@@ -81,13 +81,6 @@ fn answered(
             Ok(Spread::Unknown { rows, tree })
         }
     }
-}
-
-/// How many wanted paths there are.
-fn path_count(problem: &Problem) -> u32
-    ensures { result ≡ length problem.now.paths }
-{
-    problem.paths.as_slice().len() as u32
 }
 
 /// Looks for costs at which the members of each set cost the same and every other simple path between their ends costs

@@ -7,6 +7,7 @@
 
 mod finding;
 pub mod laws;
+mod line_numbers;
 mod member_sets;
 mod row_forms;
 mod source;

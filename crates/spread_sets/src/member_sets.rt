@@ -1,12 +1,12 @@
 //! The sets of a problem: those of the lines, and each path in no line by itself.
-ghost use Rattle.std.specs.Prelude.{◌≡◌, ◌+◌, ◌<◌, ◌≤◌, ◌++◌, ◌∷◌, [], map, filter, length, cond, All, IfOk, OnOk};
+ghost use Rattle.std.specs.Prelude.{◌≡◌, ◌+◌, ◌<◌, ◌≤◌, ◌++◌, ◌∷◌, [], map, filter, length, cond, slice_index_or, All, IfOk, OnOk};
 ghost use Rattle.cost_base.specs.Lists.{numbers_from};
 ghost use Rattle.path_rows.specs.Problems.{request_at};
-ghost use Rattle.set_reader.specs.Reading.{stands_in};
 ghost use Rattle.set_separation.specs.PrefixTrees.{IsGrown};
 ghost use Rattle.spread_sets.specs.Spreads.{first_of, is_first, paths_of, set_of};
-ghost use Rattle.spread_sets.specs.MemberSets.{HasTree, IsMemberSet, sets_in};
+ghost use Rattle.spread_sets.specs.MemberSets.{HasTree, IsMemberSet, line_of, sets_in};
 
+use crate::line_numbers::line_numbers;
 use cost_base::{Listed, OutOfMemory};
 use path_rows::{Problem, Request};
 use set_separation::PrefixTree;
@@ -19,18 +19,6 @@ pub(crate) struct MemberSet {
     pub(crate) tree: PrefixTree,
 }
 
-/// Whether a path stands in a set.
-fn stands_in(path: u32, set: &[u32]) -> bool
-    ensures { result ≡ stands_in path set.now }
-{
-    for member in set {
-        if path == *member {
-            return true;
-        }
-    }
-    false
-}
-
 /// The number by which a set is named.
 pub(crate) fn first_of(set: &[u32]) -> u32
     ensures { result ≡ first_of set.now }
@@ -41,51 +29,54 @@ pub(crate) fn first_of(set: &[u32]) -> u32
     }
 }
 
-/// Whether a path is the first member of its set.
-fn is_first(lines: &[Listed<u32>], path: u32) -> bool
+/// The members of a line.
+fn line_at(lines: &[Listed<u32>], number: usize) -> &[u32]
+    requires { number < length lines.now }
+    ensures { result.now ≡ slice_index_or lines.now number [] }
+{
+    lines[number].as_slice()
+}
+
+/// Whether a path is the first member of its set, where its line has that number.
+fn is_first(lines: &[Listed<u32>], line: Option<usize>, path: u32) -> bool
+    requires { line ≡ line_of 0 lines.now path }
     ensures { result ≡ is_first lines.now path }
 {
-    for set in lines {
-        if stands_in(path, set.as_slice()) {
-            return first_of(set.as_slice()) == path;
-        }
-    }
-    true
-}
-
-/// The same numbers.
-fn copied(alloc: Global, numbers: &[u32]) -> Result<Listed<u32>, OutOfMemory>
-    ensures { IfOk result (λ copy. copy ≡ numbers.now) }
-{
-    match numbers.to_vec(alloc) {
-        Ok(copy) => Ok(Listed::from_items(copy)),
-        Err(_) => Err(OutOfMemory),
+    match line {
+        Some(number) => first_of(line_at(lines, number)) == path,
+        None => true,
     }
 }
 
-/// The set in which a path stands.
-fn set_of(alloc: Global, lines: &[Listed<u32>], path: u32) -> Result<Listed<u32>, OutOfMemory>
+/// The set in which a path stands, where its line has that number.
+fn set_of(
+    alloc: Global,
+    lines: &[Listed<u32>],
+    line: Option<usize>,
+    path: u32,
+) -> Result<Listed<u32>, OutOfMemory>
+    requires { line ≡ line_of 0 lines.now path }
     ensures { IfOk result (λ set. set ≡ set_of lines.now path) }
 {
-    for set in lines {
-        if stands_in(path, set.as_slice()) {
-            return copied(alloc, set.as_slice());
-        }
+    match line {
+        Some(number) => Listed::from_slice(alloc, line_at(lines, number)),
+        None => Listed::from_slice(alloc, &[path]),
     }
-    copied(alloc, &[path])
 }
 
 /// Puts the set of a path behind the others, if the path is its first member.
 fn push_first(
     alloc: Global,
     lines: &[Listed<u32>],
+    line: Option<usize>,
     path: u32,
     sets: &mut Vec<Listed<u32>>,
 ) -> Result<(), OutOfMemory>
+    requires { line ≡ line_of 0 lines.now path }
     ensures { OnOk result (sets.new.items ≡ cond (is_first lines.now path) (sets.old.items ++ set_of lines.now path ∷ []) sets.old.items) }
 {
-    if is_first(lines, path) {
-        let set = set_of(alloc, lines, path)?;
+    if is_first(lines, line, path) {
+        let set = set_of(alloc, lines, line, path)?;
         sets.push(set)?;
     }
     Ok(())
@@ -99,9 +90,11 @@ pub(crate) fn all_sets(
 ) -> Result<Vec<Listed<u32>>, OutOfMemory>
     ensures { IfOk result (λ sets. sets.items ≡ map (set_of lines.now) (filter (is_first lines.now) (numbers_from 0 paths))) }
 {
+    let numbers = line_numbers(alloc, lines, paths)?;
     let mut sets = Vec::new(alloc);
     for path in 0..paths {
-        push_first(alloc, lines, path, &mut sets)?;
+        let line = numbers[path as usize];
+        push_first(alloc, lines, line, path, &mut sets)?;
     }
     Ok(sets)
 }

@@ -17,7 +17,7 @@ use crate::row_forms::form_of_tie;
 use crate::spread::SetRow;
 use area_graph::{Point, path_cost};
 use cost_base::OutOfMemory;
-use cost_branching::{keeps_conditions, row_of};
+use cost_branching::{keeps_conditions, row_of, variable_count};
 use form_search::{Asked, FormPool, RowSource};
 use path_rows::{Form, Problem, form_of};
 use set_separation::find_outsider;
@@ -409,8 +409,7 @@ impl<'a, B: Begun> RowSource for Spreads<'a, B> {
     ghost candidates = { λ s. candidates_of s.problem };
 
     fn variables(&self) -> u32 {
-        let problem = self.problem;
-        problem.low.as_slice().len() as u32
+        variable_count(self.problem)
     }
 
     fn ask(

@@ -49,6 +49,6 @@ loop-request-preserved c =
 pub returns-clause-asked : goal.returns-clause-asked
 returns-clause-asked c =
     let known : List Row → KnownRows = λ rows. record { problem = c.args.problem.now; rows = rows } in
-    let all : length c.args.problem.now.paths ≤ c.loop-request.request = omega (arith, c.requests-count.ensures, c.loop-request-test.false) in
+    let all : length c.args.problem.now.paths ≤ c.loop-request.request = omega (arith, c.path_count-count.ensures, c.loop-request-test.false) in
     all_asked_among c.args.point.now c.loop-request.request (known c.args.rows.now.items) c.args.pool.now
     (known c.loop-request.rows.items) c.loop-request.pool c.loop-request.asked all c.loop-request.invariant.asked

@@ -1,10 +1,11 @@
-use Rattle.std.proofs.Common.{rules, ◌∷◌, [], ◌++◌, ◌∙◌, ap, sym, subst, arith, ℕ, List, length, length-append}
+use Rattle.std.proofs.Common.{rules, ◌∷◌, [], ◌++◌, ◌<◌, ◌∙◌, ap, sym, subst, arith, ℕ, List, length, length-append}
 use Rattle.path_rows.specs.Problems.{ends_of}
 use Rattle.spf_ties.specs.Distances.{Findings}
 use Rattle.area_graph.specs.Area.{edge_at}
 use Rattle.area_graph.specs.declared.Edge.{Edge}
-use Rattle.rival_separation.specs.Rivals.{Completes, IsFound}
+use Rattle.rival_separation.specs.Rivals.{Completes}
 use Rattle.rival_separation.proofs.RivalLemmas.{IsWay, completed, completes_kept, completes_more, found_kept, short_walk, some_next, way_completes}
+use Rattle.rival_separation.proofs.rival.follow.Goals.{After-next_edge}
 use Rattle.rival_separation.proofs.rival.follow.Goals as goal
 
 pub loop-at-init : goal.loop-at-init
@@ -13,29 +14,26 @@ loop-at-init c = record {
   so_far = way_completes c.args.graph.now c.args.point.now (ends_of c.args.request.now) c.args.room.now c.args.start c.requires.way;
 }
 
-pub add_to_path-requires : goal.add_to_path-requires
-add_to_path-requires c =
+-- what was gone so far is shorter than the vertices are many
+short : (c : After-next_edge) → length c.loop-at.room.path < length c.args.graph.now.vertices
+short c =
     let g = c.args.graph.now in
     let p = c.args.point.now in
     let ends = ends_of c.args.request.now in
-    let short = short_walk g p ends c.loop-at.invariant.found.0 c.loop-at.room
-    (IsWay g p ends c.args.room.now c.args.start) c.loop-at.room.path c.loop-at.at c.loop-at.invariant.found.1
-    c.loop-at.invariant.so_far (λ es whole. whole.1) in
+    short_walk g p ends c.loop-at.invariant.found.0 c.loop-at.room (IsWay g p ends c.args.room.now c.args.start)
+    c.loop-at.room.path c.loop-at.at c.loop-at.invariant.found.1 c.loop-at.invariant.so_far (λ es whole. whole.1)
+
+pub add_to_path-requires : goal.add_to_path-requires
+add_to_path-requires c =
     let count = c.loop-at.invariant.found.1.room_for.vertices in
-    omega arith
+    omega (arith, short (goal.at.add_to_path-requires c).After-next_edge)
 
 pub loop-at-smaller : goal.loop-at-smaller
 loop-at-smaller c =
-    let g = c.args.graph.now in
-    let p = c.args.point.now in
-    let ends = ends_of c.args.request.now in
-    let short = short_walk g p ends c.loop-at.invariant.found.0 c.loop-at.room
-    (IsWay g p ends c.args.room.now c.args.start) c.loop-at.room.path c.loop-at.at c.loop-at.invariant.found.1
-    c.loop-at.invariant.so_far (λ es whole. whole.1) in
     let count = c.loop-at.invariant.found.1.room_for.vertices in
     let same = ap (λ (r : Findings). length r.costs) c.add_to_path.ensures in
     let longer = ap (λ (r : Findings). length r.path) c.add_to_path.ensures ∙ length-append c.loop-at.room.path (c.in-Some.edge ∷ []) in
-    omega arith
+    omega (arith, short (goal.at.loop-at-smaller c).After-next_edge)
 
 pub loop-at-preserved : goal.loop-at-preserved
 loop-at-preserved c =
@@ -55,9 +53,7 @@ loop-at-preserved c =
     record {
       found = (
         c.loop-at.invariant.found.0,
-        subst (λ (r : Findings). IsFound g p ends c.loop-at.invariant.found.0 r)
-            (sym c.add_to_path.ensures)
-            (found_kept g p ends c.loop-at.invariant.found.0 room longer c.loop-at.invariant.found.1),
+        found_kept g p ends c.loop-at.invariant.found.0 room longer c.add_to_path.new.self c.add_to_path.ensures c.loop-at.invariant.found.1,
       );
       so_far = subst (λ (e : Edge). Completes g p ends c.add_to_path.new.self Whole c.add_to_path.new.self.path e.to) (sym c.edge_of-at.ensures)
           (subst (λ (r : Findings). Completes g p ends r Whole r.path (edge_at g edge).to) (sym c.add_to_path.ensures)

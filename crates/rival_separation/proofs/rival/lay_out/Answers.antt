@@ -3,7 +3,7 @@ use Rattle.area_graph.specs.Area.{edge_at}
 use Rattle.path_rows.specs.Problems.{ends_of}
 use Rattle.path_rows.proofs.PathBounds.{simple-short}
 use Rattle.spf_ties.specs.Distances.{Findings}
-use Rattle.rival_separation.specs.Rivals.{HasWay, IsFollowed, IsFound, with_edge}
+use Rattle.rival_separation.specs.Rivals.{HasWay, IsFollowed, with_edge}
 use Rattle.rival_separation.proofs.RivalLemmas.{followed_cheapest, found_kept, take_short, way_from}
 use Rattle.rival_separation.proofs.rival.lay_out.Goals as goal
 
@@ -21,14 +21,10 @@ leave_by-requires-clause-known c = c.requires.best.0.known
 
 pub leave_by-requires-clause-found : goal.leave_by-requires-clause-found
 leave_by-requires-clause-found c =
-    let g = c.args.graph.now in
-    let p = c.args.point.now in
-    let ends = ends_of c.args.request.now in
-    let room : Findings = c.args.room.now in
     let limit = c.requires.found.limit in (
       limit,
-      subst (λ (r : Findings). IsFound g p ends limit r) (sym c.put_front.ensures)
-          (found_kept g p ends limit room (take c.args.best.place c.as_slice.result.now) c.requires.found.found),
+      found_kept c.args.graph.now c.args.point.now (ends_of c.args.request.now) limit c.args.room.now
+          (take c.args.best.place c.as_slice.result.now) c.put_front.new.room c.put_front.ensures c.requires.found.found,
     )
 
 pub leave_by-requires-clause-way : goal.leave_by-requires-clause-way

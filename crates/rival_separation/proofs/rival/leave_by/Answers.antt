@@ -3,7 +3,7 @@ use Rattle.area_graph.specs.declared.Edge.{Edge}
 use Rattle.area_graph.specs.Area.{edge_at}
 use Rattle.path_rows.specs.Problems.{ends_of}
 use Rattle.spf_ties.specs.Distances.{Findings}
-use Rattle.rival_separation.specs.Rivals.{HasWay, IsFollowed, IsFound}
+use Rattle.rival_separation.specs.Rivals.{HasWay, IsFollowed}
 use Rattle.rival_separation.proofs.RivalLemmas.{found_kept, way_short}
 use Rattle.rival_separation.proofs.rival.leave_by.Goals as goal
 
@@ -14,14 +14,11 @@ add_to_path-requires c =
 
 pub follow-requires-clause-found : goal.follow-requires-clause-found
 follow-requires-clause-found c =
-    let g = c.args.graph.now in
-    let p = c.args.point.now in
-    let ends = ends_of c.args.request.now in
     let room : Findings = c.args.room.now in
     let limit = c.requires.found.0 in (
       limit,
-      subst (λ (r : Findings). IsFound g p ends limit r) (sym c.add_to_path.ensures)
-          (found_kept g p ends limit room (room.path ++ c.args.edge ∷ []) c.requires.found.1),
+      found_kept c.args.graph.now c.args.point.now (ends_of c.args.request.now) limit room (room.path ++ c.args.edge ∷ [])
+          c.add_to_path.new.self c.add_to_path.ensures c.requires.found.1,
     )
 
 pub follow-requires-clause-way : goal.follow-requires-clause-way

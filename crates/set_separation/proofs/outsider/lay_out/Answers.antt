@@ -3,7 +3,7 @@ use Rattle.area_graph.specs.Area.{edge_at}
 use Rattle.area_graph.specs.Costs.{cost}
 use Rattle.path_rows.specs.Problems.{ends_of}
 use Rattle.spf_ties.specs.Distances.{Findings}
-use Rattle.rival_separation.specs.Rivals.{HasWay, IsFollowed, IsFound, with_edge}
+use Rattle.rival_separation.specs.Rivals.{HasWay, IsFollowed, with_edge}
 use Rattle.rival_separation.proofs.RivalLemmas.{found_kept}
 use Rattle.set_separation.specs.PrefixTrees.{prefix_at}
 use Rattle.set_separation.proofs.DepartureLemmas.{followed_cheapest, way_on}
@@ -14,16 +14,12 @@ leave_by-requires-clause-known c = c.requires.best.0.known
 
 pub leave_by-requires-clause-found : goal.leave_by-requires-clause-found
 leave_by-requires-clause-found c =
-    let g = c.args.graph.now in
-    let p = c.args.point.now in
-    let ends = ends_of c.args.request.now in
-    let room : Findings = c.args.room.now in
     let wanted = c.requires.tree.0 in
     let grown = c.requires.tree.1.tree.grown in
     let limit = c.requires.found.limit in (
       limit,
-      subst (λ (r : Findings). IsFound g p ends limit r) (sym (c.put_prefix.ensures wanted wanted grown))
-          (found_kept g p ends limit room (prefix_at grown.prefixes c.args.best.place) c.requires.found.found),
+      found_kept c.args.graph.now c.args.point.now (ends_of c.args.request.now) limit c.args.room.now
+          (prefix_at grown.prefixes c.args.best.place) c.put_prefix.new.room (c.put_prefix.ensures wanted wanted grown) c.requires.found.found,
     )
 
 pub leave_by-requires-clause-way : goal.leave_by-requires-clause-way

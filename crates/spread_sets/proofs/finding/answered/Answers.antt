@@ -7,8 +7,10 @@ use Rattle.form_search.specs.declared.found.Found.{Found}
 use Rattle.form_search.specs.declared.found.Found.TheVariants.{Refuted, Spent}
 use Rattle.spread_sets.specs.declared.finding.Sought.{Sought}
 use Rattle.spread_sets.specs.Spreads.{SharesEach, forms_of_set_rows}
+use Rattle.spread_sets.specs.MemberSets.{AreMemberSets}
 use Rattle.spread_sets.specs.Sources.{IsSought}
 use Rattle.spread_sets.proofs.PrintedSets.{CanPrintSets, shown_closed, shown_spent, tree_names}
+use Rattle.spread_sets.proofs.finding.answered.Goals.{After-keeps_conditions}
 use Rattle.spread_sets.proofs.finding.answered.Goals as goal
 
 -- what was found, in each of its cases
@@ -33,21 +35,24 @@ printed-requires-in-Spent c =
     (Spent c.in-Spent.tree) c.in-Spent.is c.requires.sought.2 in
     tree_names c.args.problem.now c.requires.sought.0 limits.top c.args.sought.rows.items c.in-Spent.tree found.0
 
+-- what the rows' lines need to be short
+can : (c : After-keeps_conditions) (sets : List (List ℕ)) → AreMemberSets c.args.problem.now sets →
+    CanPrintSets c.args.problem.now sets c.args.limits.now.nodes
+can c sets are = record {
+  kept = c.keeps_conditions.ensures;
+  are = are;
+  small = c.requires.ceiling;
+  budget = c.args.limits.now.budget_end;
+}
+
 pub returns-in_ok-rows-in-Refuted : goal.returns-in_ok-rows-in-Refuted
 returns-in_ok-rows-in-Refuted c = λ sets are sought.
     let p = c.args.problem.now in
     let limits = c.args.limits.now in
     let sheet = c.in_ok-rows-in-Refuted.field-0 in
     let found = found_as p sets limits.top limits.nodes c.args.sought (Refuted c.in-Refuted.tree) c.in-Refuted.is sought in
-    let can : CanPrintSets p sets limits.nodes =
-    record {
-      kept = c.keeps_conditions.ensures;
-      are = are;
-      small = c.requires.ceiling;
-      budget = limits.budget_end;
-    } in
     shown_closed p sets limits.top limits.nodes c.args.sought.rows.items sheet.rows.items c.in-Refuted.tree sheet.tree
-    can sought.true_rows found.0 found.2 found.1 c.in_ok-rows-in-Refuted.ensures
+    (can (goal.at.returns-in_ok-rows-in-Refuted c).After-keeps_conditions sets are) sought.true_rows found.0 found.2 found.1 c.in_ok-rows-in-Refuted.ensures
 
 pub returns-in_ok-rows-in-Spent : goal.returns-in_ok-rows-in-Spent
 returns-in_ok-rows-in-Spent c = λ sets are sought.
@@ -55,12 +60,5 @@ returns-in_ok-rows-in-Spent c = λ sets are sought.
     let limits = c.args.limits.now in
     let sheet = c.in_ok-rows-in-Spent.field-0 in
     let found = found_as p sets limits.top limits.nodes c.args.sought (Spent c.in-Spent.tree) c.in-Spent.is sought in
-    let can : CanPrintSets p sets limits.nodes =
-    record {
-      kept = c.keeps_conditions.ensures;
-      are = are;
-      small = c.requires.ceiling;
-      budget = limits.budget_end;
-    } in
-    shown_spent p sets limits.top limits.nodes c.args.sought.rows.items sheet.rows.items c.in-Spent.tree sheet.tree can
-    sought.true_rows found.0 found.1 found.2 c.in_ok-rows-in-Spent.ensures
+    shown_spent p sets limits.top limits.nodes c.args.sought.rows.items sheet.rows.items c.in-Spent.tree sheet.tree
+    (can (goal.at.returns-in_ok-rows-in-Spent c).After-keeps_conditions sets are) sought.true_rows found.0 found.1 found.2 c.in_ok-rows-in-Spent.ensures

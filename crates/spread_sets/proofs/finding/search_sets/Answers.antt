@@ -1,6 +1,5 @@
 -- The forms with which a search begins are true, and what it finds is by the rows that are known then.
-use Rattle.std.proofs.Common.{◌≡◌, sym, ◌∙◌, ap, List, ℕ}
-use Rattle.path_rows.specs.Problems.{DesignProblem}
+use Rattle.std.proofs.Common.{◌≡◌, sym, ◌∙◌, ap}
 use Rattle.spread_sets.specs.MemberSets.{sets_in}
 use Rattle.spread_sets.specs.Sources.{KnownSets}
 use Rattle.spread_sets.proofs.Findings.{found_as, pool_true_as, sought_is, trees_sets}

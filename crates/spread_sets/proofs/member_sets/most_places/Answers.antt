@@ -1,4 +1,4 @@
-use Rattle.std.proofs.Common.{rules, ◌+◌, ◌≤◌, length, arith}
+use Rattle.std.proofs.Common.{rules}
 use Rattle.spread_sets.proofs.MadeSets.{most_all, most_more}
 use Rattle.spread_sets.proofs.member_sets.most_places.Goals as goal
 

@@ -1,4 +1,4 @@
-use Rattle.std.proofs.Common.{rules, ◌≡◌, ◌∙◌, length, List, ℕ}
+use Rattle.std.proofs.Common.{rules, ◌≡◌, length}
 use Rattle.std.specs.Prelude.{pos, ◌+ℤ◌}
 use Rattle.std.proofs.lemmas.Result.{IfOk-weaker}
 use Rattle.path_rows.specs.Forms.{Form}

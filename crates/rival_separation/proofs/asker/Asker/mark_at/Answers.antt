@@ -5,7 +5,7 @@ use Rattle.rival_separation.proofs.asker.Asker.mark_at.Goals as goal
 
 pub returns-clause-asker : goal.returns-clause-asker
 returns-clause-asker c =
-    let old = subst (λ (a : Asking). IsAskerFor c.args.graph.now c.args.requests.now a) (sym c.self.view_is) c.prepare-shared.ensures.asker in
+    let old = subst (λ (a : Asking). IsAskerFor c.args.graph.now c.args.requests.now a) (sym c.self.view_is) c.requires.asker in
     record {
       room = old.room;
       known = old.known;

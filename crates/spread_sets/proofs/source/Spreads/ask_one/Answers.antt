@@ -1,6 +1,5 @@
-use Rattle.std.proofs.Common.{rules, ◌≡◌, ◌<◌, ◌∙◌, ℕ, List, [], ◌∷◌, ◌++◌, refl, sym, subst, ap, length}
+use Rattle.std.proofs.Common.{rules, ◌≡◌, ◌<◌, ◌∙◌, ℕ, [], ◌∷◌, ◌++◌, sym, subst, ap, length}
 use Rattle.path_rows.specs.Forms.{Form}
-use Rattle.path_rows.specs.Problems.{DesignProblem}
 use Rattle.spread_sets.specs.declared.spread.SetRow.TheVariants.{Rival}
 use Rattle.spread_sets.specs.Spreads.{AreTied, first_of, form_of_set_row}
 use Rattle.spread_sets.specs.MemberSets.{AreMemberSets, sets_in}
