@@ -3,11 +3,13 @@ use Rattle.std.proofs.Common.{◌≡◌, ℕ, List, [], ◌∷◌, ◌++◌, map
 use Rattle.std.specs.Prelude.{unwrap_or}
 use Rattle.std.specs.List.{filter, filter_map, list_any, cons_option}
 use Rattle.std.specs.Option.{option_or}
+use Rattle.std.proofs.Math.Bool.{or-false}
 use Rattle.std.proofs.lemmas.Bool.{false≢true}
 use Rattle.std.proofs.lemmas.List.Folds.{list_any-append}
 use Rattle.std.proofs.lemmas.List.Elements.{filter_map-append}
 use Rattle.cost_base.specs.Lists.{first_of, same_bytes}
 use Rattle.cost_base.proofs.ByteLemmas.{same_bytes-swap}
+use Rattle.cost_base.proofs.ListLemmas.{option_or-none}
 use Rattle.text_lines.specs.Numbers.{Prefix}
 use Rattle.interface_model.specs.declared.Interface.{Interface}
 use Rattle.interface_model.specs.declared.Kind.{Kind}
@@ -18,10 +20,10 @@ use Rattle.config_reader.specs.Statements.{Statement, AddressIs, AreaIs, CostIs,
 use Rattle.config_reader.specs.Settings.{Said, about, about_router, is_of, is_of_router, setting, address_said, area_said, cost_said, kind_said, passive_said, down_said, priority_said, network_said, passive_name_said, address_part, length_part}
 use Rattle.config_reader.specs.Hearing.{sets}
 use Rattle.config_reader.specs.Drafting.{new_draft, with_setting, with_address, touch, target, change, is_matched, covers, draft_with, draft_after}
-use Rattle.config_reader.proofs.SettingSteps.{about-push, about_router-push, said_where, setting-push, first_said-push, option_or-none}
+use Rattle.config_reader.proofs.SettingSteps.{about-push, about_router-push, said_where, Made, by_said, by_one_more, by_said-push}
 
 -- an interface by its own settings
-unfoldable pub plain_by : List ℕ → ℕ → Option Prefix → Option ℕ → Option ℕ → Option Kind → Option Bool → Option Bool → Option ℕ → Interface
+unfoldable pub plain_by : List ℕ → ℕ → Made Interface
 plain_by name line address area cost kind passive down priority = record {
   name = name;
   line = line;
@@ -36,28 +38,12 @@ plain_by name line address area cost kind passive down priority = record {
 }
 
 unfoldable pub plain : List Statement → List ℕ → ℕ → Interface
-plain own name line =
-    plain_by name line (first_of (filter_map address_said own)) (setting area_said own) (setting cost_said own) (setting kind_said own)
-    (setting passive_said own) (setting down_said own) (setting priority_said own)
+plain own name line = by_said (plain_by name line) own
 
 plain-push : (own : List Statement) (name : List ℕ) (line : ℕ) (s : Statement) →
-    plain (own ++ s ∷ []) name line
-    ≡ plain_by name line (option_or (first_of (filter_map address_said own)) (address_said s))
-    (option_or (area_said s) (setting area_said own)) (option_or (cost_said s) (setting cost_said own))
-    (option_or (kind_said s) (setting kind_said own))
-    (option_or (passive_said s) (setting passive_said own)) (option_or (down_said s) (setting down_said own))
-    (option_or (priority_said s) (setting priority_said own))
+    plain (own ++ s ∷ []) name line ≡ by_one_more (plain_by name line) (option_or (first_of (filter_map address_said own)) (address_said s)) own s
 unfolding plain
-plain-push own name line s =
-    cc (
-      first_said-push address_said own s,
-      setting-push area_said own s,
-      setting-push cost_said own s,
-      setting-push kind_said own s,
-      setting-push passive_said own s,
-      setting-push down_said own s,
-      setting-push priority_said own s,
-    )
+plain-push own name line s = by_said-push (plain_by name line) own s
 
 -- the first address with one more, by whether there was one
 add_address : (name : List ℕ) (line : ℕ) (p : Prefix) (o : Option Prefix) (area cost : Option ℕ) (kind : Option Kind)
@@ -71,17 +57,10 @@ add_address name line p (Some q) area cost kind passive down priority = refl
 -- an interface with one more statement
 module _ (own : List Statement) (name : List ℕ) (line : ℕ) where
   quiet : (s : Statement) → address_said s ≡ None →
-      plain (own ++ s ∷ []) name line
-      ≡ plain_by name line (first_of (filter_map address_said own)) (option_or (area_said s) (setting area_said own))
-      (option_or (cost_said s) (setting cost_said own)) (option_or (kind_said s) (setting kind_said own))
-      (option_or (passive_said s) (setting passive_said own)) (option_or (down_said s) (setting down_said own))
-      (option_or (priority_said s) (setting priority_said own))
+      plain (own ++ s ∷ []) name line ≡ by_one_more (plain_by name line) (first_of (filter_map address_said own)) own s
   quiet s none =
       plain-push own name line s
-      ∙ ap (λ o. plain_by name line o (option_or (area_said s) (setting area_said own))
-      (option_or (cost_said s) (setting cost_said own)) (option_or (kind_said s) (setting kind_said own))
-      (option_or (passive_said s) (setting passive_said own)) (option_or (down_said s) (setting down_said own))
-      (option_or (priority_said s) (setting priority_said own)))
+      ∙ ap (λ o. by_one_more (plain_by name line) o own s)
       (ap (option_or (first_of (filter_map address_said own))) none ∙ option_or-none (first_of (filter_map address_said own)))
 
   sets_one : (s : Statement) → plain (own ++ s ∷ []) name line ≡ with_setting s (plain own name line)
@@ -110,10 +89,6 @@ any_matched nets own = list_any (λ p. list_any (covers p) nets) (filter_map add
 abbrev pub any_listed : List ℕ → List Statement → Bool
 any_listed name router = list_any (same_bytes name) (filter_map passive_name_said router)
 
-or_none : (a : Bool) → (a || false) ≡ a
-or_none true = refl
-or_none false = refl
-
 matched-push : (nets : List NetworkLine) (own : List Statement) (s : Statement) → any_matched nets (own ++ s ∷ []) ≡ (any_matched nets own || is_matched nets s)
 matched-push nets own s =
     ap (list_any (λ p. list_any (covers p) nets)) (filter_map-append address_said own (s ∷ []))
@@ -121,7 +96,7 @@ matched-push nets own s =
     ∙ ap (λ b. any_matched nets own || b) (by s)
   where
     by : (t : Statement) → list_any (λ p. list_any (covers p) nets) (filter_map address_said (t ∷ [])) ≡ is_matched nets t
-    by (AddressIs p) = or_none (list_any (covers p) nets)
+    by (AddressIs p) = or-false (list_any (covers p) nets)
     by (AreaIs a) = refl
     by (CostIs n) = refl
     by (KindIs k) = refl
@@ -232,7 +207,7 @@ new_is nets head = refl
 
 -- a mark that isn't set leaves a draft as it is
 unmarked : (d : Draft) (c : Bool) → cond c (record d { matched = d.matched || false }) d ≡ d
-unmarked d true = ap (λ m. record d { matched = m }) (or_none d.matched)
+unmarked d true = ap (λ m. record d { matched = m }) (or-false d.matched)
 unmarked d false = refl
 
 -- a line that sets nothing changes no draft

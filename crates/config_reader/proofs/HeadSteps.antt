@@ -22,10 +22,6 @@ or_swap true false c = refl
 or_swap false true c = refl
 or_swap false false c = refl
 
-or_none : (a : Bool) → (a || false) ≡ a
-or_none true = refl
-or_none false = refl
-
 -- the firsts of heads with one more
 pub firsts-push : (before : List (List ℕ)) (heads : List (List ℕ × ℕ)) (head : List ℕ × ℕ) →
     firsts before (heads ++ head ∷ []) ≡ firsts before heads

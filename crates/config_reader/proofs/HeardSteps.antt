@@ -1,12 +1,12 @@
 -- What is kept of a file with one more line.
-use Rattle.std.proofs.Common.{◌≡◌, ℕ, suc, ◌+◌, ◌<◌, List, [], ◌∷◌, ◌++◌, length, get_or, Bool, cond, true, false, ◌&&◌, refl, sym, ap, ◌∙◌, arith, append-nil, append_assoc, Option, Some, None, length-append}
+use Rattle.std.proofs.Common.{◌≡◌, ℕ, ◌+◌, ◌<◌, List, [], ◌∷◌, ◌++◌, length, get_or, Bool, cond, true, false, ◌&&◌, refl, sym, ap, ◌∙◌, arith, append-nil, append_assoc, Option, Some, None, length-append}
 use Rattle.std.specs.Prelude.{if◌then◌else◌, codes}
 use Rattle.std.specs.List.{filter, filter_map, cons_option}
 use Rattle.std.specs.Option.{option_or}
 use Rattle.std.proofs.lemmas.List.{get_or_append_left, get_or_at, length-map, map-append}
 use Rattle.std.proofs.lemmas.List.Elements.{filter-append}
 use Rattle.cost_base.specs.Lists.{numbers_from, first_of, last_of}
-use Rattle.cost_base.proofs.ListLemmas.{last_of-push, first_of-push}
+use Rattle.cost_base.proofs.ListLemmas.{last_of-push, first_of-push_option, length-push, option_or-none}
 use Rattle.std.proofs.lemmas.Bool.{le-leb, lt-leb}
 use Rattle.text_lines.specs.TextLeft.{TextLeft}
 use Rattle.text_lines.specs.Reading.{GoesOver, IsLineRead, IsLongLine}
@@ -21,16 +21,12 @@ use Rattle.config_reader.specs.Statements.{Statement, AddressIs, AreaIs, CostIs,
 use Rattle.config_reader.specs.Settings.{Said, said, said_at, said_by}
 use Rattle.config_reader.specs.Configs.{opened_at, with_line, name_opened}
 use Rattle.config_reader.specs.Faults.{is_hostname_head, last_hostname}
-use Rattle.config_reader.specs.FaultList.{Fault, at_line, long_line, refused, read_line, read_lines, is_short}
+use Rattle.config_reader.specs.FaultList.{at_line, long_line, refused, read_line, read_lines, is_short}
 use Rattle.config_reader.specs.Hearing.{Heard, sets, hear, hear_kind, hear_statement, with_fault, heard, named_by, own_fault}
 use Rattle.config_reader.specs.Reading.{open_block}
 use Rattle.config_reader.proofs.LongerLists.{filter_map-numbers_more, filter-numbers_more, last_passing-lt}
 use Rattle.config_reader.proofs.SaidSteps.{said_after, said-push, said_at-append, opened-push, opened_from, names_router, last_said}
-use Rattle.config_reader.proofs.SettingSteps.{option_or-none}
 use Rattle.config_reader.proofs.BlockFacts.{open_block-push, block_with}
-
-length_more : {X : Type 0} (xs : List X) (y : X) → length (xs ++ y ∷ []) ≡ suc (length xs)
-length_more xs y = omega (arith, length-append xs (y ∷ []))
 
 -- what is kept, part by part
 pub heard_same : (a b : Heard) → a.said ≡ b.said → a.heads ≡ b.heads → a.hostname ≡ b.hostname → a.fault ≡ b.fault → a.block ≡ b.block → a ≡ b
@@ -77,7 +73,7 @@ named-push file line = ap (named_by (file ++ line ∷ [])) last ∙ cases (names
         ≡ last_of (filter (is_hostname_head file) (numbers_from 0 (length file)) ++ only_if (names_router line)
         (length file))
     last =
-        ap (λ n. last_of (filter (is_hostname_head (file ++ line ∷ [])) (numbers_from 0 n))) (length_more file line)
+        ap (λ n. last_of (filter (is_hostname_head (file ++ line ∷ [])) (numbers_from 0 n))) (length-push file line)
         ∙ ap last_of (filter-numbers_more (is_hostname_head (file ++ line ∷ [])) (is_hostname_head file) (length file)
         (λ i within. ap names_router (get_or_append_left file (line ∷ []) [] i within)))
         ∙ ap (λ b. last_of (filter (is_hostname_head file) (numbers_from 0 (length file)) ++ cond b (length file ∷ []) [])) (ap names_router here)
@@ -112,16 +108,11 @@ pub fault-push : (file : List (List ℕ)) (line : List ℕ) →
     (at_line (length file + 1)
     (option_or (long_line line) (refused (said_after (read_lines file) (read_line line)).statement)))
 fault-push file line =
-    ap (λ n. first_of (filter_map (own_fault (file ++ line ∷ [])) (numbers_from 0 n))) (length_more file line)
+    ap (λ n. first_of (filter_map (own_fault (file ++ line ∷ [])) (numbers_from 0 n))) (length-push file line)
     ∙ ap first_of (filter_map-numbers_more (own_fault (file ++ line ∷ [])) (own_fault file) (length file) before)
-    ∙ first (filter_map (own_fault file) (numbers_from 0 (length file))) (own_fault (file ++ line ∷ []) (length file))
+    ∙ first_of-push_option (own_fault (file ++ line ∷ []) (length file)) (filter_map (own_fault file) (numbers_from 0 (length file)))
     ∙ ap (option_or (heard file).fault) here
   where
-    first : (xs : List Fault) (o : Option Fault) → first_of (xs ++ cons_option o []) ≡ option_or (first_of xs) o
-    first [] None = refl
-    first (x ∷ xs) None = refl
-    first xs (Some y) = first_of-push xs y
-
     before : (i : ℕ) → i < length file → own_fault (file ++ line ∷ []) i ≡ own_fault file i
     before i within =
         let known : i < length (read_lines file) = omega (arith, within, length-read_lines file) in

@@ -21,7 +21,7 @@ word_lacks_end (c ∷ cs) whole =
     rw (here.1, rest)
 
 -- a line that passes the test is one line
-one_line : (line : List ℕ) → lacks_end line ≡ true → IsOneLine line
+pub one_line : (line : List ℕ) → lacks_end line ≡ true → IsOneLine line
 one_line [] lacks = All-nil (λ c. eqb c 10 ≡ false)
 one_line (c ∷ cs) lacks =
     let parts = and_parts (not (c == 10)) (lacks_end cs) lacks in

@@ -1,9 +1,10 @@
 -- What a file says with one more line.
-use Rattle.std.proofs.Common.{◌≡◌, ℕ, suc, ◌+◌, ◌<◌, List, [], ◌∷◌, ◌++◌, length, get_or, take, Bool, false, ◌&&◌, refl, ap, ◌∙◌, arith, map, Option, Some, None, length-append}
+use Rattle.std.proofs.Common.{◌≡◌, ℕ, ◌+◌, ◌<◌, List, [], ◌∷◌, ◌++◌, length, get_or, take, Bool, false, ◌&&◌, refl, ap, ◌∙◌, arith, map, Option, Some, None}
 use Rattle.std.specs.Prelude.{if◌then◌else◌, codes}
 use Rattle.std.specs.List.{filter, filter_map, cons_option}
 use Rattle.std.proofs.lemmas.List.{get_or_append_left, take-append-le, take_at, get_or_at}
 use Rattle.cost_base.specs.Lists.{numbers_from, last_of}
+use Rattle.cost_base.proofs.ListLemmas.{length-push}
 use Rattle.text_lines.specs.Lines.{words, kind_of, is_head}
 use Rattle.config_reader.specs.Statements.{block_of, begin_with, word_at}
 use Rattle.config_reader.specs.Settings.{Said, said, said_at, said_by, block_by_head}
@@ -18,9 +19,6 @@ said_behind i head line = said_by (kind_of line) (i + 1) (block_by_head head) (w
 -- what a line says after the lines of a file
 abbrev pub said_after : List (List ℕ) → List ℕ → Said
 said_after file line = said_behind (length file) (last_of (filter is_head file)) line
-
-length_more : {X : Type 0} (xs : List X) (y : X) → length (xs ++ y ∷ []) ≡ suc (length xs)
-length_more xs y = omega (arith, length-append xs (y ∷ []))
 
 -- a line says the same whatever follows
 pub said_at-append : (file more : List (List ℕ)) (i : ℕ) → i < length file → said_at (file ++ more) i ≡ said_at file i
@@ -40,7 +38,7 @@ last_said file line =
 -- one more line says one thing more
 pub said-push : (file : List (List ℕ)) (line : List ℕ) → said (file ++ line ∷ []) ≡ said file ++ said_after file line ∷ []
 said-push file line =
-    ap (λ n. map (said_at (file ++ line ∷ [])) (numbers_from 0 n)) (length_more file line)
+    ap (λ n. map (said_at (file ++ line ∷ [])) (numbers_from 0 n)) (length-push file line)
     ∙ map-numbers_more (said_at (file ++ line ∷ [])) (said_at file) (length file) (λ i within. said_at-append file (line ∷ []) i within)
     ∙ ap (λ (s : Said). said file ++ s ∷ []) (last_said file line)
 
@@ -53,7 +51,7 @@ pub opened-push : (file : List (List ℕ)) (line : List ℕ) →
     filter_map (opened_at (file ++ line ∷ [])) (numbers_from 0 (length (file ++ line ∷ [])))
     ≡ filter_map (opened_at file) (numbers_from 0 (length file)) ++ cons_option (opened_from (length file) line) []
 opened-push file line =
-    ap (λ n. filter_map (opened_at (file ++ line ∷ [])) (numbers_from 0 n)) (length_more file line)
+    ap (λ n. filter_map (opened_at (file ++ line ∷ [])) (numbers_from 0 n)) (length-push file line)
     ∙ filter_map-numbers_more (opened_at (file ++ line ∷ [])) (opened_at file) (length file)
     (λ i within. ap (λ (l : List ℕ). opened_from i l) (get_or_append_left file (line ∷ []) [] i within))
     ∙ ap (λ (l : List ℕ). filter_map (opened_at file) (numbers_from 0 (length file))
@@ -71,7 +69,7 @@ router_name-push file_name file line other = ap (name_and_line file_name (file +
   where
     last : last_hostname (file ++ line ∷ []) ≡ last_hostname file
     last =
-        ap (λ n. last_of (filter (is_hostname_head (file ++ line ∷ [])) (numbers_from 0 n))) (length_more file line)
+        ap (λ n. last_of (filter (is_hostname_head (file ++ line ∷ [])) (numbers_from 0 n))) (length-push file line)
         ∙ ap last_of (filter-numbers_same (is_hostname_head (file ++ line ∷ [])) (is_hostname_head file) (length file)
         (λ i within. ap names_router (get_or_append_left file (line ∷ []) [] i within))
         (ap names_router (get_or_at file line [] [] (length file) refl) ∙ other))

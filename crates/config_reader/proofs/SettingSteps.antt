@@ -6,7 +6,7 @@ use Rattle.std.specs.Option.{option_or}
 use Rattle.std.proofs.lemmas.List.{map-append}
 use Rattle.std.proofs.lemmas.List.Elements.{filter-append, filter_map-append}
 use Rattle.cost_base.specs.Lists.{last_of, first_of, same_bytes}
-use Rattle.cost_base.proofs.ListLemmas.{last_of-push, first_of-push}
+use Rattle.cost_base.proofs.ListLemmas.{last_of-push, first_of-push_option, option_or-none}
 use Rattle.text_lines.specs.Numbers.{Prefix}
 use Rattle.interface_model.specs.declared.Interface.{Interface}
 use Rattle.interface_model.specs.declared.Kind.{Kind}
@@ -53,21 +53,46 @@ setting-push {X} pick own s = ap last_of (filter_map-append pick own (s ∷ []))
 -- the first of a kind, with one more statement
 pub first_said-push : {X : Type 0} (pick : Statement → Option X) (own : List Statement) (s : Statement) →
     first_of (filter_map pick (own ++ s ∷ [])) ≡ option_or (first_of (filter_map pick own)) (pick s)
-first_said-push {X} pick own s = ap first_of (filter_map-append pick own (s ∷ [])) ∙ cases (pick s) (filter_map pick own)
-  where
-    cases : (o : Option X) (xs : List X) → first_of (xs ++ cons_option o []) ≡ option_or (first_of xs) o
-    cases None [] = refl
-    cases None (x ∷ xs) = refl
-    cases (Some x) xs = first_of-push xs x
+first_said-push pick own s = ap first_of (filter_map-append pick own (s ∷ [])) ∙ first_of-push_option (pick s) (filter_map pick own)
 
 -- the area of an interface: of its own line, or of the `network` lines that match its address
 abbrev pub area_from : Option ℕ → Option Prefix → List Network → Option ℕ
 area_from own None networks = or_if_none own None
 area_from own (Some address) networks = or_if_none own (first_of (map (λ n. n.area) (filter (matches address) networks)))
 
+-- what is made of settings
+abbrev pub Made : Type 0 → Type 0
+Made X = Option Prefix → Option ℕ → Option ℕ → Option Kind → Option Bool → Option Bool → Option ℕ → X
+
+-- what is made of the settings that some statements say
+abbrev pub by_said : {X : Type 0} → Made X → List Statement → X
+by_said {X} make own =
+    make (first_of (filter_map address_said own)) (setting area_said own) (setting cost_said own) (setting kind_said own)
+    (setting passive_said own) (setting down_said own) (setting priority_said own)
+
+-- what is made of an address, and of the other settings with one more statement
+abbrev pub by_one_more : {X : Type 0} → Made X → Option Prefix → List Statement → Statement → X
+by_one_more {X} make address own s =
+    make address (option_or (area_said s) (setting area_said own)) (option_or (cost_said s) (setting cost_said own))
+    (option_or (kind_said s) (setting kind_said own)) (option_or (passive_said s) (setting passive_said own))
+    (option_or (down_said s) (setting down_said own)) (option_or (priority_said s) (setting priority_said own))
+
+pub by_said-push : {X : Type 0} (make : Made X) (own : List Statement) (s : Statement) →
+    by_said make (own ++ s ∷ []) ≡ by_one_more make (option_or (first_of (filter_map address_said own)) (address_said s)) own s
+by_said-push {X} make own s =
+    cc (
+      first_said-push address_said own s,
+      setting-push area_said own s,
+      setting-push cost_said own s,
+      setting-push kind_said own s,
+      setting-push passive_said own s,
+      setting-push down_said own s,
+      setting-push priority_said own s,
+    )
+
 -- an interface by its settings and by what the router blocks say
-unfoldable pub interface_by : List ℕ → ℕ → Option Prefix → Option ℕ → Option ℕ → Option Kind → Option Bool → Option Bool → Option ℕ → List Statement → Interface
-interface_by name line address area cost kind passive down priority router = record {
+unfoldable pub interface_by : List Statement → List ℕ → ℕ → Made Interface
+interface_by router name line address area cost kind passive down priority = record {
   name = name;
   line = line;
   address = address_part address;
@@ -82,9 +107,7 @@ interface_by name line address area cost kind passive down priority router = rec
 
 -- an interface by what its blocks and the router blocks say
 unfoldable pub interface_from : List Statement → List Statement → List ℕ → ℕ → Interface
-interface_from own router name line =
-    interface_by name line (first_of (filter_map address_said own)) (setting area_said own) (setting cost_said own) (setting kind_said own)
-    (setting passive_said own) (setting down_said own) (setting priority_said own) router
+interface_from own router name line = by_said (interface_by router name line) own
 
 pub interface_of-from : (all : List Said) (name : List ℕ) (line : ℕ) → interface_of all name line ≡ interface_from (about all name) (about_router all) name line
 unfolding interface_from interface_by
@@ -99,28 +122,11 @@ interface_of-from all name line =
 -- an interface with one more statement in its blocks
 pub interface_from-push : (own router : List Statement) (name : List ℕ) (line : ℕ) (s : Statement) →
     interface_from (own ++ s ∷ []) router name line
-    ≡ interface_by name line (option_or (first_of (filter_map address_said own)) (address_said s))
-    (option_or (area_said s) (setting area_said own)) (option_or (cost_said s) (setting cost_said own))
-    (option_or (kind_said s) (setting kind_said own))
-    (option_or (passive_said s) (setting passive_said own)) (option_or (down_said s) (setting down_said own))
-    (option_or (priority_said s) (setting priority_said own)) router
+    ≡ by_one_more (interface_by router name line) (option_or (first_of (filter_map address_said own)) (address_said s)) own s
 unfolding interface_from
-interface_from-push own router name line s =
-    cc (
-      first_said-push address_said own s,
-      setting-push area_said own s,
-      setting-push cost_said own s,
-      setting-push kind_said own s,
-      setting-push passive_said own s,
-      setting-push down_said own s,
-      setting-push priority_said own s,
-    )
+interface_from-push own router name line s = by_said-push (interface_by router name line) own s
 
 -- nothing said changes nothing
-pub option_or-none : {X : Type 0} (o : Option X) → option_or o None ≡ o
-option_or-none None = refl
-option_or-none (Some x) = refl
-
 -- a cost line sets the cost, and leaves every other setting
 pub interface_from-cost : (own router : List Statement) (name : List ℕ) (line n : ℕ) →
     interface_from (own ++ CostIs n ∷ []) router name line ≡ record (interface_from own router name line) { cost = Some n }
@@ -130,8 +136,8 @@ interface_from-cost own router name line n = interface_from-push own router name
   where
     by_address : Option Prefix → Interface
     by_address address =
-        interface_by name line address (setting area_said own) (Some n) (setting kind_said own)
-        (setting passive_said own) (setting down_said own) (setting priority_said own) router
+        interface_by router name line address (setting area_said own) (Some n) (setting kind_said own)
+        (setting passive_said own) (setting down_said own) (setting priority_said own)
 
     set : by_address (first_of (filter_map address_said own)) ≡ record (interface_from own router name line) { cost = Some n }
     set = refl

@@ -3,6 +3,7 @@ use Rattle.std.proofs.Common.{◌≡◌, ◌≢◌, ℕ, ◌+◌, ◌<◌, ◌�
 use Rattle.std.specs.Prelude.{is_some}
 use Rattle.std.specs.List.{filter, list_any}
 use Rattle.std.specs.Option.{option_map}
+use Rattle.std.proofs.Math.Bool.{and-true, or-false}
 use Rattle.std.proofs.lemmas.Bool.{and_parts, and_right, eqb-true, eq-eqb, ne_eqb, lt-ltb, le-ltb, le-leb, lt-leb, cases_lt, cases_order}
 use Rattle.cost_base.specs.Lists.{first_of}
 use Rattle.text_lines.specs.Numbers.{Prefix}
@@ -240,12 +241,12 @@ covers_more m address w =
           ∙ sym (ap (λ b. b || names_prefix (prefix_at address m) w)
           (ap (λ b. b && inside) (le-ltb w.length m (omega (arith, same))))
           ∙ ap (λ b. eqb own (subnet address m) && b) (eq-eqb w.length m same)
-          ∙ and_true (eqb own (subnet address m)) ∙ ap (λ l. eqb own (subnet address l)) (sym same))
+          ∙ and-true (eqb own (subnet address m)) ∙ ap (λ l. eqb own (subnet address l)) (sym same))
       | inr apart ↦ elim apart [
         | inl before ↦
             ap (λ b. b && inside) (lt-ltb w.length (m + 1) (omega (arith, before)))
             ∙ sym (ap (λ b. (b && inside) || names_prefix (prefix_at address m) w) (lt-ltb w.length m before)
-            ∙ ap (λ b. inside || b) (other (λ e. omega (arith, e, before))) ∙ or_false inside)
+            ∙ ap (λ b. inside || b) (other (λ e. omega (arith, e, before))) ∙ or-false inside)
         | inr after ↦
             ap (λ b. b && inside) (le-ltb w.length (m + 1) (omega (arith, after)))
             ∙ sym (ap (λ b. (b && inside) || names_prefix (prefix_at address m) w)
@@ -261,14 +262,6 @@ covers_more m address w =
 
     other : (w.length ≡ m → ⊥) → names_prefix (prefix_at address m) w ≡ false
     other apart = and_right (eqb own (subnet address m)) (eqb w.length m) (ne_eqb w.length m apart)
-
-    and_true : (b : Bool) → (b && true) ≡ b
-    and_true true = refl
-    and_true false = refl
-
-    or_false : (b : Bool) → (b || false) ≡ b
-    or_false true = refl
-    or_false false = refl
 
 pub covers_all : (p : Prefix) (w : NetworkLine) → covers_below (p.length + 1) p.address w ≡ covers p w
 covers_all p w =

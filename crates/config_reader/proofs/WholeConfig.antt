@@ -94,16 +94,14 @@ module _ (file_name bytes : List ℕ) (p : Parts) (nets : List NetworkLine) (d :
             interfaces = map (finished nets) d.drafts.items;
           }) (sym read.parts.said)
 
-pub read_is : (file_name bytes : List ℕ) (p : Parts) (nets : List NetworkLine) (d : Drafts) (name : List ℕ × ℕ)
-    (one two : List SaidLine) (heads : List NamedHead) (f : List ℕ) →
-    IsParts (heard (lines bytes)) p → nets ≡ network_lines (map said_of one) → one ≡ p.said.items →
-    IsGathered nets (map head_of heads) (map said_of two) d → heads ≡ p.heads.items → two ≡ p.said.items →
+pub read_is : (file_name bytes : List ℕ) (p : Parts) (nets : List NetworkLine) (d : Drafts) (name : List ℕ × ℕ) (f : List ℕ) →
+    IsParts (heard (lines bytes)) p → nets ≡ network_lines (map said_of p.said.items) →
+    IsGathered nets (map head_of p.heads.items) (map said_of p.said.items) d →
     name ≡ name_from f (option_map head_of p.hostname) → f ≡ file_name → IsRead file_name bytes p nets d name
-read_is file_name bytes p nets d name one two heads f parts found same_one gathered same_heads same_two named same_name = record {
+read_is file_name bytes p nets d name f parts found gathered named same_name = record {
   parts = parts;
-  found = found ∙ ap (λ ls. network_lines (map said_of ls)) same_one;
-  gathered = subst (λ (hs : List NamedHead). IsGathered nets (map head_of hs) (map said_of p.said.items) d) same_heads
-      (subst (λ (ls : List SaidLine). IsGathered nets (map head_of heads) (map said_of ls) d) same_two gathered);
+  found = found;
+  gathered = gathered;
   named = named ∙ ap (λ (n : List ℕ). name_from n (option_map head_of p.hostname)) same_name;
 }
 

@@ -1,11 +1,15 @@
 //! Reading a whole configuration.
-ghost use Rattle.std.specs.Prelude.{◌≡◌, ◌-◌, ◌^◌, ◌<◌, None, Option, List, length, map, IfOk, IfErr};
+ghost use Rattle.std.specs.Prelude.{◌≡◌, ◌-◌, ◌^◌, ◌<◌, ℕ, None, Option, List, length, map, IfOk, IfErr};
 ghost use Rattle.std.specs.Option.{option_map};
 ghost use Rattle.interface_model.specs.Records.{IsRouter};
 ghost use Rattle.config_reader.specs.Configs.{config_of};
 ghost use Rattle.config_reader.specs.FaultList.{config_fault, Tells};
 ghost use Rattle.config_reader.specs.Heards.{said_of, head_of, fault_of};
 ghost use Rattle.config_reader.specs.Drafting as drafting;
+ghost use Rattle.config_reader.specs.Gathered.{IsGathered};
+ghost use Rattle.config_reader.specs.Hearing as hearing;
+ghost use Rattle.config_reader.specs.Parts.{IsParts};
+ghost use Rattle.text_lines.specs.Lines.{lines};
 
 use crate::ConfigStop;
 use crate::drafts::{Drafts, finish};
@@ -53,6 +57,50 @@ fn assemble(
     })
 }
 
+/// The router that is made of what was gathered, or its first fault.
+fn checked<'a>(
+    alloc: Global,
+    file_name: &'a str,
+    parts: &Parts<'a>,
+    networks: &Networks,
+    drafts: Drafts<'a>,
+) -> Result<RouterConfig, ConfigStop>
+    requires read { (bytes : List ℕ) × IsParts (hearing.heard (lines bytes)) parts.now }
+    requires networks { networks.now ≡ drafting.network_lines (map said_of parts.now.said.items) }
+    requires drafts { IsGathered networks.now (map head_of parts.now.heads.items) (map said_of parts.now.said.items) drafts }
+    ensures made { (bytes : List ℕ) → IsParts (hearing.heard (lines bytes)) parts.now →
+        IfOk result (λ r. (config_fault file_name.now bytes ≡ None) × (r ≡ config_of file_name.now bytes)) }
+    ensures refused { (bytes : List ℕ) → IsParts (hearing.heard (lines bytes)) parts.now →
+        IfErr result (Tells (config_fault file_name.now bytes)) }
+{
+    let name = router_name(parts.hostname, file_name.as_bytes());
+    if let Some(fault) = first_fault(parts, networks, &drafts, name) {
+        return Err(ConfigStop::Refused {
+            fault: fault.fault,
+            line: fault.line,
+        });
+    }
+    let interfaces = finish(alloc, drafts.drafts, networks)?;
+    Ok(assemble(alloc, name.name, router_id(&parts.said), interfaces)?)
+}
+
+/// The router of whose configuration these parts were kept, or its first fault.
+fn gathered<'a>(
+    alloc: Global,
+    file_name: &'a str,
+    parts: &Parts<'a>,
+) -> Result<RouterConfig, ConfigStop>
+    requires { (bytes : List ℕ) × IsParts (hearing.heard (lines bytes)) parts.now }
+    ensures made { (bytes : List ℕ) → IsParts (hearing.heard (lines bytes)) parts.now →
+        IfOk result (λ r. (config_fault file_name.now bytes ≡ None) × (r ≡ config_of file_name.now bytes)) }
+    ensures refused { (bytes : List ℕ) → IsParts (hearing.heard (lines bytes)) parts.now →
+        IfErr result (Tells (config_fault file_name.now bytes)) }
+{
+    let networks = Networks::among(alloc, &parts.said)?;
+    let drafts = Drafts::gather(alloc, &parts.heads, &parts.said, &networks)?;
+    checked(alloc, file_name, parts, &networks, drafts)
+}
+
 /// Reads the configuration of a router: `file_name` names the router where no `hostname` line does.
 ///
 /// # Errors
@@ -65,16 +113,5 @@ pub fn read_config(alloc: Global, file_name: &str, bytes: &[u8]) -> Result<Route
     ensures refused { IfErr result (Tells (config_fault file_name.now bytes.now)) }
 {
     let parts = read_parts(alloc, bytes)?;
-    let networks = Networks::among(alloc, &parts.said)?;
-    let drafts = Drafts::gather(alloc, &parts.heads, &parts.said, &networks)?;
-    let name = router_name(parts.hostname, file_name.as_bytes());
-    if let Some(fault) = first_fault(&parts, &networks, &drafts, name) {
-        return Err(ConfigStop::Refused {
-            fault: fault.fault,
-            line: fault.line,
-        });
-    }
-    let id = router_id(&parts.said);
-    let interfaces = finish(alloc, drafts.drafts, &networks)?;
-    Ok(assemble(alloc, name.name, id, interfaces)?)
+    gathered(alloc, file_name, &parts)
 }

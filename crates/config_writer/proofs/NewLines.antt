@@ -1,15 +1,15 @@
 -- The lines of a rewritten text.
-use Rattle.std.proofs.Common.{◌≡◌, ℕ, ◌+◌, List, [], ◌∷◌, ◌++◌, length, map, Bool, cond, true, false, not, eqb, refl, sym, ap, ◌∙◌, subst, Option, Some, None, append-nil, append_assoc, length-append}
+use Rattle.std.proofs.Common.{◌≡◌, ℕ, ◌+◌, List, [], ◌∷◌, ◌++◌, length, map, Bool, cond, true, false, refl, sym, ap, ◌∙◌, subst, Option, Some, None, append-nil, append_assoc, length-append}
 use Rattle.std.specs.Prelude.{◌==◌}
 use Rattle.std.specs.List.{concat}
-use Rattle.std.proofs.lemmas.Bool.{and_parts, not-true, eqb-true}
+use Rattle.std.proofs.lemmas.Bool.{eqb-true}
 use Rattle.std.proofs.lemmas.List.Elements.{All-nil, All-cons}
 use Rattle.cost_base.specs.Decimal.{decimal}
 use Rattle.cost_base.specs.Lists.{numbers_from}
 use Rattle.text_lines.specs.Lines.{lines, grow, IsOneLine}
 use Rattle.text_lines.specs.Reading.{line_end}
 use Rattle.text_lines.proofs.LineLaws.{lines-cons, lines-one, lines-some}
-use Rattle.config_reader.proofs.PrintedLines.{lacks_end, word_lacks_end}
+use Rattle.config_reader.proofs.PrintedLines.{one_line, word_lacks_end}
 use Rattle.text_lines.proofs.WordLaws.{decimal-word}
 use Rattle.config_reader.specs.Sections.{cost_line}
 use Rattle.config_writer.specs.Rewriting.{is_replaced, cost_behind, whole_lines, written_for, written_at, rewritten}
@@ -86,13 +86,6 @@ cut_of (c ∷ cs) line rest is = cases (c == 10) refl (lines cs) refl (λ l more
               };
           behind = cut.behind;
         })
-
--- a line that lacks an LF is one line
-one_line : (line : List ℕ) → lacks_end line ≡ true → IsOneLine line
-one_line [] lacks = All-nil (λ x. (x == 10) ≡ false)
-one_line (c ∷ cs) lacks =
-    let parts = and_parts (not (c == 10)) (lacks_end cs) lacks in
-    All-cons (λ x. (x == 10) ≡ false) c cs (not-true (eqb c 10) parts.0) (one_line cs parts.1)
 
 cost_line-one : (n : ℕ) → IsOneLine (cost_line n)
 cost_line-one n = one_line (cost_line n) (word_lacks_end (decimal n) (decimal-word n).whole)

@@ -94,30 +94,30 @@ interface_recosted cost known own router name line =
         setting area_said new ≡ setting area_said own → setting kind_said new ≡ setting kind_said own →
         setting passive_said new ≡ setting passive_said own → setting down_said new ≡ setting down_said own →
         setting priority_said new ≡ setting priority_said own →
-        interface_by name line (first_of (filter_map address_said new)) (setting area_said new) (setting cost_said new)
+        interface_by router name line (first_of (filter_map address_said new)) (setting area_said new) (setting cost_said new)
         (setting kind_said new) (setting passive_said new) (setting down_said new)
-        (setting priority_said new) router
-        ≡ interface_by name line (first_of (filter_map address_said own)) (setting area_said own)
+        (setting priority_said new)
+        ≡ interface_by router name line (first_of (filter_map address_said own)) (setting area_said own)
         (setting cost_said new) (setting kind_said own) (setting passive_said own) (setting down_said own)
-        (setting priority_said own) router
+        (setting priority_said own)
     picks a b c d e f =
-        ap (λ x. interface_by name line x (setting area_said new) (setting cost_said new) (setting kind_said new)
-        (setting passive_said new) (setting down_said new) (setting priority_said new) router) a
-        ∙ ap (λ x. interface_by name line (first_of (filter_map address_said own)) x (setting cost_said new)
+        ap (λ x. interface_by router name line x (setting area_said new) (setting cost_said new) (setting kind_said new)
+        (setting passive_said new) (setting down_said new) (setting priority_said new)) a
+        ∙ ap (λ x. interface_by router name line (first_of (filter_map address_said own)) x (setting cost_said new)
         (setting kind_said new) (setting passive_said new) (setting down_said new)
-        (setting priority_said new) router) b
-        ∙ ap (λ x. interface_by name line (first_of (filter_map address_said own)) (setting area_said own)
+        (setting priority_said new)) b
+        ∙ ap (λ x. interface_by router name line (first_of (filter_map address_said own)) (setting area_said own)
         (setting cost_said new) x (setting passive_said new) (setting down_said new)
-        (setting priority_said new) router) c
-        ∙ ap (λ x. interface_by name line (first_of (filter_map address_said own)) (setting area_said own)
+        (setting priority_said new)) c
+        ∙ ap (λ x. interface_by router name line (first_of (filter_map address_said own)) (setting area_said own)
         (setting cost_said new) (setting kind_said own) x (setting down_said new)
-        (setting priority_said new) router) d
-        ∙ ap (λ x. interface_by name line (first_of (filter_map address_said own)) (setting area_said own)
+        (setting priority_said new)) d
+        ∙ ap (λ x. interface_by router name line (first_of (filter_map address_said own)) (setting area_said own)
         (setting cost_said new) (setting kind_said own) (setting passive_said own) x
-        (setting priority_said new) router) e
-        ∙ ap (λ x. interface_by name line (first_of (filter_map address_said own)) (setting area_said own)
+        (setting priority_said new)) e
+        ∙ ap (λ x. interface_by router name line (first_of (filter_map address_said own)) (setting area_said own)
         (setting cost_said new) (setting kind_said own) (setting passive_said own) (setting down_said own)
-        x router) f
+        x) f
 
 -- every name of some is among them
 all_known : (front rest : List (List ℕ)) → All (λ name. list_any (same_bytes name) (front ++ rest) ≡ true) rest

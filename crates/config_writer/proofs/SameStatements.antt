@@ -4,7 +4,7 @@ use Rattle.std.specs.Prelude.{codes}
 use Rattle.std.specs.List.{filter}
 use Rattle.std.proofs.lemmas.List.{get_or_at, get_or_append_left}
 use Rattle.cost_base.specs.Lists.{numbers_from, last_of}
-use Rattle.cost_base.proofs.ListLemmas.{last_of-push}
+use Rattle.cost_base.proofs.ListLemmas.{last_of-push, length-push}
 use Rattle.text_lines.specs.Lines.{words, kind_of, is_head, is_head_kind}
 use Rattle.text_lines.specs.declared.LineKind.{LineKind}
 use Rattle.text_lines.specs.declared.LineKind.TheVariants.{Blank, Comment, Head, Indented}
@@ -19,7 +19,7 @@ use Rattle.config_reader.proofs.BlockFacts.{open_block-push, block_with}
 use Rattle.config_reader.proofs.FineLines.{block_by, statement_by, after_block, after_statement}
 use Rattle.config_writer.specs.Rewriting.{headed}
 use Rattle.config_writer.specs.Writing.{heads_after_line}
-use Rattle.config_writer.proofs.WrittenLines.{headed-push, length_more}
+use Rattle.config_writer.proofs.WrittenLines.{headed-push}
 
 -- what is said of an interface, and by router blocks, with one more line
 pub about-line : (file : List (List ℕ)) (line name : List ℕ) →
@@ -51,7 +51,7 @@ named-push file_name file line names =
   where
     last : last_hostname (file ++ line ∷ []) ≡ Some (length file)
     last =
-        ap (λ n. last_of (filter (is_hostname_head (file ++ line ∷ [])) (numbers_from 0 n))) (length_more file line)
+        ap (λ n. last_of (filter (is_hostname_head (file ++ line ∷ [])) (numbers_from 0 n))) (length-push file line)
         ∙ ap last_of (filter-numbers_more (is_hostname_head (file ++ line ∷ [])) (is_hostname_head file) (length file)
         (λ i within. ap names_router (get_or_append_left file (line ∷ []) [] i within)))
         ∙ ap (λ b. last_of (filter (is_hostname_head file) (numbers_from 0 (length file))

@@ -1,12 +1,12 @@
 -- What is written for the lines so far, with one more line.
-use Rattle.std.proofs.Common.{◌≡◌, ℕ, suc, ◌+◌, List, [], ◌∷◌, ◌++◌, length, map, take, get_or, Bool, cond, true, false, ◌&&◌, not, refl, sym, ap, ◌∙◌, arith, Option, None, is_some, append-nil, append_assoc, length-append}
+use Rattle.std.proofs.Common.{◌≡◌, ℕ, suc, ◌+◌, List, [], ◌∷◌, ◌++◌, length, map, take, get_or, Bool, cond, true, false, ◌&&◌, not, refl, sym, ap, ◌∙◌, arith, Option, None, is_some, append-nil, append_assoc}
 use Rattle.std.specs.Prelude.{codes, position}
 use Rattle.std.specs.List.{concat, list_any}
 use Rattle.std.proofs.lemmas.Bool.{and_right}
 use Rattle.std.proofs.lemmas.List.{take_at, get_or_at, map-append}
 use Rattle.std.proofs.lemmas.List.Folds.{concat-append}
 use Rattle.cost_base.specs.Lists.{numbers_from, same_bytes}
-use Rattle.cost_base.proofs.ListLemmas.{numbers_from-more}
+use Rattle.cost_base.proofs.ListLemmas.{length-push, numbers_from-more}
 use Rattle.text_lines.specs.Lines.{lines, words, kind_of, is_head_kind}
 use Rattle.text_lines.specs.Reading.{IsLineRead, line_end}
 use Rattle.text_lines.specs.TextLeft.{TextLeft}
@@ -160,9 +160,6 @@ written_none costs bytes left writer whole agree heads named out = record {
 }
 
 -- one line more
-pub length_more : (xs : List (List ℕ)) (x : List ℕ) → length (xs ++ x ∷ []) ≡ suc (length xs)
-length_more xs x = omega (arith, length-append xs (x ∷ []))
-
 pub written_step : (costs : List (List ℕ × ℕ)) (bytes : List ℕ) (old new : TextLeft) (writer next : Writer) (line : Line) →
     WrittenTo costs bytes old writer → IsLineRead old new line → GoesOverLine writer next line.text.now new.ended → WrittenTo costs bytes new next
 written_step costs bytes old new writer next line so_far is_line step = record {
@@ -170,7 +167,7 @@ written_step costs bytes old new writer next line so_far is_line step = record {
   fronts = so_far.fronts ++ (text ++ line_end new.ended) ∷ [];
   split = split ∙ sym (append_assoc so_far.front (text ∷ []) (lines new.bytes));
   wholes = wholes ∙ sym (append_assoc so_far.fronts ((text ++ line_end new.ended) ∷ []) (whole_lines new.bytes));
-  same = length_more so_far.fronts (text ++ line_end new.ended) ∙ ap suc so_far.same ∙ sym (length_more so_far.front text);
+  same = length-push so_far.fronts (text ++ line_end new.ended) ∙ ap suc so_far.same ∙ sym (length-push so_far.front text);
   agree = λ name. ap (look_up name) step.costs ∙ so_far.agree name;
   heads = step.heads ∙ ap (λ heads. heads_after_line (kind_of text) heads (block_of (words text))) so_far.heads ∙ sym (headed-push so_far.front text);
   named = step.named ∙ ap (λ named. named_after_line (kind_of text) writer.costs named (block_of (words text)))
@@ -214,7 +211,7 @@ written_step costs bytes old new writer next line so_far is_line step = record {
         new.ended) so_far.out
         ∙ ap (λ more. concat (map (written_at costs bytes) (numbers_from 0 (length so_far.front))) ++ more) put
         ∙ sym (written_more (written_at costs bytes) (length so_far.front))
-        ∙ ap (λ n. concat (map (written_at costs bytes) (numbers_from 0 n))) (sym (length_more so_far.front text))
+        ∙ ap (λ n. concat (map (written_at costs bytes) (numbers_from 0 n))) (sym (length-push so_far.front text))
 
 -- a head is gone over: its block is opened, and it is put
 pub head_gone : (old opened next : Writer) (line : List ℕ) (end : Bool) (behind : Option ℕ) → kind_of line ≡ Head →

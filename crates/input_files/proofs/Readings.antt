@@ -10,7 +10,8 @@ use Rattle.input_files.specs.Readings.{Refusal, Reading, Take, Refused, Ready, �
 abbrev faulty : (A : Type 0) → Refusal → End A
 faulty A r = Faulty r
 
-abbrev failed : (A : Type 0) → List ℕ → End A
+-- a file that failed, as the end of a reading
+abbrev pub failed : (A : Type 0) → List ℕ → End A
 failed A file = Failed file
 
 abbrev says_as : {A : Type 0} → A → End A → A
@@ -45,7 +46,8 @@ fault_as other (Says x) = other
 fault_as other (Faulty r) = r
 fault_as other (Failed file) = other
 
-abbrev file_as : {A : Type 0} → List ℕ → End A → List ℕ
+-- the file that failed, or another one
+abbrev pub file_as : {A : Type 0} → List ℕ → End A → List ℕ
 file_as other (Says x) = other
 file_as other (Faulty r) = other
 file_as other (Failed file) = file

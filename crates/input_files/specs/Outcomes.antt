@@ -9,10 +9,12 @@ use Rattle.lsdb_build.specs.Graphs.{Database}
 use Rattle.lsdb_build.specs.FaultNumbers.{number_of as number_of_topology}
 use Rattle.lsdb_build.specs.Topology.{FaultyPlace, topology_fault, database_of}
 use Rattle.path_rows.specs.Problems.{DesignProblem}
+use Rattle.text_lines.specs.LineFaults.{FaultyLine}
+use Rattle.request_reader.specs.declared.stop.RequestFault.{RequestFault}
 use Rattle.request_reader.specs.Asked.{Asked}
 use Rattle.path_requests.specs.Meaning.{problem_of}
 use Rattle.request_reader.specs.FaultNumbers.{number_of as number_of_request}
-use Rattle.request_reader.specs.Reading.{FaultyLine, request_fault, asked_by}
+use Rattle.request_reader.specs.Reading.{request_fault, asked_by}
 use Rattle.wanted_paths.specs.declared.stop.ResolutionFault.{ResolutionFault}
 use Rattle.wanted_paths.specs.declared.stop.ResolutionFault.TheVariants.{UnknownRouter, UnknownInterface, NotALink, BrokenPath, LoopPath, PathGone, EndsDiffer, TooManyVariables, NoCost}
 use Rattle.wanted_paths.specs.FaultNumbers.{number_of}
@@ -46,7 +48,7 @@ longest_answer = 1073741824
 abbrev pub file_read : ℕ → List ℕ → Reading (List ℕ)
 file_read most name = Take name most (λ bytes. Ready bytes)
 
-abbrev pub if_asked : List ℕ → List ℕ → Option FaultyLine → Reading Asked
+abbrev pub if_asked : List ℕ → List ℕ → Option (FaultyLine RequestFault) → Reading Asked
 if_asked name bytes None = Ready (asked_by bytes)
 if_asked name bytes (Some faulty) = Refused (record { number = number_of_request faulty.fault; file = name; line = faulty.line })
 

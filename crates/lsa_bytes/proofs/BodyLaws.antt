@@ -1,13 +1,13 @@
 -- Bodies of LSAs: links read one after the other, and what each body keeps.
-use Rattle.std.proofs.Common.{◌≡◌, ℕ, zero, suc, ◌+◌, ◌-◌, ◌*◌, ◌/◌, ◌%◌, ◌<◌, ◌≤◌, ◌&&◌, ◌||◌, not, Bool, true, false, cond, nat_lt, nat_eq, List, [], ◌∷◌, ◌++◌, length, drop, map, get_or, Option, None, Some, refl, sym, ap, subst, ◌∙◌, append_assoc, arith, zero-add}
+use Rattle.std.proofs.Common.{◌≡◌, ℕ, zero, suc, ◌+◌, ◌-◌, ◌*◌, ◌/◌, ◌%◌, ◌<◌, ◌≤◌, ◌&&◌, ◌||◌, not, Bool, true, false, cond, nat_lt, nat_eq, List, [], ◌∷◌, ◌++◌, length, drop, map, get_or, Option, None, Some, refl, sym, ap, subst, ◌∙◌, append_assoc, arith}
 use Rattle.std.specs.Prelude.{MatchOption, nat_le, sum_by}
 use Rattle.std.specs.Option.{option_map}
 use Rattle.std.specs.List.{list_all}
 use Rattle.std.specs.Cmp.Derive.{both_true}
 use Rattle.std.proofs.lemmas.Bool.{and_parts, or_parts, leb-true, ltb-false, eqb-true, false≢true}
-use Rattle.std.proofs.lemmas.List.{append-nil, length-drop, map_push}
+use Rattle.std.proofs.lemmas.List.{append-nil, length-drop}
 use Rattle.cost_base.specs.Lists.{numbers_from}
-use Rattle.cost_base.proofs.ListLemmas.{numbers_from-push, length-map-numbers_from}
+use Rattle.cost_base.proofs.ListLemmas.{length-map-numbers_from}
 use Rattle.lsa_bytes.specs.declared.LsaLink.{LsaLink}
 use Rattle.lsa_bytes.specs.declared.Body.{Body}
 use Rattle.lsa_bytes.specs.declared.Body.TheVariants.{Links, Attached}
@@ -15,11 +15,6 @@ use Rattle.lsa_bytes.specs.declared.Lsa.{Lsa}
 use Rattle.lsa_bytes.specs.Fields.{number_16, number_32}
 use Rattle.lsa_bytes.specs.Grammar.{age_of, type_of, link_at, link_length, is_link_type, starts_link, links_of, links_in, attached_in, body_at, body_of, with_body, said_by}
 use Rattle.lsa_bytes.specs.Databases.{has_link_types, size_of_body, size_of}
-
--- what a function gives of the numbers below the next one
-pub map-numbers_from-push : {X : Type 0} (f : ℕ → X) (n : ℕ) → map f (numbers_from 0 (n + 1)) ≡ map f (numbers_from 0 n) ++ f n ∷ []
-map-numbers_from-push f n =
-    ap (map f) (numbers_from-push 0 n ∙ ap (λ k. numbers_from 0 n ++ k ∷ []) (zero-add n)) ∙ map_push f (numbers_from 0 n) n
 
 -- Links: some that were read, and those that are still to be read.
 

@@ -1,13 +1,13 @@
 -- One LSA more in a database.
-use Rattle.std.proofs.Common.{◌≡◌, ℕ, ◌+◌, ◌<◌, ◌≤◌, ◌&&◌, Bool, true, false, cond, List, [], ◌∷◌, ◌++◌, length, get_or, Option, None, Some, Result, Ok, Err, refl, sym, ap, ◌∙◌, arith}
+use Rattle.std.proofs.Common.{◌≡◌, ℕ, ◌+◌, ◌≤◌, ◌&&◌, Bool, true, false, cond, List, [], ◌∷◌, ◌++◌, Option, None, Some, Result, Ok, Err, refl, sym, ap, ◌∙◌, arith}
 use Rattle.std.specs.Prelude.{MatchResult, nat_le, count_by}
 use Rattle.std.specs.List.{list_any}
 use Rattle.std.specs.Option.{option_or}
-use Rattle.std.proofs.lemmas.Bool.{false_from_ne_true, false≢true, leb-false}
+use Rattle.std.proofs.lemmas.Bool.{leb-false}
 use Rattle.std.proofs.lemmas.List.Elements.{All-push}
 use Rattle.std.proofs.lemmas.List.Quantifiers.{all_pairs_push}
-use Rattle.std.proofs.lemmas.List.Folds.{list_any_at}
 use Rattle.std.proofs.lemmas.List.Sums.{sum_by-append}
+use Rattle.cost_base.proofs.ListLemmas.{none_passes}
 use Rattle.lsa_bytes.specs.declared.stop.LsaFault.{LsaFault}
 use Rattle.lsa_bytes.specs.declared.stop.LsaStop.{LsaStop}
 use Rattle.lsa_bytes.specs.declared.stop.LsaStop.TheVariants.{Refused, OutOfMemory}
@@ -16,17 +16,13 @@ use Rattle.lsa_bytes.specs.Grammar.{said_by}
 use Rattle.lsa_bytes.specs.Databases.{HaveNoFault, is_router, is_same, has_link_types, has_zero_metric}
 use Rattle.lsa_bytes.specs.Faults.{Tells, body_fault, fault_behind, faults_behind, fault_of}
 
--- an element that a test of the whole list missed
-pub misses : {X : Type 0} (p : X → Bool) (xs : List X) → list_any p xs ≡ false → (k : ℕ) (d : X) → k < length xs → p (get_or xs k d) ≡ false
-misses p xs none k d within = false_from_ne_true (p (get_or xs k d)) (λ passes. false≢true (sym none ∙ list_any_at p xs k d within passes))
-
 -- a list without faults and one LSA without a fault behind them
 pub faultless_push : (lsas : List Lsa) (lsa : Lsa) → HaveNoFault lsas → has_link_types lsa.body ≡ true →
     (is_router lsa && nat_le 1000 (count_by is_router lsas)) ≡ false
     → list_any (is_same lsa) lsas ≡ false → has_zero_metric lsa.body ≡ false → HaveNoFault (lsas ++ lsa ∷ [])
 faultless_push lsas lsa before types few new metric = record {
   types = All-push (λ (l : Lsa). has_link_types l.body ≡ true) lsas lsa before.types types;
-  different = all_pairs_push (λ earlier l. is_same l earlier ≡ false) lsas lsa before.different (misses (is_same lsa) lsas new);
+  different = all_pairs_push (λ earlier l. is_same l earlier ≡ false) lsas lsa before.different (none_passes (is_same lsa) lsas new);
   metrics = All-push (λ (l : Lsa). has_zero_metric l.body ≡ false) lsas lsa before.metrics metric;
   routers = by_kind (is_router lsa) few (sum_by-append (λ l. cond (is_router l) 1 0) lsas (lsa ∷ []));
 }

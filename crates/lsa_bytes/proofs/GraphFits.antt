@@ -11,8 +11,8 @@ use Rattle.area_graph.specs.declared.Vertex.TheVariants.{Router as RouterVertex,
 use Rattle.area_graph.specs.declared.Price.{Price}
 use Rattle.area_graph.specs.declared.Price.TheVariants.{Fixed, Zero}
 use Rattle.area_graph.specs.declared.Edge.{Edge}
-use Rattle.area_graph.specs.Area.{Area, FitsSource, FitsTarget, FitsEdge, FitsGraph}
-use Rattle.area_graph.proofs.Vertices.{vertices, vertices_length, router_vertex, routers_count, FitsVertices, subnet_vertex}
+use Rattle.area_graph.specs.Area.{Area, vertices_of, FitsSource, FitsTarget, FitsEdge, FitsGraph}
+use Rattle.area_graph.proofs.Vertices.{vertices_length, router_vertex, routers_count, FitsVertices, subnet_vertex}
 use Rattle.lsa_bytes.specs.declared.LsaLink.{LsaLink}
 use Rattle.lsa_bytes.specs.declared.Body.{Body}
 use Rattle.lsa_bytes.specs.declared.Body.TheVariants.{Links, Attached}
@@ -21,21 +21,21 @@ use Rattle.lsa_bytes.specs.Databases.{is_router, is_network, has_links, is_zero_
 use Rattle.lsa_bytes.specs.AreaGraphs.{routers, networks, vertex_back, edge_to, router_back, network_back, has_link, attaches, far_end, link_edge, attached_edge, edges_from, edges_in_order, lsa_graph}
 use Rattle.lsa_bytes.specs.declared.vertices.Kind.TheVariants.{Router, Network}
 use Rattle.lsa_bytes.specs.Vertices.{is_kind}
-use Rattle.lsa_bytes.proofs.Entries.{misses}
+use Rattle.cost_base.proofs.ListLemmas.{none_passes}
 
 -- Edges between them.
 
-router_edge_fits : (r s v w metric : ℕ) → v < r → w < r + s → 0 < metric → FitsVertices (vertices r s) (record { from = v; to = w; price = Fixed metric })
+router_edge_fits : (r s v w metric : ℕ) → v < r → w < r + s → 0 < metric → FitsVertices (vertices_of r s) (record { from = v; to = w; price = Fixed metric })
 router_edge_fits r s v w metric from to some =
     let is = router_vertex r s v from in
     record {
       from = omega (arith, vertices_length r s);
       to = omega (arith, vertices_length r s);
       price = subst (λ source. FitsSource source (Fixed metric)) (sym is) some;
-      target = subst (λ source. FitsTarget source (get_or (vertices r s) w (RouterVertex 0))) (sym is) tt;
+      target = subst (λ source. FitsTarget source (get_or (vertices_of r s) w (RouterVertex 0))) (sym is) tt;
     }
 
-network_edge_fits : (r s k w : ℕ) → k < s → w < r → FitsVertices (vertices r s) (record { from = r + k; to = w; price = Zero })
+network_edge_fits : (r s k w : ℕ) → k < s → w < r → FitsVertices (vertices_of r s) (record { from = r + k; to = w; price = Zero })
 network_edge_fits r s k w from to =
     let source = subnet_vertex r s k from in
     let target = router_vertex r s w to in
@@ -43,7 +43,7 @@ network_edge_fits r s k w from to =
       from = omega (arith, vertices_length r s);
       to = omega (arith, vertices_length r s);
       price = subst (λ v. FitsSource v Zero) (sym source) tt;
-      target = subst (λ v. FitsTarget v (get_or (vertices r s) w (RouterVertex 0))) (sym source) (subst (FitsTarget (SubnetVertex k)) (sym target) tt);
+      target = subst (λ v. FitsTarget v (get_or (vertices_of r s) w (RouterVertex 0))) (sym source) (subst (FitsTarget (SubnetVertex k)) (sym target) tt);
     }
 
 -- the vertices that lead back are in range
@@ -85,7 +85,7 @@ some_metric (suc metric) none = omega arith
 
 module _ (lsas : List Lsa) where
   abbrev Fits : Edge → Type 0
-  Fits edge = FitsVertices (vertices (length (routers lsas)) (length (networks lsas))) edge
+  Fits edge = FitsVertices (vertices_of (length (routers lsas)) (length (networks lsas))) edge
 
   link_fits : (v router : ℕ) (link : LsaLink) → v < length (routers lsas) → is_zero_link link ≡ false → All Fits (link_edge lsas v router link)
   link_fits v router link from metric =
@@ -119,7 +119,7 @@ module _ (lsas : List Lsa) where
       has_zero_metric body ≡ false → All Fits (edges_from lsas v lsa body)
   router_fits v lsa (Links links) from kind metric =
       flat_fits Fits (λ link. is_zero_link link ≡ false) (link_edge lsas v lsa.router) links
-      (misses is_zero_link links metric) (λ link none. link_fits v lsa.router link from none)
+      (none_passes is_zero_link links metric) (λ link none. link_fits v lsa.router link from none)
   router_fits v lsa (Attached attached) from kind metric = absurd (false≢true kind)
 
   network_fits : (k : ℕ) (lsa : Lsa) (body : Body) → k < length (networks lsas) → has_links body ≡ false →
@@ -240,12 +240,12 @@ graph_fits lsas is =
 -- the graph that is made step by step
 pub graph_made : (vs db : List Lsa) (r s : ℕ) (made : List Vertex) (none first second : List Edge) → vs ≡ db →
     r ≡ length (routers vs) → s ≡ length (networks vs)
-    → made ≡ vertices r s → none ≡ [] → first ≡ none ++ edges_in_order vs 0 (filter (is_kind Router) vs) →
+    → made ≡ vertices_of r s → none ≡ [] → first ≡ none ++ edges_in_order vs 0 (filter (is_kind Router) vs) →
     second ≡ first ++ edges_in_order vs r (filter (is_kind Network) vs)
     → record { vertices = made; edges = second } ≡ lsa_graph db
 graph_made vs db r s made none first second same r_is s_is made_is none_is first_is second_is =
-    let nodes : made ≡ vertices (length (routers vs)) (length (networks vs)) = made_is
-    ∙ ap (λ (n : ℕ). vertices n s) r_is ∙ ap (λ (n : ℕ). vertices (length (routers vs)) n) s_is in
+    let nodes : made ≡ vertices_of (length (routers vs)) (length (networks vs)) = made_is
+    ∙ ap (λ (n : ℕ). vertices_of n s) r_is ∙ ap (λ (n : ℕ). vertices_of (length (routers vs)) n) s_is in
     let links : second ≡ edges_in_order vs 0 (routers vs) ++ edges_in_order vs (length (routers vs)) (networks vs) =
     second_is ∙ ap (λ (es : List Edge). es ++ edges_in_order vs r (networks vs))
     (first_is ∙ ap (λ (es : List Edge). es ++ edges_in_order vs 0 (routers vs)) none_is)

@@ -1,12 +1,10 @@
 -- The graph of a database of LSAs (RFC 2328, 16.1, first stage).
-use Rattle.std.specs.Prelude.{ℕ, ◌+◌, ◌==◌, ◌&&◌, List, [], ◌∷◌, ◌++◌, map, filter, flat_map, length, Bool, false, Option, Some, None, if◌then◌else◌}
+use Rattle.std.specs.Prelude.{ℕ, ◌+◌, ◌==◌, ◌&&◌, List, [], ◌∷◌, ◌++◌, filter, flat_map, length, Bool, false, Option, Some, None, if◌then◌else◌}
 use Rattle.std.specs.List.{list_any}
-use Rattle.cost_base.specs.Lists.{numbers_from}
-use Rattle.area_graph.specs.declared.Vertex.TheVariants.{Router as RouterVertex, Subnet as SubnetVertex}
 use Rattle.area_graph.specs.declared.Price.{Price}
 use Rattle.area_graph.specs.declared.Price.TheVariants.{Fixed, Zero}
 use Rattle.area_graph.specs.declared.Edge.{Edge}
-use Rattle.area_graph.specs.Area.{Area}
+use Rattle.area_graph.specs.Area.{Area, vertices_of}
 use Rattle.lsa_bytes.specs.declared.LsaLink.{LsaLink}
 use Rattle.lsa_bytes.specs.declared.Body.{Body}
 use Rattle.lsa_bytes.specs.declared.Body.TheVariants.{Links, Attached}
@@ -73,6 +71,6 @@ edges_in_order lsas vertex (lsa ∷ more) = edges_from lsas vertex lsa lsa.body 
 -- the routers and then the networks, each in file order
 abbrev pub lsa_graph : List Lsa → Area
 lsa_graph lsas = record {
-  vertices = map RouterVertex (numbers_from 0 (length (routers lsas))) ++ map SubnetVertex (numbers_from 0 (length (networks lsas)));
+  vertices = vertices_of (length (routers lsas)) (length (networks lsas));
   edges = edges_in_order lsas 0 (routers lsas) ++ edges_in_order lsas (length (routers lsas)) (networks lsas);
 }

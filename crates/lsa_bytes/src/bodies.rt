@@ -5,7 +5,7 @@ ghost use Rattle.lsa_bytes.specs.Faults.{Tells, body_fault};
 
 use crate::fields::{number_16, number_32};
 use crate::stop::refusal;
-use crate::{Body, Lsa, LsaFault, LsaLink, LsaStop};
+use crate::{Body, Lsa, LsaFault, LsaLink, LsaStop, NETWORK_LSA, ROUTER_LSA};
 use cost_base::{Listed, OutOfMemory};
 use std::alloc::Global;
 
@@ -96,8 +96,8 @@ fn body_of(alloc: Global, lsa: &[u8]) -> Result<Option<Body>, OutOfMemory>
     ensures { IfOk result (λ body. body ≡ body_of lsa.now) }
 {
     match lsa[3] {
-        1 => Ok(links_in(alloc, lsa)?.map(Body::Links)),
-        2 => Ok(attached_in(alloc, lsa)?.map(Body::Attached)),
+        ROUTER_LSA => Ok(links_in(alloc, lsa)?.map(Body::Links)),
+        NETWORK_LSA => Ok(attached_in(alloc, lsa)?.map(Body::Attached)),
         _ => Ok(None),
     }
 }
@@ -106,7 +106,7 @@ fn body_of(alloc: Global, lsa: &[u8]) -> Result<Option<Body>, OutOfMemory>
 fn is_read(kind: u8) -> bool
     ensures { result ≡ is_read kind }
 {
-    kind == 1 || kind == 2
+    kind == ROUTER_LSA || kind == NETWORK_LSA
 }
 
 /// What one LSA says, or None where it is passed over: one of another type, or of the greatest age.

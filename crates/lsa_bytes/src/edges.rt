@@ -4,7 +4,7 @@ ghost use Rattle.lsa_bytes.specs.AreaGraphs.{attached_edge, edge_to, edges_from,
 ghost use Rattle.lsa_bytes.specs.Vertices.{is_kind};
 
 use crate::vertices::{Kind, Vertices, is_kind};
-use crate::{Body, Lsa, LsaLink};
+use crate::{Body, Lsa, LsaLink, POINT_TO_POINT_LINK, TRANSIT_LINK};
 use area_graph::{Edge, Price};
 use cost_base::OutOfMemory;
 
@@ -28,8 +28,8 @@ fn far_end(vertices: &Vertices<'_>, router: u32, link: &LsaLink) -> Option<u32>
     ensures { result ≡ far_end vertices.now router link.now }
 {
     match link.kind {
-        1 => vertices.router_with_link(link.id, 1, router),
-        2 => vertices.network_with_router(link.id, router),
+        POINT_TO_POINT_LINK => vertices.router_with_link(link.id, POINT_TO_POINT_LINK, router),
+        TRANSIT_LINK => vertices.network_with_router(link.id, router),
         _ => None,
     }
 }
@@ -62,7 +62,7 @@ fn push_attached_edges(
     ensures { OnOk result (edges.new.items ≡ edges.old.items ++ flat_map (attached_edge vertices.now vertex id) attached.now) }
 {
     for router in attached {
-        let to = vertices.router_with_link(*router, 2, id);
+        let to = vertices.router_with_link(*router, TRANSIT_LINK, id);
         push_edge(edges, vertex, Price::Zero, to)?;
     }
     Ok(())

@@ -1,29 +1,13 @@
 //! The graph of a database of LSAs.
-ghost use Rattle.std.specs.Prelude.{◌≡◌, ◌++◌, IfOk, map};
-ghost use Rattle.cost_base.specs.Lists.{numbers_from};
-ghost use Rattle.area_graph.specs.declared.Vertex.TheVariants.{Router as RouterVertex, Subnet as SubnetVertex};
+ghost use Rattle.std.specs.Prelude.{◌≡◌, IfOk};
 ghost use Rattle.lsa_bytes.specs.AreaGraphs.{lsa_graph};
 
 use crate::Database;
 use crate::edges::push_edges;
 use crate::vertices::{Kind, Vertices};
-use area_graph::{Graph, Vertex};
+use area_graph::{Graph, vertices_of};
 use cost_base::OutOfMemory;
 use std::alloc::Global;
-
-/// The vertices of a graph: the routers, then the networks.
-fn graph_vertices(alloc: Global, routers: u32, networks: u32) -> Result<Vec<Vertex>, OutOfMemory>
-    ensures { IfOk result (λ made. made.items ≡ map RouterVertex (numbers_from 0 routers) ++ map SubnetVertex (numbers_from 0 networks)) }
-{
-    let mut vertices = Vec::new(alloc);
-    for router in 0..routers {
-        vertices.push(Vertex::Router(router))?;
-    }
-    for network in 0..networks {
-        vertices.push(Vertex::Subnet(network))?;
-    }
-    Ok(vertices)
-}
 
 /// The graph of a database (RFC 2328, 16.1, first stage): a vertex for each router-LSA and then for each network-LSA, in
 /// their order; an edge for each link of type 1 or 2 to a vertex whose LSA leads back, at the link's metric; and an edge
@@ -40,6 +24,6 @@ pub fn graph_of_lsas(alloc: Global, database: &Database) -> Result<Graph, OutOfM
     let mut edges = Vec::new(alloc);
     push_edges(&mut edges, &vertices, Kind::Router, 0)?;
     push_edges(&mut edges, &vertices, Kind::Network, routers)?;
-    let made = graph_vertices(alloc, routers, vertices.network_count())?;
+    let made = vertices_of(alloc, routers, vertices.network_count())?;
     Graph::new(alloc, made, edges)
 }

@@ -7,6 +7,18 @@ ghost use Rattle.lsa_bytes.specs.Databases.{IsDatabase};
 use cost_base::Listed;
 use std::marker::Model;
 
+/// The type of a link to another router, point-to-point (RFC 2328, A.4.2).
+pub const POINT_TO_POINT_LINK: u8 = 1;
+
+/// The type of a link into a transit network (RFC 2328, A.4.2).
+pub const TRANSIT_LINK: u8 = 2;
+
+/// The type of a router-LSA (RFC 2328, A.4.1).
+pub const ROUTER_LSA: u8 = 1;
+
+/// The type of a network-LSA (RFC 2328, A.4.1).
+pub const NETWORK_LSA: u8 = 2;
+
 /// A link of a router-LSA (RFC 2328, A.4.2).
 #[derive(Clone, Copy, Debug, PartialEq, Eq)]
 pub struct LsaLink {
@@ -95,5 +107,6 @@ mod vertices;
 
 pub use graphs::graph_of_lsas;
 pub use ids::{IdFault, check_ids};
+pub use reader::is_router;
 pub use reading::{comes_to_one, read_lsas, written_is_read};
 pub use stop::{LsaFault, LsaStop};

@@ -8,12 +8,10 @@ ghost use Rattle.lsa_bytes.specs.Faults.{Tells, fault_behind, fault_of};
 use crate::bodies::said_by;
 use crate::seen::Seen;
 use crate::stop::refusal;
-use crate::{Body, Lsa, LsaFault, LsaLink, LsaStop};
+use crate::{Body, Lsa, LsaFault, LsaLink, LsaStop, POINT_TO_POINT_LINK, TRANSIT_LINK};
+use area_graph::MOST_ROUTERS;
 use std::alloc::Global;
 use std::marker::Model;
-
-/// The most router-LSAs that a database may have.
-const MOST_ROUTERS: usize = 1000;
 
 /// The LSAs that were read and aren't passed over, with a look-up by what names them.
 #[derive(Drop)]
@@ -97,7 +95,7 @@ impl Reader {
 }
 
 /// Whether an LSA is a router-LSA.
-pub(crate) fn is_router(lsa: &Lsa) -> bool
+pub fn is_router(lsa: &Lsa) -> bool
     ensures { result ≡ is_router lsa.now }
 {
     matches!(lsa.body, Body::Links(_))
@@ -107,7 +105,7 @@ pub(crate) fn is_router(lsa: &Lsa) -> bool
 fn is_zero_link(link: &LsaLink) -> bool
     ensures { result ≡ is_zero_link link.now }
 {
-    (link.kind == 1 || link.kind == 2) && link.metric == 0
+    (link.kind == POINT_TO_POINT_LINK || link.kind == TRANSIT_LINK) && link.metric == 0
 }
 
 /// Whether one of the links is of type 1 or 2 and has metric 0.

@@ -6,8 +6,7 @@ use Rattle.std.proofs.lemmas.Option.{slice_get-get_or, get_or_from_slice_get}
 use Rattle.std.proofs.lemmas.List.{length-map}
 use Rattle.std.proofs.lemmas.List.Folds.{flat_map-map}
 use Rattle.cost_base.specs.Lists.{numbers_from}
-use Rattle.area_graph.specs.declared.Vertex.{Vertex}
-use Rattle.area_graph.specs.declared.Vertex.TheVariants.{Router as RouterVertex, Subnet as SubnetVertex}
+use Rattle.area_graph.specs.Area.{vertices_of}
 use Rattle.area_graph.specs.declared.Price.TheVariants.{Fixed, Zero}
 use Rattle.area_graph.specs.declared.Edge.{Edge}
 use Rattle.interface_model.specs.declared.Interface.{Interface}
@@ -200,12 +199,8 @@ module _ (configs : List Config) (d : Database) (costs : List ℕ) (fit : AreFit
       let ns = networks_are configs d costs in
       let router_count : length (routers lsas) ≡ length d.routers = ap length rs ∙ own_length configs said ∙ fit.count in
       let network_count : length (networks lsas) ≡ length d.subnets = ap length ns ∙ length-map d.subnets (of_subnet ends) in
-      let vertices : ◌≡◌ {A = List Vertex}
-      (map RouterVertex (numbers_from 0 (length (routers lsas)))
-      ++ map SubnetVertex (numbers_from 0 (length (networks lsas))))
-      (map RouterVertex (numbers_from 0 (length d.routers)) ++ map SubnetVertex (numbers_from 0 (length d.subnets))) =
-      ap (λ n. map RouterVertex (numbers_from 0 n) ++ map SubnetVertex (numbers_from 0 (length (networks lsas)))) router_count
-      ∙ ap (λ n. map RouterVertex (numbers_from 0 (length d.routers)) ++ map SubnetVertex (numbers_from 0 n)) network_count in
+      let vertices : vertices_of (length (routers lsas)) (length (networks lsas)) ≡ vertices_of (length d.routers) (length d.subnets) =
+      ap (λ n. vertices_of n (length (networks lsas))) router_count ∙ ap (vertices_of (length d.routers)) network_count in
       let first : edges_in_order lsas 0 (routers lsas) ≡ link_edges (length d.routers) d.links (map Fixed costs) =
       ap (edges_in_order lsas 0) rs
       ∙ routers_told 0 (length configs)

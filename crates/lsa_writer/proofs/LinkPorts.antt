@@ -1,4 +1,4 @@
--- The ends of the links of an area's database are the interfaces of its ports.
+-- The ends of the links of an area's database are its active interfaces.
 use Rattle.std.proofs.Common.{◌≡◌, ℕ, zero, suc, ◌+◌, inl, inr, sym, ◌∙◌, ap, List, [], ◌∷◌, length, Bool, true, false, cond, Option, Some, None, slice_get}
 use Rattle.std.specs.Prelude.{All, AllPairs, ◌==◌, unwrap_or}
 use Rattle.std.proofs.lemmas.Bool.{cases_Bool, cases_order, false≢true, eq-eqb}
@@ -30,7 +30,7 @@ named_there (j ∷ more) (suc k) i pairs at =
       | inr other ↦ ap (λ b. cond b (Some j) (interface_named i.name more)) other ∙ named_there more k i (pairs_tail differ j more pairs) at
     ]
 
--- a link with its port
+-- a link with its interface
 pub record HasPort (area : ℕ) (configs : List Router) (l : ℕ) (link : Linked) : Type 0 where
   pub port : Port
   pub at : slice_get (linked (ports area configs)) l ≡ Some port

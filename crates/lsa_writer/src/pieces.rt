@@ -8,7 +8,7 @@ ghost use Rattle.lsa_writer.specs.WrittenLsas.{links_in, mask_of, network_lsa, r
 use crate::ends::{LinkEnd, end_at};
 use crate::said::OwnedLink;
 use cost_base::OutOfMemory;
-use lsa_bytes::LsaLink;
+use lsa_bytes::{LsaLink, NETWORK_LSA, ROUTER_LSA};
 
 /// The first sequence number of an LSA (RFC 2328, 12.1.6).
 const FIRST_SEQUENCE: u32 = 0x8000_0001;
@@ -76,7 +76,7 @@ pub fn push_router_lsa(bytes: &mut Vec<u8>, id: u32, links: &[OwnedLink]) -> Res
     ensures { OnOk result (bytes.new.items ≡ bytes.old.items ++ lsa_bytes (router_lsa id (links_in links.now))) }
 {
     let count = links.len() as u16;
-    push_header(bytes, 1, id, id, 24 + 12 * count)?;
+    push_header(bytes, ROUTER_LSA, id, id, 24 + 12 * count)?;
     push_count(bytes, count)?;
     push_links(bytes, links)?;
     Ok(())
@@ -127,7 +127,13 @@ pub fn push_network_lsa(
     ensures { OnOk result (bytes.new.items ≡ bytes.old.items ++ lsa_bytes (network_lsa from (member_ends ends.now members.now))) }
 {
     let count = members.len() as u16;
-    push_header(bytes, 2, from.address, from.router, 24 + 4 * count)?;
+    push_header(
+        bytes,
+        NETWORK_LSA,
+        from.address,
+        from.router,
+        24 + 4 * count,
+    )?;
     push_mask(bytes, from.length)?;
     push_members(bytes, ends, members)?;
     Ok(())

@@ -6,7 +6,7 @@ ghost use Rattle.lsa_writer.specs.WrittenLsas.{lsa_link, said_link, said_links};
 use crate::ends::{LinkEnd, end_at, id_of};
 use cost_base::OutOfMemory;
 use interface_model::RouterConfig;
-use lsa_bytes::LsaLink;
+use lsa_bytes::{LsaLink, POINT_TO_POINT_LINK, TRANSIT_LINK};
 use lsdb_build::{Far, Linked};
 use std::alloc::Global;
 
@@ -31,13 +31,13 @@ fn lsa_link(
         Far::Router(router) => LsaLink {
             id: id_of(configs, router),
             address: own.address,
-            kind: 1,
+            kind: POINT_TO_POINT_LINK,
             metric: cost,
         },
         Far::Subnet(subnet) => LsaLink {
             id: end_at(designated, subnet).address,
             address: own.address,
-            kind: 2,
+            kind: TRANSIT_LINK,
             metric: cost,
         },
     }

@@ -1,4 +1,4 @@
--- The database of faultless configurations is one: links have mates, and a subnet's members are the links that lead to it.
+-- The database of faultless configurations is one: links have other ends, and a subnet's members are the links that lead to it.
 use Rattle.std.proofs.Common.{◌≡◌, ◌≢◌, ℕ, zero, suc, ◌+◌, ◌<◌, ◌≤◌, ◌==◌, ◌⊎◌, inl, inr, Bool, true, false, cond, not, eq-eqb, List, [], ◌∷◌, Some, None, length, map, count_by, refl, sym, ap, ◌∙◌, subst, arith, zero-add, slice_get, slice_index_or, All, AllPairs, unwrap_or}
 use Rattle.std.specs.List.{filter}
 use Rattle.std.proofs.lemmas.Bool.{false≢true, and_parts, and_from, and_right, cases_Bool, eqb-true, ne_eqb, false_from_ne_true, cases_order}
@@ -21,7 +21,7 @@ use Rattle.lsdb_build.proofs.Subnets.{shares_itself, shares_back, shares_on, sha
 use Rattle.lsdb_build.specs.declared.stop.TopologyFault.TheVariants.{TooMany, NameTwice, SameRouterTwice, AddressTwice, TypeMismatch, CrowdedLink, NoDesignated, OverlapPrefix}
 use Rattle.lsdb_build.proofs.PortFacts.{IsPortFrom, InOrder, ports_from_all, ports_from_pairs, no_first, no_port, no_config, within, none_past, names_differ}
 
--- what the ports of a topology without a fault keep
+-- what the interfaces of a topology without a fault keep
 pub record IsSound (routers : ℕ) (all : List Port) : Type 0 where
   pub each : All (IsPortFrom 0 routers) all
   pub in_order : AllPairs InOrder all
@@ -37,9 +37,9 @@ sound_linked n all sound =
       kinds = AllPairs-filter (λ a b. differs_in_kind a b ≡ false) (is_linked all) all sound.kinds;
     }
 
--- Mates
+-- Other ends
 
--- two places of different addresses hold different ports
+-- two places of different addresses hold different interfaces
 apart_ports : (xs : List Port) → AllPairs (λ a b. (a.address == b.address) ≡ false) xs → (i j : ℕ) (p q : Port) →
     i ≢ j → slice_get xs i ≡ Some p → slice_get xs j ≡ Some q → is_port p q ≡ false
 apart_ports xs pairs i j p q apart at_i at_j = and_right (p.router == q.router) (p.address == q.address) (by_order (cases_order i j))
@@ -54,7 +54,7 @@ apart_ports xs pairs i j p q apart at_i at_j = and_right (p.router == q.router) 
 is_port_itself : (p : Port) → is_port p p ≡ true
 is_port_itself p = and_from _ _ (eq-eqb p.router p.router refl) (eq-eqb p.address p.address refl)
 
--- the place of the other port, where two places share a subnet
+-- the place of the other interface, where two places share a subnet
 other_is : (xs : List Port) → AllPairs (λ a b. (a.address == b.address) ≡ false) xs → (l m : ℕ) (p q : Port) → m ≢ l →
     slice_get xs l ≡ Some p → slice_get xs m ≡ Some q → shares_subnet p q ≡ true →
     ((k : ℕ) (z : Port) → slice_get xs k ≡ Some z → shares_subnet p z ≡ true → (k ≡ l) ⊎ (k ≡ m)) →
@@ -74,7 +74,7 @@ other_is xs pairs l m p q apart at_l at_m shares only =
           | inr is_m ↦ is_m
         ]
 
--- the mate of a link over a point-to-point subnet
+-- the other end of a link over a point-to-point subnet
 pub record MateOf (xs : List Port) (l : ℕ) (p : Port) : Type 0 where
   pub place : ℕ
   pub port : Port
@@ -139,7 +139,7 @@ router_at_is (x ∷ xs) (suc m) q at = router_at_is xs m q at
 
 -- Members
 
--- the subnet of a linked broadcast port among the transit subnets
+-- the subnet of a linked broadcast interface among the transit subnets
 pub subnet_found : (n : ℕ) (all : List Port) → IsSound n all → (l : ℕ) (p : Port) → slice_get (linked all) l ≡ Some p →
     p.interface.kind ≡ Broadcast → FirstOf p (transit_subnets all)
 subnet_found n all sound l p at kind =
@@ -150,7 +150,7 @@ subnet_found n all sound l p at kind =
       | inr none ↦ absurd (false≢true none)
     ]
 
--- a port's subnet has one place among the transit subnets
+-- an interface's subnet has one place among the transit subnets
 pub subnet_place : (all : List Port) (p : Port) (s : ℕ) (f : Port) → slice_get (transit_subnets all) s ≡ Some f →
     shares_subnet p f ≡ true → place_from 0 (shares_subnet p) (transit_subnets all) ≡ Some s
 subnet_place all p s f at shares =
@@ -171,7 +171,7 @@ subnet_place all p s f at shares =
             (false≢true (sym (pair_at (λ a b. shares_subnet a b ≡ false) (transit_subnets all) apart s k f z above at
             at_k) ∙ shares_on f p z (shares_back p f shares) does))
 
--- a link leads to a transit subnet exactly where its port shares the subnet
+-- a link leads to a transit subnet exactly where its interface shares the subnet
 pub leads_where_shares : (n : ℕ) (all : List Port) → IsSound n all → (s : ℕ) (f : Port) →
     slice_get (transit_subnets all) s ≡ Some f → (l : ℕ) (p : Port) → slice_get (linked all) l ≡ Some p →
     shares_subnet f p ≡ leads_to s (far_of all p p.interface.kind)
@@ -180,7 +180,7 @@ leads_where_shares n all sound s f at_s l p at_l = by_kind p.interface.kind refl
     kept : IsSound n (linked all)
     kept = sound_linked n all sound
 
-    -- a first member's subnet holds broadcast ports alone
+    -- a first member's subnet holds broadcast interfaces alone
     broadcast : All (λ v. (k : ℕ) (q : Port) → slice_get (linked all) k ≡ Some q → shares_subnet v q ≡ true → v.interface.kind ≡ q.interface.kind) (linked all)
     broadcast = all_from_at (λ v. (k : ℕ) (q : Port) → slice_get (linked all) k ≡ Some q → shares_subnet v q ≡ true →
         v.interface.kind ≡ q.interface.kind) (linked all)
@@ -232,7 +232,7 @@ far_is : (all : List Port) (l : ℕ) (p : Port) → p.interface.kind ≡ PointTo
 far_is all l p kind m q place at =
     ap (far_of all p) kind ∙ ap (λ o. ToRouter (router_at (linked all) o)) place ∙ ap ToRouter (router_at_is (linked all) m q at)
 
--- each link has its mate, or leads to a subnet and has none
+-- each link has its other end, or leads to a subnet and has none
 link_has_mate : (area : ℕ) (routers : List Router) → IsSound (0 + length routers) (ports area routers) →
     (l : ℕ) (p : Port) → slice_get (linked (ports area routers)) l ≡ Some p →
     HasMate (database_of area routers) l (link_of (ports area routers) p)
@@ -308,7 +308,7 @@ faultless area routers h =
       kinds = no_port TypeMismatch (first_where is_mismatch [] all) six.0;
     }
 
--- the ports of faultless configurations
+-- the interfaces of faultless configurations
 pub ports_sound : (area : ℕ) (routers : List Router) → topology_fault area routers ≡ None → All IsRouter routers →
     IsSound (0 + length routers) (ports area routers)
 ports_sound area routers h valid =
@@ -321,7 +321,7 @@ ports_sound area routers h valid =
       kinds = (none_passes differs_in_kind [] all known.kinds).pairs;
     }
 
--- at most so many linked ports and transit subnets as ports
+-- at most so many linked interfaces and transit subnets as interfaces
 pub linked_length : (all : List Port) → length (linked all) ≤ length all
 linked_length all = omega (arith, length-filter (is_linked all) all, count_by-le-length (is_linked all) all)
 

@@ -35,12 +35,12 @@ first_where-more f xs i p within is b b_is =
     ∙ ap (λ c. cond c (Some p) (first_where f (p ∷ reverse (take i xs)) (drop (i + 1) xs))) b_is
     ∙ ap (λ before. cond b (Some p) (first_where f before (drop (i + 1) xs))) (reverse_more xs i p within is)
 
--- no port of the first so many is met
+-- no interface of the first so many is met
 abbrev pub IsLeft : (List Port → Port → Bool) → List Port → ℕ → Type 0
 IsLeft f xs i = first_where f [] xs ≡ first_where f (reverse (take i xs)) (drop i xs)
 
 module _ (f : List Port → Port → Bool) (xs : List Port) (i : ℕ) (left : IsLeft f xs i) where
-  -- a walk goes on past a port that isn't met
+  -- a walk goes on past an interface that isn't met
   pub left_on : (p : Port) → i < length xs → p ≡ get_or xs i p → f (reverse (take i xs)) p ≡ false → IsLeft f xs (i + 1)
   left_on p within is fails = left ∙ first_where-more f xs i p within is false fails
 

@@ -10,8 +10,8 @@ use Rattle.area_graph.specs.declared.Vertex.TheVariants.{Router as RouterVertex,
 use Rattle.area_graph.specs.declared.Price.{Price}
 use Rattle.area_graph.specs.declared.Price.TheVariants.{Fixed, Var, Zero}
 use Rattle.area_graph.specs.declared.Edge.{Edge}
-use Rattle.area_graph.specs.Area.{FitsSource, FitsTarget, FitsEdge, FitsGraph}
-use Rattle.area_graph.proofs.Vertices.{vertices, vertices_length, router_vertex, routers_count, FitsVertices, subnet_vertex}
+use Rattle.area_graph.specs.Area.{vertices_of, FitsSource, FitsTarget, FitsEdge, FitsGraph}
+use Rattle.area_graph.proofs.Vertices.{vertices_length, router_vertex, routers_count, FitsVertices, subnet_vertex}
 use Rattle.lsdb_build.specs.declared.Far.{Far}
 use Rattle.lsdb_build.specs.declared.Far.TheVariants.{Router, Subnet}
 use Rattle.lsdb_build.specs.declared.Linked.{Linked}
@@ -66,18 +66,18 @@ source_fits n (Var v) h = tt
 source_fits n Zero h = absurd h
 
 link_edges_fit : (r s : ℕ) (links : List Linked) (prices : List Price) → All (IsBetween r s) links →
-    All IsLinkPrice prices → All (FitsVertices (vertices r s)) (link_edges r links prices)
-link_edges_fit r s [] prices between priced = All-nil (FitsVertices (vertices r s))
-link_edges_fit r s (l ∷ links) [] between priced = All-nil (FitsVertices (vertices r s))
+    All IsLinkPrice prices → All (FitsVertices (vertices_of r s)) (link_edges r links prices)
+link_edges_fit r s [] prices between priced = All-nil (FitsVertices (vertices_of r s))
+link_edges_fit r s (l ∷ links) [] between priced = All-nil (FitsVertices (vertices_of r s))
 link_edges_fit r s (l ∷ links) (price ∷ prices) between priced =
     let here = All-head (IsBetween r s) l links between in
     let is = router_vertex r s l.router here.router in
-    All-cons (FitsVertices (vertices r s)) (record { from = l.router; to = far_vertex r l.to; price = price }) (link_edges r links prices)
+    All-cons (FitsVertices (vertices_of r s)) (record { from = l.router; to = far_vertex r l.to; price = price }) (link_edges r links prices)
     (record {
       from = omega (arith, here.router, vertices_length r s);
       to = omega (arith, here.far, vertices_length r s);
       price = subst (λ v. FitsSource v price) (sym is) (source_fits l.router price (All-head IsLinkPrice price prices priced));
-      target = subst (λ v. FitsTarget v (get_or (vertices r s) (far_vertex r l.to) (RouterVertex 0))) (sym is) tt;
+      target = subst (λ v. FitsTarget v (get_or (vertices_of r s) (far_vertex r l.to) (RouterVertex 0))) (sym is) tt;
     })
     (link_edges_fit r s links prices (All-tail (IsBetween r s) l links between) (All-tail IsLinkPrice price prices priced))
 
@@ -89,24 +89,24 @@ router_of_below r links all l below =
 
 subnet_edges_fit : (r s : ℕ) (links : List Linked) → All (λ link. link.router < r) links →
     (k : ℕ) (subnets : List (List ℕ)) → k + length subnets ≤ s → All (All (λ l. l < length links)) subnets →
-    All (FitsVertices (vertices r s)) (subnet_edges links (r + k) subnets)
-subnet_edges_fit r s links routers k [] room all = All-nil (FitsVertices (vertices r s))
+    All (FitsVertices (vertices_of r s)) (subnet_edges links (r + k) subnets)
+subnet_edges_fit r s links routers k [] room all = All-nil (FitsVertices (vertices_of r s))
 subnet_edges_fit r s links routers k (members ∷ subnets) room all =
     let source = subnet_vertex r s k (omega arith) in
     let rest = subnet_edges_fit r s links routers (k + 1) subnets (omega arith) (All-tail (All (λ l. l < length links)) members subnets all) in
     let edge : ℕ → Edge = λ l. record { from = r + k; to = router_of links l; price = Zero } in
-    All-append (FitsVertices (vertices r s)) (map edge members) (subnet_edges links (r + k + 1) subnets)
-    (All-map (FitsVertices (vertices r s)) edge members (All-weaker (λ l. l < length links) (λ l. FitsVertices (vertices r s) (edge l)) (λ l below.
+    All-append (FitsVertices (vertices_of r s)) (map edge members) (subnet_edges links (r + k + 1) subnets)
+    (All-map (FitsVertices (vertices_of r s)) edge members (All-weaker (λ l. l < length links) (λ l. FitsVertices (vertices_of r s) (edge l)) (λ l below.
     (let to = router_of_below r links routers l below in
     let target = router_vertex r s (router_of links l) to in
     record {
       from = omega (arith, vertices_length r s);
       to = omega (arith, to, vertices_length r s);
       price = subst (λ v. FitsSource v Zero) (sym source) tt;
-      target = subst (λ v. FitsTarget v (get_or (vertices r s) (router_of links l) (RouterVertex 0))) (sym source)
+      target = subst (λ v. FitsTarget v (get_or (vertices_of r s) (router_of links l) (RouterVertex 0))) (sym source)
           (subst (FitsTarget (SubnetVertex k)) (sym target) tt);
     })) members (All-head (All (λ l. l < length links)) members subnets all)))
-    (subst (λ v. All (FitsVertices (vertices r s)) (subnet_edges links v subnets)) (omega arith) rest)
+    (subst (λ v. All (FitsVertices (vertices_of r s)) (subnet_edges links v subnets)) (omega arith) rest)
 
 far_below : (d : Database) (far : Far) → IsFar d far → far_vertex (length d.routers) far < length d.routers + length d.subnets
 far_below d (Router n) h = omega arith
@@ -128,14 +128,14 @@ graph_fits d prices h priced =
     (All-weaker (IsBetween r s) (λ link. link.router < r) (λ link b. b.router) d.links between) 0 d.subnets
     (omega arith) (All-weaker (AreMembers (length d.links)) (All (λ l. l < length d.links))
     (λ ms m. m.below) d.subnets members) in
-    let edges = All-append (FitsVertices (vertices r s)) (link_edges r d.links prices)
+    let edges = All-append (FitsVertices (vertices_of r s)) (link_edges r d.links prices)
     (subnet_edges d.links r d.subnets) first
-    (subst (λ v. All (FitsVertices (vertices r s)) (subnet_edges d.links v d.subnets)) (omega arith) second) in
+    (subst (λ v. All (FitsVertices (vertices_of r s)) (subnet_edges d.links v d.subnets)) (omega arith) second) in
     let many = subnet_edges_length d.links r 4000 d.subnets
     (All-weaker (AreMembers (length d.links)) (λ ms. length ms ≤ 4000) (λ ms m. omega (arith, m.few, h.links))
     d.subnets members) in
     record {
-      edges = All-weaker (FitsVertices (vertices r s)) (FitsEdge (graph_at d prices))
+      edges = All-weaker (FitsVertices (vertices_of r s)) (FitsEdge (graph_at d prices))
           (λ edge e. record { from = e.from; to = e.to; price = e.price; target = e.target })
           (link_edges r d.links prices ++ subnet_edges d.links r d.subnets) edges;
       routers = omega (arith, routers_count r s, h.routers);

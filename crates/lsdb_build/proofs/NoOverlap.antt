@@ -34,7 +34,7 @@ shorter p q apart does = record { length = by_order (cases_order p.interface.len
         absurd (omega arith)
 
 module _ {S R : Type 0} (seen : IndexMap Subnet Owner S) (enclosing : IndexMap Subnet Owner R) (before : List Port) (p : Port) where
-  -- an earlier port's subnet that contains the port's is found among the subnets seen
+  -- an earlier interface's subnet that contains the interface's is found among the subnets seen
   not_round : ((l : ℕ) → l < p.interface.length → has_other (get same_subnet seen (prefix_of p l)) p.router ≡ false) →
       (q : Port) → HasSubnet seen q → (q.router == p.router) ≡ false → Shorter q p → ⊥
   not_round none q noted apart round =
@@ -42,7 +42,7 @@ module _ {S R : Type 0} (seen : IndexMap Subnet Owner S) (enclosing : IndexMap S
       ∙ ap (λ a. has_other (get same_subnet seen (record { length = q.interface.length; address = a })) p.router) (sym round.within)
       ∙ other_noted (get same_subnet seen (subnet_of q)) q.router p.router noted apart)
 
-  -- the port's subnet is found among the prefixes that enclose an earlier one in it
+  -- the interface's subnet is found among the prefixes that enclose an earlier one in it
   not_inside : has_other (get same_subnet enclosing (subnet_of p)) p.router ≡ false → (q : Port) →
       HasPrefixes enclosing q → (q.router == p.router) ≡ false → Shorter p q → ⊥
   not_inside alone q noted apart inside =

@@ -1,4 +1,4 @@
--- The places of ports with one port more, and the first of them that passes.
+-- The places of interfaces with one interface more, and the first of them that passes.
 use Rattle.std.proofs.Common.{append-nil, suc, ◌≡◌, ℕ, ◌+◌, ◌<◌, ◌++◌, inl, inr, Bool, true, false, cond, ◌&&◌, not, eqb, List, [], ◌∷◌, Option, Some, None, Vec, unwrap_or, length, get_or, take, slice_get, refl, sym, ap, ◌∙◌, arith}
 use Rattle.std.proofs.lemmas.Bool.{cases_Bool, and_parts, eqb-true}
 use Rattle.std.proofs.lemmas.List.{take_more, length-take-le}
@@ -57,7 +57,7 @@ places_append n test (x ∷ xs) ys =
     by_test true rest = ap (λ places. n ∷ places) rest
     by_test false rest = rest
 
--- one port further, which passes or not
+-- one interface further, which passes or not
 pub places_next : (test : Port → Bool) (xs : List Port) (i : ℕ) (x : Port) → i < length xs → x ≡ get_or xs i x →
     places_from 0 test (take (i + 1) xs) ≡ places_from 0 test (take i xs) ++ cond (test x) (i ∷ []) []
 places_next test xs i x within is =
@@ -66,7 +66,7 @@ places_next test xs i x within is =
     ∙ ap (λ n. places_from 0 test (take i xs) ++ cond (test (get_or xs i x)) (n ∷ []) []) (omega (arith, length-take-le i xs (omega arith)))
     ∙ ap (λ y. places_from 0 test (take i xs) ++ cond (test y) (i ∷ []) []) (sym is)
 
--- the first of the places is that of the first port that passes
+-- the first of the places is that of the first interface that passes
 pub first_place : (n : ℕ) (test : Port → Bool) (xs : List Port) → slice_get (places_from n test xs) 0 ≡ place_from n test xs
 first_place n test [] = refl
 first_place n test (x ∷ xs) = by_test (test x) (first_place (n + 1) test xs)
@@ -77,12 +77,12 @@ first_place n test (x ∷ xs) = by_test (test x) (first_place (n + 1) test xs)
     by_test true rest = refl
     by_test false rest = rest
 
--- the first of some places whose port passes
+-- the first of some places whose interface passes
 abbrev pub first_passing : (Port → Bool) → List Port → List ℕ → Option ℕ
 first_passing test ports [] = None
 first_passing test ports (place ∷ places) = cond (passes test (slice_get ports place)) (Some place) (first_passing test ports places)
 
--- where each port that passes the test is among those of the places, the first of the places that passes is the first of all
+-- where each interface that passes the test is among those of the places, the first of the places that passes is the first of all
 passing_first : (test wide : Port → Bool) → ((p : Port) → wide p ≡ false → test p ≡ false) →
     (ports : List Port) (n : ℕ) (xs : List Port) → ((k : ℕ) → slice_get ports (n + k) ≡ slice_get xs k) →
     first_passing test ports (places_from n wide xs) ≡ place_from n test xs
@@ -100,7 +100,7 @@ passing_first test wide narrows ports n (x ∷ xs) rest =
           ∙ sym (ap (λ b. cond b (Some n) (place_from (n + 1) test xs)) (narrows x without))
     ]
 
--- the other port of a subnet is the first other one of the ports on it
+-- the other interface of a subnet is the first other one of the interfaces on it
 pub other_first : (p : Port) (ports : List Port) → first_passing (is_other p) ports (places_from 0 (shares_subnet p) ports) ≡ place_from 0 (is_other p) ports
 other_first p ports =
     passing_first (is_other p) (shares_subnet p) (λ q apart. ap (λ b. b && not (is_port p q)) apart) ports 0 ports (λ k. ap (slice_get ports) (omega arith))

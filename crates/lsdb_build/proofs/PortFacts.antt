@@ -1,4 +1,4 @@
--- What the ports of routers keep, and what a topology without a fault tells.
+-- What the active interfaces of routers keep, and what a topology without a fault tells.
 use Rattle.std.proofs.Common.{◌≡◌, ◌≢◌, ℕ, zero, suc, ◌+◌, ◌<◌, ◌≤◌, inl, inr, Bool, true, false, cond, ◌&&◌, eqb, eq-eqb, ltb, nat_le, List, [], ◌∷◌, Option, Some, None, length, map, refl, sym, ap, ◌∙◌, arith, slice_get, All, AllPairs}
 use Rattle.std.specs.List.{list_any}
 use Rattle.std.proofs.lemmas.Bool.{false≢true, or_parts, cases_Bool, ltb-false, and_from}
@@ -15,18 +15,18 @@ use Rattle.lsdb_build.specs.Neighbours.{Port, port_of, ports_of, ports_from}
 use Rattle.lsdb_build.specs.Topology.{FaultyPlace, first_some, at_port, at_config, past, second_of_name}
 use Rattle.lsdb_build.proofs.Pairs.{pairs_nil, pairs_head, pairs_tail, pairs_append}
 
--- what a port keeps: its router is one of those from a number on, its interface is as the model says
+-- what an active interface keeps: its router is one of those from a number on, and it is as the model says
 pub record IsPortFrom (low high : ℕ) (p : Port) : Type 0 where
   pub from : low ≤ p.router
   pub below : p.router < high
   pub interface : IsInterface p.interface
 
--- two ports in order: their routers don't fall, and on one router their names differ
+-- two interfaces in order: their routers don't fall, and on one router their names differ
 pub record InOrder (a b : Port) : Type 0 where
   pub routers : a.router ≤ b.router
   pub names : a.router ≡ b.router → a.interface.name ≢ b.interface.name
 
--- what holds of the port of an interface
+-- what holds of an interface, where it is active
 port_all : (P : Port → Type 0) (area n : ℕ) (i : Interface) (address : Option ℕ) →
     ((a : ℕ) → P (record { router = n; interface = i; address = a })) → All P (port_of area n i address)
 port_all P area n i None each = All-nil P
@@ -36,7 +36,7 @@ port_all P area n i (Some a) each = by_test (is_active i area && nat_le i.length
     by_test true = All-cons P (record { router = n; interface = i; address = a }) [] (each a) (All-nil P)
     by_test false = All-nil P
 
--- an interface has at most one port
+-- an interface is at most one of the active ones
 port_pairs : (R : Port → Port → Type 0) (area n : ℕ) (i : Interface) (address : Option ℕ) → AllPairs R (port_of area n i address)
 port_pairs R area n i None = pairs_nil R
 port_pairs R area n i (Some a) = by_test (is_active i area && nat_le i.length 31)
@@ -46,7 +46,7 @@ port_pairs R area n i (Some a) = by_test (is_active i area && nat_le i.length 31
         (All-nil (R (record { router = n; interface = i; address = a }))) (pairs_nil R)
     by_test false = pairs_nil R
 
--- what holds of the interfaces of a router holds of its ports
+-- what holds of the interfaces of a router holds of the active ones
 ports_all : (Q : Interface → Type 0) (area n : ℕ) (is : List Interface) → All Q is → All (λ p. (p.router ≡ n) × Q p.interface) (ports_of area n is)
 ports_all Q area n [] all = All-nil (λ p. (p.router ≡ n) × Q p.interface)
 ports_all Q area n (i ∷ is) all =

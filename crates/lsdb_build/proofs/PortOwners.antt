@@ -1,4 +1,4 @@
--- Each port of an area is an active interface of its router's configuration.
+-- Each active interface of an area is one of its router's configuration.
 use Rattle.std.proofs.Common.{◌≡◌, ℕ, suc, ◌+◌, refl, sym, ◌∙◌, ap, List, [], ◌∷◌, arith, Bool, true, false, cond, Option, Some, None, slice_get}
 use Rattle.std.specs.Prelude.{All, ◌&&◌, nat_le}
 use Rattle.std.proofs.lemmas.List.Elements.{All-nil, All-cons, All-append, All-weaker, All-filter}
@@ -7,7 +7,7 @@ use Rattle.interface_model.specs.Records.{Router}
 use Rattle.interface_model.specs.Addresses.{is_active}
 use Rattle.lsdb_build.specs.Neighbours.{Port, port_of, ports_of, ports_from, ports, is_linked, linked}
 
--- a port of one of these interfaces
+-- one of these interfaces, as an active one
 pub record IsPortAmong (n : ℕ) (interfaces : List Interface) (p : Port) : Type 0 where
   pub router_is : p.router ≡ n
   pub place : ℕ
@@ -34,7 +34,7 @@ ports_among area n (i ∷ more) =
     All-append (IsPortAmong n (i ∷ more)) (port_of area n i i.address) (ports_of area n more) (port_among area n i i.address more refl)
     (All-weaker (IsPortAmong n more) (IsPortAmong n (i ∷ more)) (later n i more) (ports_of area n more) (ports_among area n more))
 
--- a port of the routers from number n on
+-- an active interface of the routers from number n on
 pub record IsPortOf (n : ℕ) (routers : List Router) (p : Port) : Type 0 where
   pub place : ℕ
   pub number_is : p.router ≡ n + place
@@ -67,11 +67,11 @@ ports_of_routers area n (r ∷ routers) =
     (All-weaker (IsPortOf (n + 1) routers) (IsPortOf n (r ∷ routers)) (later_router n r routers)
     (ports_from area (n + 1) routers) (ports_of_routers area (n + 1) routers))
 
--- each linked port is one of the routers
+-- each linked interface is one of the routers
 pub linked_owned : (area : ℕ) (routers : List Router) → All (IsPortOf 0 routers) (linked (ports area routers))
 linked_owned area routers = All-filter (is_linked (ports area routers)) (IsPortOf 0 routers) (ports area routers) (ports_of_routers area 0 routers)
 
--- the port's router stands at its number
+-- the interface's router stands at its number
 pub owner_there : (routers : List Router) (p : Port) (of : IsPortOf 0 routers p) → slice_get routers p.router ≡ Some of.router
 owner_there routers p of =
     let same = of.number_is in

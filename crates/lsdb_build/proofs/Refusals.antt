@@ -57,7 +57,7 @@ later_faults area routers few none =
     let later = designated all (transit_subnets all) ∷ overlap all ∷ [] in
     first_some-none (at_config TooMany (past 1000 (length routers))) (early routers all ++ later) few ∙ first_some-append (early routers all) later none
 
--- the refusal at a transit subnet, at the ports and first members that the calls gave
+-- the refusal at a transit subnet, at the interfaces and first members that the calls gave
 pub tells_designated : (area : ℕ) (routers : List Router) (early_ports all transit : List Port) (stop : TopologyStop) →
     at_config TooMany (past 1000 (length routers)) ≡ None → early_ports ≡ ports area routers →
     first_some (early routers early_ports) ≡ None → all ≡ ports area routers →
@@ -121,7 +121,7 @@ made_is area routers links transit fine valid links_is transit_is =
     (sym transit_is)
     (database_is area routers fine valid))
 
--- at most 4,000 ports have at most so many linked ones and transit subnets
+-- at most 4,000 interfaces have at most so many linked ones and transit subnets
 pub few_links : (first all : List Port) → first ≡ all → length first ≤ 4000 → length (linked all) ≤ 4000
 few_links first all is few = omega (arith, linked_length all, ap length is)
 

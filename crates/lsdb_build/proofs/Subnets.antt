@@ -1,4 +1,4 @@
--- Ports on one subnet, and the first members of transit subnets.
+-- Interfaces on one subnet, and the first members of transit subnets.
 use Rattle.std.proofs.Common.{◌≡◌, ℕ, zero, suc, ◌+◌, ◌<◌, ◌≤◌, ◌⊎◌, inl, inr, Bool, true, false, cond, ◌||◌, ◌&&◌, not, eqb, eq-eqb, List, [], ◌∷◌, Option, Some, None, length, refl, sym, ap, ◌∙◌, arith, slice_get, All, AllPairs}
 use Rattle.std.specs.List.{list_any}
 use Rattle.std.proofs.lemmas.Bool.{false≢true, or_parts, and_parts, and_from, cases_Bool, eqb-true, false_from_ne_true, not-true, cases_order}
@@ -41,14 +41,14 @@ shares_on p q r h k =
     let t = shares_tells q r k in
     shares_from p r (record { length = s.length ∙ t.length; subnet = s.subnet ∙ t.subnet })
 
--- two ports of one subnet share it with the same ports
+-- two interfaces of one subnet share it with the same interfaces
 pub shares_alike : (p q : Port) → shares_subnet p q ≡ true → (r : Port) → shares_subnet p r ≡ shares_subnet q r
 shares_alike p q h r = same_test _ _ (λ k. shares_on q p r (shares_back p q h) k) (λ k. shares_on p q r h k)
 
 pub shares_not_back : (p q : Port) → shares_subnet p q ≡ false → shares_subnet q p ≡ false
 shares_not_back p q h = false_from_ne_true _ (λ k. false≢true (sym h ∙ shares_back q p k))
 
--- a check of one earlier port that finds none holds of no pair
+-- a check of one earlier interface that finds none holds of no pair
 pub record NonePasses (t : Port → Port → Bool) (before xs : List Port) : Type 0 where
   pub across : All (λ p. list_any (λ q. t q p) before ≡ false) xs
   pub pairs : AllPairs (λ a b. t a b ≡ false) xs
@@ -72,7 +72,7 @@ none_passes t before (p ∷ xs) h =
           (λ v k. (or_parts (t p v) (list_any (λ q. t q v) before) k).0) xs rest.across) rest.pairs;
     }
 
--- ports of one subnet have one network kind
+-- interfaces of one subnet have one network kind
 pub kinds_tell : (a b : Kind) → same_kind a b ≡ true → a ≡ b
 kinds_tell PointToPoint PointToPoint h = refl
 kinds_tell PointToPoint Broadcast h = absurd (false≢true h)
@@ -114,7 +114,7 @@ place_only test n (x ∷ xs) (suc m) y at passes only =
     zero_suc : 0 ≡ suc m → ⊥
     zero_suc h = omega arith
 
--- what holds of the ports holds of the first members among them
+-- what holds of the interfaces holds of the first members among them
 pub firsts_all : (P : Port → Type 0) (before xs : List Port) → All P xs → All P (first_members before xs)
 firsts_all P before [] all = All-nil P
 firsts_all P before (p ∷ xs) all = by_test (is_broadcast p && not (list_any (shares_subnet p) before)) (firsts_all P (p ∷ before) xs (All-tail P p xs all))
@@ -132,7 +132,7 @@ firsts_length before (p ∷ xs) = by_test (is_broadcast p && not (list_any (shar
     by_test true h = omega arith
     by_test false h = omega arith
 
--- a first member is broadcast, no port before shares its subnet, and no two share one
+-- a first member is broadcast, no interface before shares its subnet, and no two share one
 pub record AreFirst (before firsts : List Port) : Type 0 where
   pub broadcast : All (λ f. is_broadcast f ≡ true) firsts
   pub fresh : All (λ f. list_any (shares_subnet f) before ≡ false) firsts
@@ -171,7 +171,7 @@ firsts_are_first before (p ∷ xs) = by_test (is_broadcast p && not (list_any (s
         }
     by_test false is rest = record { broadcast = rest.broadcast; fresh = older (first_members (p ∷ before) xs) rest; apart = rest.apart }
 
--- a first member of the port's subnet
+-- a first member of the interface's subnet
 pub record FirstOf (p : Port) (firsts : List Port) : Type 0 where
   pub place : ℕ
   pub item : Port
@@ -187,7 +187,7 @@ new_first : (p : Port) (b : Bool) (x : Port) (firsts : List Port) → b ≡ true
 new_first p true x firsts is shares = record { place = 0; item = x; at = refl; shares = shares }
 new_first p false x firsts is shares = absurd (false≢true is)
 
--- at a port of the subnet: it is the first member, or one before it shares the subnet
+-- at an interface of the subnet: it is the first member, or one before it shares the subnet
 at_first : (before : List Port) (x : Port) (xs : List Port) (p : Port) → shares_subnet p x ≡ true →
     is_broadcast x ≡ true → FirstOf p (first_members before (x ∷ xs)) ⊎ (list_any (shares_subnet p) before ≡ true)
 at_first before x xs p same broadcast =
@@ -197,7 +197,7 @@ at_first before x xs p same broadcast =
           (first_members (x ∷ before) xs) (and_from _ _ broadcast (ap not fresh)) same)
     ]
 
--- the subnet of a broadcast port has a first member, or one before it
+-- the subnet of a broadcast interface has a first member, or one before it
 pub first_found : (before xs : List Port) (k : ℕ) (p : Port) → slice_get xs k ≡ Some p →
     All (λ q. shares_subnet p q ≡ true → is_broadcast q ≡ true) xs → FirstOf p (first_members before xs)
     ⊎ (list_any (shares_subnet p) before ≡ true)

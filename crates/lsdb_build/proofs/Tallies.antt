@@ -3,17 +3,17 @@ use Rattle.std.proofs.Common.{zero, suc, zero-add, nat_lt, nat_eq, not, ◌||◌
 use Rattle.std.proofs.lemmas.List.{length-map, length-reverse, length-take}
 use Rattle.std.proofs.lemmas.List.Sums.{count_by-le-length}
 use Rattle.std.specs.List.{list_any, list_all}
-use Rattle.std.proofs.lemmas.Bool.{cases_Bool, lt-ltb, ne_eqb}
+use Rattle.std.proofs.lemmas.Bool.{cases_Bool, le-ltb, lt-ltb, ne_eqb}
 use Rattle.std.specs.Bool.{beq}
 use Rattle.std.specs.Cmp.{IsEquivalence}
 use Rattle.indexmap.specs.IndexMap.{IndexMap, get, get_by, Updates}
 use Rattle.lsdb_build.specs.declared.port.Subnet.{Subnet}
 use Rattle.lsdb_build.specs.Neighbours.{Port, shares_subnet, is_broadcast, is_broadcast_kind}
-use Rattle.lsdb_build.specs.Tallies.{count_of, IsTally, subnet_of, same_subnet, member_of, same_member, address_of, same_trait, kind_on, rank_on}
-use Rattle.lsdb_build.specs.Topology.{is_second_of_router, is_second_of_address, is_mismatch, lacks_designated, same_kind}
+use Rattle.lsdb_build.specs.Tallies.{count_of, IsTally, subnet_of, same_subnet, same_trait, kind_on, rank_on}
+use Rattle.lsdb_build.specs.Topology.{is_mismatch, first_where, lacks_designated, same_kind}
 use Rattle.interface_model.specs.declared.Kind.{Kind}
 use Rattle.interface_model.specs.declared.Kind.TheVariants.{PointToPoint, Broadcast}
-use Rattle.lsdb_build.proofs.FirstPlaces.{reverse_more, count_by-reverse}
+use Rattle.lsdb_build.proofs.FirstPlaces.{reverse_more, count_by-reverse, IsLeft, left_on, first_met}
 use Rattle.lsdb_build.proofs.Pairs.{count_by-cons, count_agree}
 use Rattle.lsdb_build.proofs.Subnets.{shares_swap}
 
@@ -72,7 +72,7 @@ pub tally_whole : {X K S : Type 0} (eq : K → K → Bool) (of : X → K) (count
     IsTally eq counts (map of (reverse xs)) → IsTally eq counts (map of xs)
 tally_whole eq of counts xs tally key = tally key ∙ count_by-keys (λ k. eq k key) of xs ∙ sym (count_by-map (λ k. eq k key) of xs)
 
--- how many ports share a port's subnet
+-- how many interfaces share an interface's subnet
 pub members_counted : {S : Type 0} (counts : IndexMap Subnet ℕ S) (all : List Port) (p : Port) →
     IsTally same_subnet counts (map subnet_of all) →
     count_of same_subnet counts (subnet_of p) ≡ count_by (shares_subnet p) all
@@ -106,7 +106,7 @@ none_counted f xs = by_count (count_by f xs) ∙ ap not (any_counted f xs)
     by_count zero = refl
     by_count (suc n) = ne_eqb (suc n) 0 (λ h. omega arith) ∙ sym (ap not (lt-ltb 0 (suc n) (omega arith)))
 
--- whether an earlier port has the key, by how often it came
+-- whether an earlier interface has the key, by how often it came
 pub any_tallied : {K S : Type 0} (eq : K → K → Bool) (of : Port → K) (counts : IndexMap K ℕ S) (before : List Port)
     (p : Port) (key : K) (n : ℕ) → n ≡ count_of eq counts key → key ≡ of p →
     IsTally eq counts (map of before) → list_any (λ q. eq (of q) (of p)) before ≡ nat_lt 0 n
@@ -114,7 +114,46 @@ any_tallied eq of counts before p key n count_is key_is tally =
     sym (ap (nat_lt 0) (count_is ∙ ap (count_of eq counts) key_is ∙ tally (of p)
     ∙ count_by-map (λ k. eq k (of p)) of before) ∙ any_counted (λ q. eq (of q) (of p)) before)
 
--- whether an earlier port of the other kind is on the same subnet
+-- A walk over interfaces that tallies their keys.
+
+-- the first so many are tallied, and none of them is met
+pub record IsWalked {K S : Type 0} (eq : K → K → Bool) (of : Port → K) (f : List Port → Port → Bool) (counts : IndexMap K ℕ S)
+    (ports : List Port) (i : ℕ) : Type 0 where
+  pub seen : IsTally eq counts (map of (reverse (take i ports)))
+  pub left : IsLeft f ports i
+
+-- the walk goes on past an interface that isn't met
+pub walked_on : {K S : Type 0} (eq : K → K → Bool) (of : Port → K) (f : List Port → Port → Bool) (counts news : IndexMap K ℕ S)
+    (ports : List Port) (i : ℕ) (p : Port) → IsWalked eq of f counts ports i → i < length ports → p ≡ get_or ports i p →
+    (key : K) → key ≡ of p → IsTally eq news (key ∷ map of (reverse (take i ports))) →
+    f (reverse (take i ports)) p ≡ false → IsWalked eq of f news ports (i + 1)
+walked_on eq of f counts news ports i p walked within is key key_is added fails =
+    record {
+      seen = tally_on eq of news ports i p within is key key_is added;
+      left = left_on f ports i walked.left p within is fails;
+    }
+
+-- an earlier interface has the key
+abbrev pub is_second : {K : Type 0} (eq : K → K → Bool) (of : Port → K) → List Port → Port → Bool
+is_second eq of before p = list_any (λ q. eq (of q) (of p)) before
+
+module _ {K S : Type 0} (eq : K → K → Bool) (of : Port → K) (counts : IndexMap K ℕ S) (ports : List Port) (i : ℕ) (p : Port)
+    (walked : IsWalked eq of (is_second eq of) counts ports i) (within : i < length ports) (is : p ≡ get_or ports i p)
+    (key : K) (key_is : key ≡ of p) (n : ℕ) (count_is : n ≡ count_of eq counts key) where
+  by_count : is_second eq of (reverse (take i ports)) p ≡ nat_lt 0 n
+  by_count = any_tallied eq of counts (reverse (take i ports)) p key n count_is key_is walked.seen
+
+  -- the walk goes on past an interface whose key is new
+  pub second_passed : (news : IndexMap K ℕ S) → IsTally eq news (key ∷ map of (reverse (take i ports))) → n ≤ 0 →
+      IsWalked eq of (is_second eq of) news ports (i + 1)
+  second_passed news added none =
+      walked_on eq of (is_second eq of) counts news ports i p walked within is key key_is added (by_count ∙ le-ltb 0 n none)
+
+  -- it ends at the first whose key came before
+  pub second_met : 0 < n → first_where (is_second eq of) [] ports ≡ Some p
+  second_met some = first_met (is_second eq of) ports i walked.left p within is (by_count ∙ lt-ltb 0 n some)
+
+-- whether an earlier interface of the other kind is on the same subnet
 pub kinds_counted : {S : Type 0} (counts : IndexMap (Bool × Subnet) ℕ S) (before : List Port) (p : Port) →
     IsTally same_trait counts (map kind_on before) →
     nat_lt 0 (count_of same_trait counts (not (is_broadcast p), subnet_of p)) ≡ is_mismatch before p
@@ -137,7 +176,7 @@ kinds_counted counts before p tally =
     by_kinds Broadcast Broadcast true = refl
     by_kinds Broadcast Broadcast false = refl
 
--- whether no port on the subnet may become its designated router
+-- whether no interface on the subnet may become its designated router
 pub designated_counted : {S : Type 0} (counts : IndexMap (Bool × Subnet) ℕ S) (all : List Port) (p : Port) →
     IsTally same_trait counts (map rank_on all) → nat_eq (count_of same_trait counts (true, subnet_of p)) 0
     ≡ lacks_designated all p
@@ -175,7 +214,7 @@ both_traits trait f (x ∷ xs) =
     by_test false true one two all rest = omega (arith, one, two, all, rest)
     by_test false false one two all rest = omega (arith, one, two, all, rest)
 
--- how many ports before stand on the same subnet, by the counts of both kinds
+-- how many interfaces before stand on the same subnet, by the counts of both kinds
 pub both_counted : {S : Type 0} (counts : IndexMap (Bool × Subnet) ℕ S) (before : List Port) (p : Port) → IsTally same_trait counts (map kind_on before) →
     count_of same_trait counts (true, subnet_of p) + count_of same_trait counts (false, subnet_of p) ≡ count_by (λ q. shares_subnet q p) before
 both_counted counts before p tally =

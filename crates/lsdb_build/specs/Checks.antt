@@ -1,4 +1,4 @@
--- The links between given linked ports.
+-- The links between given linked interfaces.
 use Rattle.std.specs.Prelude.{ℕ, List, Option, None, unwrap_or}
 use Rattle.interface_model.specs.declared.Kind.{Kind}
 use Rattle.interface_model.specs.declared.Kind.TheVariants.{PointToPoint, Broadcast}
@@ -8,7 +8,7 @@ use Rattle.lsdb_build.specs.declared.Linked.{Linked}
 use Rattle.lsdb_build.specs.Neighbours.{Port, shares_subnet, place_from, is_other}
 use Rattle.lsdb_build.specs.Topology.{router_at}
 
--- where a link leads, among given linked ports and first members of transit subnets
+-- where a link leads, among given linked interfaces and first members of transit subnets
 abbrev pub far_among : List Port → List Port → Port → Kind → Far
 far_among links transit p PointToPoint = ToRouter (router_at links (place_from 0 (is_other p) links))
 far_among links transit p Broadcast = ToSubnet (unwrap_or (place_from 0 (shares_subnet p) transit) 0)

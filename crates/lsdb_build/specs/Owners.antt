@@ -29,10 +29,10 @@ has_other (Some Several) router = true
 abbrev pub IsNoted : {S : Type 0} → IndexMap Subnet Owner S → ℕ → Subnet → Type 0
 IsNoted owners router prefix = has_router (get same_subnet owners prefix) router ≡ true
 
--- a port's router is noted at its subnet
+-- an interface's router is noted at its subnet
 abbrev pub HasSubnet : {S : Type 0} → IndexMap Subnet Owner S → Port → Type 0
 HasSubnet owners p = IsNoted owners p.router (subnet_of p)
 
--- a port's router is noted at the shorter prefixes in which its subnet lies
+-- an interface's router is noted at the shorter prefixes in which its subnet lies
 abbrev pub HasPrefixes : {S : Type 0} → IndexMap Subnet Owner S → Port → Type 0
 HasPrefixes owners p = (length : ℕ) → length < p.interface.length → IsNoted owners p.router (prefix_of p length)

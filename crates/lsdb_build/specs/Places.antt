@@ -1,4 +1,4 @@
--- The places of ports, found by their subnets.
+-- The places of interfaces, found by their subnets.
 use Rattle.std.specs.Prelude.{◌≡◌, ℕ, Bool, false, List, [], Option, Some, None, Vec}
 use Rattle.indexmap.specs.IndexMap.{IndexMap, get}
 use Rattle.lsdb_build.specs.declared.port.Subnet.{Subnet}
@@ -15,11 +15,11 @@ listed (Some places) = places.items
 abbrev pub places_at : {A S : Type 0} → IndexMap Subnet (Vec ℕ A) S → Subnet → List ℕ
 places_at places key = listed (get same_subnet places key)
 
--- for each port's subnet the places of the ports on it are kept, in order
+-- for each interface's subnet the places of the interfaces on it are kept, in order
 abbrev pub ArePlaces : {A S : Type 0} → IndexMap Subnet (Vec ℕ A) S → List Port → Type 0
 ArePlaces places ports = (p : Port) → places_at places (subnet_of p) ≡ places_from 0 (shares_subnet p) ports
 
--- whether there is a port that passes
+-- whether there is an interface that passes
 abbrev pub passes : (Port → Bool) → Option Port → Bool
 passes test None = false
 passes test (Some p) = test p

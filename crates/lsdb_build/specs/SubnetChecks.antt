@@ -1,4 +1,4 @@
--- The checks of a port against those before it on its subnet.
+-- The checks of an interface against those before it on its subnet.
 use Rattle.std.specs.Prelude.{List, Bool}
 use Rattle.lsdb_build.specs.declared.checks.SubnetCheck.{SubnetCheck}
 use Rattle.lsdb_build.specs.declared.checks.SubnetCheck.TheVariants.{Kinds, Ends}

@@ -1,4 +1,4 @@
--- How often keys came, and the keys of ports.
+-- How often keys came, and the keys of interfaces.
 use Rattle.std.specs.Prelude.{◌≡◌, ℕ, Bool, ◌==◌, ◌&&◌, nat_lt, List, unwrap_or, count_by}
 use Rattle.std.specs.Bool.{beq}
 use Rattle.indexmap.specs.IndexMap.{IndexMap, get}
@@ -32,15 +32,15 @@ member_of p = (p.router, subnet_of p)
 abbrev pub same_member : ℕ × Subnet → ℕ × Subnet → Bool
 same_member a b = a.0 == b.0 && same_subnet a.1 b.1
 
--- a subnet with what is true or not of a port on it
+-- a subnet with what is true or not of an interface on it
 abbrev pub same_trait : Bool × Subnet → Bool × Subnet → Bool
 same_trait a b = beq a.0 b.0 && same_subnet a.1 b.1
 
--- whether the port is broadcast
+-- whether the interface is broadcast
 abbrev pub kind_on : Port → Bool × Subnet
 kind_on p = (is_broadcast p, subnet_of p)
 
--- whether the port may become the designated router
+-- whether the interface may become the designated router
 abbrev pub rank_on : Port → Bool × Subnet
 rank_on p = (nat_lt 0 p.interface.priority, subnet_of p)
 

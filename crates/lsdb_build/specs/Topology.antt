@@ -28,7 +28,7 @@ same_kind PointToPoint Broadcast = false
 same_kind Broadcast PointToPoint = false
 same_kind Broadcast Broadcast = true
 
--- Each check asks of a port, with the ports before it.
+-- Each check asks of an interface, with the interfaces before it.
 
 -- one before it is of the same router and on the same subnet
 abbrev pub is_second_of_router : List Port → Port → Bool
@@ -59,7 +59,7 @@ is_overlap before p =
 abbrev pub lacks_designated : List Port → Port → Bool
 lacks_designated all p = list_all (λ q. not (shares_subnet p q) || q.interface.priority == 0) all
 
--- the first port that passes a check
+-- the first interface that passes a check
 abbrev pub first_where : (List Port → Port → Bool) → List Port → List Port → Option Port
 first_where check before [] = None
 first_where check before (p ∷ more) = if check before p then Some p else first_where check (p ∷ before) more
@@ -137,7 +137,7 @@ link_of all p =
       mate = mate_of all p p.interface.kind;
     }
 
--- the places of the ports that pass
+-- the places of the interfaces that pass
 abbrev pub places_from : ℕ → (Port → Bool) → List Port → List ℕ
 places_from n test [] = []
 places_from n test (p ∷ ps) = if test p then n ∷ places_from (n + 1) test ps else places_from (n + 1) test ps

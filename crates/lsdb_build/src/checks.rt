@@ -12,12 +12,16 @@ ghost use Rattle.lsdb_build.specs.declared.stop.TopologyFault.TheVariants.{NoDes
 use crate::port::{Port, Subnet, is_broadcast, subnet_of};
 use crate::tally::Tally;
 use crate::{TopologyFault, TopologyStop};
+use area_graph::MOST_ROUTERS;
 use cost_base::{Name, OutOfMemory};
 use indexmap::IndexSet;
 use interface_model::RouterConfig;
 use std::alloc::Global;
 
-/// The refusal of a port.
+/// The most active interfaces that an area may have: a limit of this program.
+const MOST_INTERFACES: usize = 4000;
+
+/// The refusal of an interface.
 pub fn refusal_at(fault: TopologyFault, port: &Port) -> TopologyStop
     ensures { result ≡ TopologyStop.Refused fault port.now.router port.now.interface.line }
 {
@@ -35,7 +39,7 @@ fn member_of(port: &Port) -> (u32, Subnet)
     (port.router, subnet_of(port))
 }
 
-/// Refuses the first port of which an earlier one is of the same router and on the same subnet.
+/// Refuses the first interface of which an earlier one is of the same router and on the same subnet.
 pub fn refuse_second_of_router(alloc: Global, ports: &[Port]) -> Result<(), TopologyStop>
     requires { length ports.now ≤ 4000 }
     ensures { let fault = at_port SameRouterTwice (first_where is_second_of_router [] ports.now) in
@@ -50,7 +54,7 @@ pub fn refuse_second_of_router(alloc: Global, ports: &[Port]) -> Result<(), Topo
     Ok(())
 }
 
-/// Refuses the first port of which an earlier one has the address.
+/// Refuses the first interface of which an earlier one has the address.
 pub fn refuse_second_of_address(alloc: Global, ports: &[Port]) -> Result<(), TopologyStop>
     requires { length ports.now ≤ 4000 }
     ensures { let fault = at_port AddressTwice (first_where is_second_of_address [] ports.now) in
@@ -65,14 +69,14 @@ pub fn refuse_second_of_address(alloc: Global, ports: &[Port]) -> Result<(), Top
     Ok(())
 }
 
-/// A port's subnet, with whether the port is broadcast.
+/// An interface's subnet, with whether the interface is broadcast.
 fn kind_on(port: &Port) -> (bool, Subnet)
     ensures { result ≡ kind_on port.now }
 {
     (is_broadcast(port), subnet_of(port))
 }
 
-/// Whether a port before on the same subnet has another network kind.
+/// Whether an interface before on the same subnet has another network kind.
 fn is_mismatch(seen: &Tally<(bool, Subnet)>, port: &Port) -> bool
     ensures { (before : List Port) → IsTally same_trait seen.now.counts (map kind_on before) → result ≡ is_mismatch before port.now }
 {
@@ -80,7 +84,7 @@ fn is_mismatch(seen: &Tally<(bool, Subnet)>, port: &Port) -> bool
     seen.count((!broadcast, subnet)) > 0
 }
 
-/// How many ports before stand on a port's subnet, of whichever kind.
+/// How many interfaces before stand on an interface's subnet, of whichever kind.
 fn members_before(seen: &Tally<(bool, Subnet)>, port: &Port) -> u64
     ensures { (before : List Port) → IsTally same_trait seen.now.counts (map kind_on before) → result ≡ count_by (λ q. shares_subnet q port.now) before }
 {
@@ -88,7 +92,7 @@ fn members_before(seen: &Tally<(bool, Subnet)>, port: &Port) -> u64
     u64::from(seen.count((true, subnet))) + u64::from(seen.count((false, subnet)))
 }
 
-/// Whether two ports before are on the same point-to-point subnet.
+/// Whether two interfaces before are on the same point-to-point subnet.
 fn is_crowding(seen: &Tally<(bool, Subnet)>, port: &Port) -> bool
     ensures { (before : List Port) → IsTally same_trait seen.now.counts (map kind_on before) → result ≡ is_crowding before port.now }
 {
@@ -96,7 +100,7 @@ fn is_crowding(seen: &Tally<(bool, Subnet)>, port: &Port) -> bool
     !is_broadcast(port) && members >= 2
 }
 
-/// A check of a port against those before it on its subnet.
+/// A check of an interface against those before it on its subnet.
 #[derive(Clone, Copy)]
 pub enum SubnetCheck {
     /// None has another network kind.
@@ -105,7 +109,7 @@ pub enum SubnetCheck {
     Ends,
 }
 
-/// Whether a port fails a check.
+/// Whether an interface fails a check.
 fn fails(check: SubnetCheck, seen: &Tally<(bool, Subnet)>, port: &Port) -> bool
     ensures { (before : List Port) → IsTally same_trait seen.now.counts (map kind_on before) → result ≡ fails check before port.now }
 {
@@ -115,7 +119,7 @@ fn fails(check: SubnetCheck, seen: &Tally<(bool, Subnet)>, port: &Port) -> bool
     }
 }
 
-/// The fault of a port that fails a check.
+/// The fault of an interface that fails a check.
 fn fault_of(check: SubnetCheck) -> TopologyFault
     ensures { result ≡ fault_of check }
 {
@@ -125,7 +129,7 @@ fn fault_of(check: SubnetCheck) -> TopologyFault
     }
 }
 
-/// Refuses the first port that fails a check against those before it on its subnet.
+/// Refuses the first interface that fails a check against those before it on its subnet.
 pub fn refuse_on_subnet(
     alloc: Global,
     ports: &[Port],
@@ -145,14 +149,14 @@ pub fn refuse_on_subnet(
     Ok(())
 }
 
-/// A port's subnet, with whether the port may become its designated router (RFC 2328, 9.4).
+/// An interface's subnet, with whether the interface may become its designated router (RFC 2328, 9.4).
 fn rank_on(port: &Port) -> (bool, Subnet)
     ensures { result ≡ rank_on port.now }
 {
     (port.interface.priority > 0, subnet_of(port))
 }
 
-/// Counts the ports on each subnet that may become its designated router, and those that may not.
+/// Counts the interfaces on each subnet that may become its designated router, and those that may not.
 fn count_ranks(alloc: Global, ports: &[Port]) -> Result<Tally<(bool, Subnet)>, OutOfMemory>
     requires { length ports.now ≤ 4000 }
     ensures { IfOk result (λ ranks. IsTally same_trait ranks.counts (map rank_on ports.now)) }
@@ -164,7 +168,7 @@ fn count_ranks(alloc: Global, ports: &[Port]) -> Result<Tally<(bool, Subnet)>, O
     Ok(ranks)
 }
 
-/// Whether no member of a port's subnet may become its designated router.
+/// Whether no member of an interface's subnet may become its designated router.
 fn lacks_designated(ranks: &Tally<(bool, Subnet)>, port: &Port) -> bool
     ensures { (all : List Port) → IsTally same_trait ranks.now.counts (map rank_on all) → result ≡ lacks_designated all port.now }
 {
@@ -196,23 +200,23 @@ pub fn refuse_many_configs(configs: &[RouterConfig]) -> Result<(), TopologyStop>
         MatchResult result (λ _. fault ≡ None) (Tells fault) }
     ensures few { MatchResult result (λ _. length configs.now ≤ 1000) (λ _. 1000 < length configs.now) }
 {
-    if configs.len() > 1000 {
+    if configs.len() > MOST_ROUTERS {
         return Err(TopologyStop::Refused {
             fault: TopologyFault::TooMany,
-            config: 1000,
+            config: MOST_ROUTERS as u32,
             line: 0,
         });
     }
     Ok(())
 }
 
-/// Refuses more than 4,000 ports, at the first past them.
+/// Refuses more than 4,000 active interfaces, at the first past them.
 pub fn refuse_many_ports(ports: &[Port]) -> Result<(), TopologyStop>
     ensures fault { let fault = at_port TooMany (slice_get ports.now 4000) in
         MatchResult result (λ _. fault ≡ None) (Tells fault) }
     ensures few { MatchResult result (λ _. length ports.now ≤ 4000) (λ _. 4000 < length ports.now) }
 {
-    match ports.get(4000) {
+    match ports.get(MOST_INTERFACES) {
         Some(port) => Err(refusal_at(TopologyFault::TooMany, port)),
         None => Ok(()),
     }

@@ -1,31 +1,11 @@
 ghost use Rattle.std.specs.Prelude.{◌≡◌, ◌+◌, ◌<◌, ◌^◌, ◌++◌, length, map, All, IfOk, OnOk};
-ghost use Rattle.cost_base.specs.Lists.{numbers_from};
-ghost use Rattle.area_graph.specs.declared.Vertex.TheVariants.{Router as RouterVertex, Subnet as SubnetVertex};
 ghost use Rattle.area_graph.specs.declared.Price.TheVariants.{Zero};
 ghost use Rattle.lsdb_build.specs.Graphs.{graph_at, far_vertex, link_edges, subnet_edges, router_of, IsLinkPrice};
 
 use crate::{Far, Linked, Lsdb};
-use area_graph::{Edge, Graph, Price, Vertex};
+use area_graph::{Edge, Graph, Price, vertices_of};
 use cost_base::{Listed, OutOfMemory};
 use std::alloc::Global;
-
-/// The vertices: the routers, then the transit subnets.
-fn vertices_of(alloc: Global, routers: u32, subnets: u32) -> Result<Vec<Vertex>, OutOfMemory>
-    ensures { IfOk result (λ made. made.items ≡ map RouterVertex (numbers_from 0 routers) ++ map SubnetVertex (numbers_from 0 subnets)) }
-{
-    let mut vertices = Vec::new(alloc);
-    for router in 0..routers {
-        if vertices.push(Vertex::Router(router)).is_err() {
-            return Err(OutOfMemory);
-        }
-    }
-    for subnet in 0..subnets {
-        if vertices.push(Vertex::Subnet(subnet)).is_err() {
-            return Err(OutOfMemory);
-        }
-    }
-    Ok(vertices)
-}
 
 /// The vertex that a link leads to: routers come first, then subnets.
 fn far_vertex(routers: u32, far: Far) -> u32
@@ -56,9 +36,7 @@ fn link_edges(
             to: far_vertex(routers, link.to),
             price: prices[i],
         };
-        if edges.push(edge).is_err() {
-            return Err(OutOfMemory);
-        }
+        edges.push(edge)?;
     }
     Ok(edges)
 }
@@ -79,9 +57,7 @@ fn push_members(
             to: links[*member as usize].router,
             price: Price::Zero,
         };
-        if edges.push(edge).is_err() {
-            return Err(OutOfMemory);
-        }
+        edges.push(edge)?;
     }
     Ok(())
 }

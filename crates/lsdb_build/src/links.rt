@@ -25,14 +25,14 @@ fn links_members(kind: Kind, members: u32) -> bool
     }
 }
 
-/// Whether a port is linked, from how many ports stand on each subnet.
+/// Whether an interface is linked, from how many interfaces stand on each subnet.
 fn is_linked(members: &Tally<Subnet>, port: &Port) -> bool
     ensures { (all : List Port) → IsTally same_subnet members.now.counts (map subnet_of all) → result ≡ is_linked all port.now }
 {
     links_members(port.interface.kind, members_on(members, port))
 }
 
-/// The linked ports, in order.
+/// The linked interfaces, in order.
 pub fn linked_ports<'a>(alloc: Global, ports: &[Port<'a>]) -> Result<Vec<Port<'a>>, OutOfMemory>
     requires { length ports.now ≤ 4000 }
     ensures { IfOk result (λ found. found.items ≡ linked ports.now) }
@@ -47,7 +47,7 @@ pub fn linked_ports<'a>(alloc: Global, ports: &[Port<'a>]) -> Result<Vec<Port<'a
     Ok(found)
 }
 
-/// Whether a port is a transit subnet's first member, from how many linked ports before it stand on each subnet.
+/// Whether an interface is a transit subnet's first member, from how many linked interfaces before it stand on each subnet.
 fn is_first_member(seen: &Tally<Subnet>, port: &Port) -> bool
     ensures { (before : List Port) → IsTally same_subnet seen.now.counts (map subnet_of before) →
         result ≡ (is_broadcast port.now && not (list_any (shares_subnet port.now) before)) }
@@ -56,7 +56,7 @@ fn is_first_member(seen: &Tally<Subnet>, port: &Port) -> bool
     is_broadcast(port) && members == 0
 }
 
-/// The first members of the transit subnets among linked ports, in order.
+/// The first members of the transit subnets among linked interfaces, in order.
 pub fn transit_ports<'a>(alloc: Global, links: &[Port<'a>]) -> Result<Vec<Port<'a>>, OutOfMemory>
     requires { length links.now ≤ 4000 }
     ensures { IfOk result (λ found. found.items ≡ first_members [] links.now) }
@@ -72,14 +72,14 @@ pub fn transit_ports<'a>(alloc: Global, links: &[Port<'a>]) -> Result<Vec<Port<'
     Ok(found)
 }
 
-/// Whether another port stands on the same subnet.
+/// Whether another interface stands on the same subnet.
 fn is_other(port: &Port, other: &Port) -> bool
     ensures { result ≡ is_other port.now other.now }
 {
     shares_subnet(port, other) && !(port.router == other.router && port.address == other.address)
 }
 
-/// Whether the port at a place is another one on a port's subnet.
+/// Whether the interface at a place is another one on an interface's subnet.
 fn is_other_at(links: &[Port], place: u32, port: &Port) -> bool
     ensures { result ≡ passes (is_other port.now) (slice_get links.now place) }
 {
@@ -89,7 +89,7 @@ fn is_other_at(links: &[Port], place: u32, port: &Port) -> bool
     }
 }
 
-/// The place of the other port of a point-to-point subnet.
+/// The place of the other interface of a point-to-point subnet.
 fn place_of_other(links: &[Port], places: &Places, port: &Port) -> Option<u32>
     requires { ArePlaces places.now.by_subnet links.now }
     ensures { result ≡ place_from 0 (is_other port.now) links.now }
@@ -103,7 +103,7 @@ fn place_of_other(links: &[Port], places: &Places, port: &Port) -> Option<u32>
     None
 }
 
-/// The place of a port's transit subnet.
+/// The place of an interface's transit subnet.
 fn place_of_subnet(firsts: &Places, port: &Port) -> Option<u32>
     ensures { (transit : List Port) → ArePlaces firsts.now.by_subnet transit → result ≡ place_from 0 (shares_subnet port.now) transit }
 {
@@ -123,7 +123,7 @@ fn router_at(links: &[Port], place: Option<u32>) -> u32
     }
 }
 
-/// Where the link of a port leads, and its mate.
+/// Where the link of an interface leads, and its other end.
 fn far_and_mate(links: &[Port], places: &Places, firsts: &Places, port: &Port) -> (Far, Option<u32>)
     requires { ArePlaces places.now.by_subnet links.now }
     ensures far { (transit : List Port) → ArePlaces firsts.now.by_subnet transit → result.0 ≡ far_among links.now transit port.now port.now.interface.kind }
@@ -141,7 +141,7 @@ fn far_and_mate(links: &[Port], places: &Places, firsts: &Places, port: &Port) -
     }
 }
 
-/// The link of a linked port, by the places of the linked ports and those of the first members of transit subnets.
+/// The link of a linked interface, by the places of the linked interfaces and those of the first members of transit subnets.
 fn link_of(
     alloc: Global,
     links: &[Port],
@@ -164,7 +164,7 @@ fn link_of(
     })
 }
 
-/// The links of the linked ports, in order, by the places of these ports.
+/// The links of the linked interfaces, in order, by the places of these interfaces.
 pub fn links_of(
     alloc: Global,
     links: &[Port],
@@ -179,14 +179,12 @@ pub fn links_of(
     let mut made = Vec::new(alloc);
     for port in links {
         let link = link_of(alloc, links, places, &firsts, port)?;
-        if made.push(link).is_err() {
-            return Err(OutOfMemory);
-        }
+        made.push(link)?;
     }
     Ok(made)
 }
 
-/// The places of the linked ports on one subnet, in order.
+/// The places of the linked interfaces on one subnet, in order.
 fn members_of(alloc: Global, places: &Places, first: &Port) -> Result<Listed<u32>, OutOfMemory>
     ensures { IfOk result (λ members. members ≡ places_at places.now.by_subnet (subnet_of first.now)) }
 {
@@ -194,7 +192,7 @@ fn members_of(alloc: Global, places: &Places, first: &Port) -> Result<Listed<u32
     Ok(Listed::from_items(members))
 }
 
-/// The members of each transit subnet, in the order of their first members, by the places of the linked ports.
+/// The members of each transit subnet, in the order of their first members, by the places of the linked interfaces.
 pub fn subnets_of(
     alloc: Global,
     places: &Places,
@@ -206,9 +204,7 @@ pub fn subnets_of(
     let mut made = Vec::new(alloc);
     for first in transit {
         let members = members_of(alloc, places, first)?;
-        if made.push(members).is_err() {
-            return Err(OutOfMemory);
-        }
+        made.push(members)?;
     }
     Ok(made)
 }
@@ -220,9 +216,7 @@ pub fn names_of(alloc: Global, configs: &[RouterConfig]) -> Result<Vec<Name>, Ou
     let mut made = Vec::new(alloc);
     for config in configs {
         let name = Name::from_bytes(alloc, config.name.as_bytes())?;
-        if made.push(name).is_err() {
-            return Err(OutOfMemory);
-        }
+        made.push(name)?;
     }
     Ok(made)
 }

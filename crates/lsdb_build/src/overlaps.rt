@@ -15,7 +15,7 @@ use cost_base::OutOfMemory;
 use interface_model::{contains, subnet};
 use std::alloc::Global;
 
-/// Whether the subnet of the first port contains that of the second, which is at least as long.
+/// Whether the subnet of the first interface contains that of the second, which is at least as long.
 fn holds(outer: &Port, inner: &Port) -> bool
     ensures { result ≡ holds outer.now inner.now }
 {
@@ -23,7 +23,7 @@ fn holds(outer: &Port, inner: &Port) -> bool
     length <= inner.interface.length && contains(outer.address, length, inner.address)
 }
 
-/// Whether two ports of different routers are on different subnets of which one contains the other.
+/// Whether two interfaces of different routers are on different subnets of which one contains the other.
 fn overlaps(port: &Port, other: &Port) -> bool
     ensures { result ≡ (not (port.now.router == other.now.router) && not (shares_subnet port.now other.now) &&
         (holds port.now other.now || holds other.now port.now)) }
@@ -33,14 +33,14 @@ fn overlaps(port: &Port, other: &Port) -> bool
         && (holds(port, other) || holds(other, port))
 }
 
-/// Whether a port before, of another router, has an overlapping subnet.
+/// Whether an interface before, of another router, has an overlapping subnet.
 fn is_overlap(before: &[Port], port: &Port) -> bool
     ensures { result ≡ is_overlap before.now port.now }
 {
     before.iter().any(|other| overlaps(other, port))
 }
 
-/// The address of a port under a prefix length.
+/// The address of an interface under a prefix length.
 fn prefix_of(port: &Port, length: u8) -> Subnet
     requires { length ≤ 32 }
     ensures { result ≡ prefix_of port.now length }
@@ -51,7 +51,7 @@ fn prefix_of(port: &Port, length: u8) -> Subnet
     }
 }
 
-/// Whether a port's address lies in a shorter one of the subnets seen, which another router has.
+/// Whether an interface's address lies in a shorter one of the subnets seen, which another router has.
 fn is_inside(seen: &Owners, port: &Port) -> bool
     ensures { result ≡ false → (l : ℕ) → l < port.now.interface.length →
         has_other (get same_subnet seen.now.by_prefix (prefix_of port.now l)) port.now.router ≡ false }
@@ -64,7 +64,7 @@ fn is_inside(seen: &Owners, port: &Port) -> bool
     false
 }
 
-/// Notes a port's router at the shorter prefixes in which its subnet lies.
+/// Notes an interface's router at the shorter prefixes in which its subnet lies.
 fn note_prefixes(enclosing: &mut Owners, port: &Port) -> Result<(), OutOfMemory>
     ensures noted { OnOk result (HasPrefixes enclosing.new.by_prefix port.now) }
     ensures kept { OnOk result ((router : ℕ) (key : Subnet) → IsNoted enclosing.old.by_prefix router key → IsNoted enclosing.new.by_prefix router key) }
@@ -75,8 +75,8 @@ fn note_prefixes(enclosing: &mut Owners, port: &Port) -> Result<(), OutOfMemory>
     Ok(())
 }
 
-/// Whether an earlier port of another router may have an overlapping subnet: one of the subnets seen contains the
-/// port's, or one of the prefixes that enclose them is the port's subnet. Where neither holds, none overlaps.
+/// Whether an earlier interface of another router may have an overlapping subnet: one of the subnets seen contains the
+/// interface's, or one of the prefixes that enclose them is the interface's subnet. Where neither holds, none overlaps.
 fn may_overlap(seen: &Owners, enclosing: &Owners, port: &Port) -> bool
     ensures { (before : List Port) → All (HasSubnet seen.now.by_prefix) before → All (HasPrefixes enclosing.now.by_prefix) before →
         is_overlap before port.now ≡ true → result ≡ true }
@@ -84,9 +84,9 @@ fn may_overlap(seen: &Owners, enclosing: &Owners, port: &Port) -> bool
     is_inside(seen, port) || enclosing.has_other(port.router, subnet_of(port))
 }
 
-/// Refuses the first port of which an earlier one, of another router, has an overlapping subnet.
+/// Refuses the first interface of which an earlier one, of another router, has an overlapping subnet.
 ///
-/// The ports before are compared one by one only at a port whose subnet lies in or round an earlier one of another
+/// The interfaces before are compared one by one only at an interface whose subnet lies in or round an earlier one of another
 /// router.
 pub fn refuse_overlap(alloc: Global, ports: &[Port]) -> Result<(), TopologyStop>
     requires { length ports.now ≤ 4000 }

@@ -1,4 +1,4 @@
-//! Which routers have ports in prefixes.
+//! Which routers have interfaces in prefixes.
 ghost use Rattle.std.specs.Prelude.{◌≡◌, ℕ, None, OnOk};
 ghost use Rattle.indexmap.specs.IndexMap.{get};
 ghost use Rattle.lsdb_build.specs.declared.port.Subnet.{Subnet as Key};

@@ -1,4 +1,4 @@
-//! Where ports stand on each subnet.
+//! Where interfaces stand on each subnet.
 ghost use Rattle.std.specs.Prelude.{◌≡◌, ◌≤◌, ◌++◌, [], ◌∷◌, if◌then◌else◌, length, IfOk, OnOk};
 ghost use Rattle.lsdb_build.specs.declared.port.Subnet.{Subnet as Key};
 ghost use Rattle.lsdb_build.specs.Tallies.{same_subnet, subnet_of};
@@ -9,7 +9,7 @@ use cost_base::OutOfMemory;
 use indexmap::IndexMap;
 use std::alloc::Global;
 
-/// The places of ports, found by their subnets.
+/// The places of interfaces, found by their subnets.
 #[derive(Drop)]
 pub struct Places {
     by_subnet: IndexMap<Subnet, Vec<u32>>,
@@ -37,7 +37,7 @@ impl Places {
         Ok(())
     }
 
-    /// The places of the ports that stand on a port's subnet, in order.
+    /// The places of the interfaces that stand on an interface's subnet, in order.
     pub fn on(&self, port: &Port) -> &[u32]
         ensures { result.now ≡ places_at self.now.by_subnet (subnet_of port.now) }
     {
@@ -48,7 +48,7 @@ impl Places {
     }
 }
 
-/// The places of ports, each its number among them.
+/// The places of interfaces, each its number among them.
 pub fn places_of(alloc: Global, ports: &[Port]) -> Result<Places, OutOfMemory>
     requires { length ports.now ≤ 4000 }
     ensures { IfOk result (λ places. ArePlaces places.by_subnet ports.now) }

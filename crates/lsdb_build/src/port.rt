@@ -28,7 +28,7 @@ impl<'a> Model for Port<'a> {
 }
 
 impl<'a> Port<'a> {
-    /// The same port once more.
+    /// The same interface once more.
     pub fn again(&self) -> Port<'a>
         ensures { result ≡ self.now }
     {
@@ -40,7 +40,7 @@ impl<'a> Port<'a> {
     }
 }
 
-/// The port of an interface, if it is active in the area and of length at most 31.
+/// An interface with its router and its address, if it is active in the area and of length at most 31.
 fn port_of<'a>(interface: &'a Interface, router: u32, area: u32) -> Option<Port<'a>>
     ensures { option_to_list result ≡ port_of area router interface.now interface.now.address }
 {
@@ -54,7 +54,7 @@ fn port_of<'a>(interface: &'a Interface, router: u32, area: u32) -> Option<Port<
     }
 }
 
-/// Appends the ports of a router.
+/// Appends the active interfaces of a router.
 fn push_ports<'a>(
     into: &mut Vec<Port<'a>>,
     config: &'a RouterConfig,
@@ -66,15 +66,13 @@ fn push_ports<'a>(
 {
     for interface in config.interfaces.as_slice() {
         if let Some(port) = port_of(interface, router, area) {
-            if into.push(port).is_err() {
-                return Err(OutOfMemory);
-            }
+            into.push(port)?;
         }
     }
     Ok(())
 }
 
-/// The ports of an area, in the order of their routers.
+/// The active interfaces of an area, in the order of their routers.
 pub fn active_ports<'a>(
     alloc: Global,
     configs: &'a [RouterConfig],
@@ -100,7 +98,7 @@ pub struct Subnet {
     pub address: u32,
 }
 
-/// The subnet of a port.
+/// The subnet of an interface.
 pub fn subnet_of(port: &Port) -> Subnet
     ensures { result ≡ subnet_of port.now }
 {
@@ -111,7 +109,7 @@ pub fn subnet_of(port: &Port) -> Subnet
     }
 }
 
-/// Whether two ports stand on one subnet.
+/// Whether two interfaces stand on one subnet.
 pub fn shares_subnet(port: &Port, other: &Port) -> bool
     ensures { result ≡ shares_subnet port.now other.now }
 {
@@ -121,7 +119,7 @@ pub fn shares_subnet(port: &Port, other: &Port) -> bool
         && subnet(port.address, first.length) == subnet(other.address, second.length)
 }
 
-/// Whether the port's network kind is broadcast.
+/// Whether the interface's network kind is broadcast.
 pub fn is_broadcast(port: &Port) -> bool
     ensures { result ≡ is_broadcast port.now }
 {

@@ -41,7 +41,7 @@ fn refuse_ports(alloc: Global, configs: &[RouterConfig], ports: &[Port]) -> Resu
     Ok(())
 }
 
-/// The database of linked ports and the first members of their transit subnets.
+/// The database of linked interfaces and the first members of their transit subnets.
 fn assemble(
     alloc: Global,
     configs: &[RouterConfig],

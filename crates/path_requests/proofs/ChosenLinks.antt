@@ -108,6 +108,12 @@ number_within d router interface base known =
     let is = known_there d router interface base known in
     slice_get_within d.links (link_number d router interface) is.link is.there
 
+-- the place that was found is one of what is kept for the links
+pub place_within : {X : Type 0} (d : Database) (router interface : List ℕ) (f : Linked → X) (items : List X) (place : ℕ) → IsDatabase d →
+    knows_link d router interface ≡ true → place ≡ link_number d router interface → items ≡ map f d.links → place < length items
+place_within d router interface f items place base known place_is are =
+    omega (arith, place_is, number_within d router interface base known, ap length are, length-map d.links f)
+
 -- a mark for the link that is named
 pub marked_named : (d : Database) (router interface : List ℕ) (f : Linked → Bool) → IsDatabase d →
     knows_link d router interface ≡ true → set (map f d.links) (link_number d router interface) true

@@ -4,7 +4,7 @@ use Rattle.std.specs.Prelude.{slice_get, count_by, not, nat_lt, if◌then◌else
 use Rattle.std.specs.List.{list_any}
 use Rattle.std.proofs.lemmas.Option.{slice_get_within, get_or_from_slice_get}
 use Rattle.std.proofs.lemmas.Bool.{not-true, not-false, and_from, and_parts, and_right, eq-eqb, ltb-true, le-ltb, false≢true, cases_Bool}
-use Rattle.cost_base.proofs.ListLemmas.{append-none}
+use Rattle.cost_base.proofs.ListLemmas.{append-none, none_passes}
 use Rattle.lsdb_build.specs.declared.Far.{Far}
 use Rattle.lsdb_build.specs.declared.Far.TheVariants.{Router as ToRouter, Subnet as ToSubnet}
 use Rattle.lsdb_build.specs.declared.Linked.{Linked}
@@ -17,7 +17,7 @@ use Rattle.path_requests.specs.Meaning.{Range, Within, AsItIs, range_of, is_free
 use Rattle.wanted_paths.specs.LineFaults.{fault_unless}
 use Rattle.path_requests.specs.Resolving.{same_range, ends_differ, ends_differ_at, ties_different, ends_faults}
 use Rattle.wanted_paths.proofs.Walks.{well_from}
-use Rattle.wanted_paths.proofs.LookUps.{link_number_is, none_there}
+use Rattle.wanted_paths.proofs.LookUps.{link_number_is}
 use Rattle.wanted_paths.specs.declared.stop.ResolutionFault.TheVariants.{EndsDiffer}
 use Rattle.path_requests.proofs.Numbering.{passing, count_before, fewer_before}
 
@@ -58,7 +58,7 @@ said_same a d (item ∷ items) l link base there said none =
     by_wish : (wish : Wish) → says_symmetric d link wish ≡ true → ties_different a d wish ≡ false → ends_differ a d link ≡ false
     by_wish SymmetricAll here ties =
         ap (ends_differ a d) (sym (get_or_from_slice_get d.links l link link there))
-        ∙ none_there (ends_differ a d) d.links ties l link (slice_get_within d.links l link there)
+        ∙ none_passes (ends_differ a d) d.links ties l link (slice_get_within d.links l link there)
     by_wish (Symmetric router interface) here ties =
         let is = link_number_is d l link router interface base there here in
         ap (ends_differ_at a d) (sym (ap (slice_get d.links) is ∙ there)) ∙ ties

@@ -26,7 +26,7 @@ said_of_one d link _ = None
 abbrev pub last_said : Database → Linked → List Item → Option Range
 last_said d link items = last_of (filter_map (λ item. range_said d link item.what) items)
 
--- a line makes each link symmetric that has a mate
+-- a line makes each link symmetric that has another end
 abbrev pub ties_all : Wish → Bool
 ties_all SymmetricAll = true
 ties_all _ = false

@@ -23,7 +23,7 @@ same_range (Within lo hi) AsItIs = false
 same_range AsItIs (Within low high) = false
 same_range AsItIs AsItIs = true
 
--- the link and its mate aren't both fixed, nor both free within the same bounds
+-- the link and its other end aren't both fixed, nor both free within the same bounds
 abbrev pub ends_differ : Asked → Database → Linked → Bool
 ends_differ a d link = differs link.mate
   where

@@ -1,7 +1,7 @@
 //! The prices and the names of links, and the problem that is made of them.
-ghost use Rattle.std.specs.Prelude.{◌≡◌, ◌<◌, ◌≤◌, ◌^◌, ◌++◌, ◌∷◌, [], Some, count_by, nat_lt, if◌then◌else◌, length, slice_get, slice_index_or, IfOk, OnOk};
+ghost use Rattle.std.specs.Prelude.{◌≡◌, ◌<◌, ◌≤◌, ◌^◌, ◌++◌, ◌∷◌, [], Some, nat_lt, if◌then◌else◌, length, slice_get, slice_index_or, IfOk, OnOk};
 ghost use Rattle.std.specs.List.{filter_map};
-ghost use Rattle.path_requests.specs.Meaning.{range_of, is_free, owner_at, owners, variable_of, present_cost, price_of, prices_from, names_from, problem_of};
+ghost use Rattle.path_requests.specs.Meaning.{range_of, is_free, owners, variable_of, present_cost, price_of, prices_from, names_from, problem_of};
 ghost use Rattle.wanted_paths.specs.Paths.{request_of};
 ghost use Rattle.wanted_paths.specs.LineFaults.{line_faults};
 ghost use Rattle.path_requests.specs.Resolving.{ends_faults, cost_faults};
@@ -18,27 +18,23 @@ use request_reader::Requests;
 use std::alloc::Global;
 use wanted_paths::Names;
 
-/// How many links with a variable of their own stand before a link's owner: the number of its variable.
-fn variable(choices: &Choices, own: &[u32], number: u32, link: &Linked) -> u32
-    requires few { length own.now < 2 ^ 32 }
-    requires there { slice_get choices.now.database.links number ≡ Some link.now }
-    ensures { result ≡ count_by (λ m. nat_lt m (owner_at choices.now.asked choices.now.database number (Some link.now))) own.now }
-{
-    let owner = owner(choices, number, link);
-    own.iter().filter(|link| **link < owner).count() as u32
-}
-
-/// The number of a link's variable.
+/// The number of a link's variable: how many links with a variable of their own stand before its owner. These stand in
+/// order, so it is found by halving.
 fn variable_of(choices: &Choices, own: &[u32], number: u32, link: &Linked) -> u32
     requires few { length own.now < 2 ^ 32 }
     requires own { own.now ≡ owners choices.now.asked choices.now.database }
     requires there { slice_get choices.now.database.links number ≡ Some link.now }
     ensures { result ≡ variable_of choices.now.asked choices.now.database number }
 {
-    variable(choices, own, number, link)
+    let owner = owner(choices, number, link);
+    own.partition_point(
+        |link: &u32| -> bool
+            ensures { result ≡ nat_lt link.now owner }
+        { *link < owner },
+    ) as u32
 }
 
-/// The present cost of a link's interface, or the default, or 0.
+/// The present cost of a link's interface; the default of the requests where it has none, and 0 where they have none.
 pub fn present_cost(requests: &Requests, link: &Linked) -> u16
     ensures { result ≡ present_cost requests.now link.now }
 {

@@ -12,7 +12,7 @@ use request_reader::{Item, Wish};
 use std::alloc::Global;
 use wanted_paths::Names;
 
-/// Whether a line makes each link symmetric that has a mate.
+/// Whether a line makes each link symmetric that has another end.
 fn ties_all(wish: &Wish) -> bool
     ensures { result ≡ ties_all wish.now }
 {
@@ -22,21 +22,21 @@ fn ties_all(wish: &Wish) -> bool
     }
 }
 
-/// Whether one of the lines makes each link symmetric that has a mate.
+/// Whether one of the lines makes each link symmetric that has another end.
 fn any_ties_all(items: &[Item]) -> bool
     ensures { result ≡ list_any (λ item. ties_all item.what) items.now }
 {
     items.iter().any(|item| ties_all(&item.what))
 }
 
-/// Whether a link is symmetric where `all` tells whether each is that has a mate.
+/// Whether a link is symmetric where `all` tells whether each is that has another end.
 fn is_tied(all: bool, link: &Linked) -> bool
     ensures { result ≡ (all && is_some link.now.mate) }
 {
     all && link.mate.is_some()
 }
 
-/// Marks each link that has a mate, if all such are symmetric.
+/// Marks each link that has another end, if all such are symmetric.
 fn tied_by_all(alloc: Global, names: &Names, all: bool) -> Result<Vec<bool>, OutOfMemory>
     ensures { IfOk result (λ marks. marks.items ≡ map (λ link. all && is_some link.mate) names.now.links) }
 {
@@ -83,7 +83,7 @@ fn mark_lines(names: &Names, items: &[Item], marks: &mut Vec<bool>)
     }
 }
 
-/// Whether a line makes each link symmetric, without its mate's lines. One pass over the lines, whose links are looked
+/// Whether a line makes each link symmetric, without the lines of its other end. One pass over the lines, whose links are looked
 /// up by their names.
 pub fn symmetric_by(alloc: Global, names: &Names, items: &[Item]) -> Result<Vec<bool>, OutOfMemory>
     ensures { IfOk result (λ marks. marks.items ≡ map (λ link. list_any (λ item. says_symmetric names.now link item.what) items.now) names.now.links) }

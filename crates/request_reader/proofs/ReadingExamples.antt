@@ -2,12 +2,13 @@
 use Rattle.std.proofs.Common.{◌≡◌, ℕ, refl, List, [], ◌∷◌, ◌++◌}
 use Rattle.std.specs.Prelude.{Option, Some, None, codes, map}
 use Rattle.std.specs.List.{concat}
+use Rattle.text_lines.specs.LineFaults.{FaultyLine}
 use Rattle.request_reader.specs.declared.Part.TheVariants.{Router, Interface}
 use Rattle.request_reader.specs.declared.Wish.TheVariants.{FreeAll, Free, Fix, Path, SymmetricAll, Symmetric}
 use Rattle.request_reader.specs.declared.stop.RequestFault.{RequestFault}
 use Rattle.request_reader.specs.declared.stop.RequestFault.TheVariants.{BadRequestLine, BadBounds}
 use Rattle.request_reader.specs.declared.reading.statement.Statement.TheVariants.{Passed, Ask, Refused}
-use Rattle.request_reader.specs.Reading.{FaultyLine, asked_by, request_fault, said_by}
+use Rattle.request_reader.specs.Reading.{asked_by, request_fault, said_by}
 
 -- a text of lines
 abbrev text : List (List ℕ) → List ℕ
@@ -16,7 +17,7 @@ text ls = concat (map (λ line. line ++ 10 ∷ []) ls)
 abbrev with_head : List (List ℕ) → List ℕ
 with_head ls = text (codes "ospfcost request 1" ∷ codes "area 0" ∷ ls)
 
-abbrev refused : RequestFault → ℕ → Option FaultyLine
+abbrev refused : RequestFault → ℕ → Option (FaultyLine RequestFault)
 refused fault line = Some (record { fault = fault; line = line })
 
 -- one line of each kind

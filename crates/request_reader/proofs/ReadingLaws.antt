@@ -1,13 +1,16 @@
 -- The lines of a request file, one after another.
 use Rattle.std.specs.Prelude.{nat_le, is_some}
-use Rattle.std.specs.List.{filter_map, cons_option, list_any}
+use Rattle.std.specs.List.{filter_map, list_any}
 use Rattle.std.specs.Option.{option_or}
-use Rattle.std.proofs.Common.{◌≡◌, ℕ, ◌+◌, ◌≤◌, refl, sym, ◌∙◌, ap, subst, List, [], ◌∷◌, ◌++◌, length, Bool, true, false, ◌||◌, Option, Some, None, append_assoc, append-nil, length-append, arith}
+use Rattle.std.proofs.Common.{◌≡◌, ℕ, ◌+◌, ◌≤◌, sym, ◌∙◌, ap, subst, List, [], ◌∷◌, ◌++◌, length, Bool, true, false, ◌||◌, Option, Some, None, append_assoc, append-nil, length-append, arith}
+use Rattle.std.proofs.Math.Bool.{or-false}
 use Rattle.std.proofs.lemmas.Bool.{le-leb, lt-leb, cond-true, cond-false}
 use Rattle.std.proofs.lemmas.List.Folds.{list_any-append}
 use Rattle.std.proofs.lemmas.List.Elements.{filter_map-append}
 use Rattle.cost_base.specs.Lists.{first_of}
+use Rattle.cost_base.proofs.ListLemmas.{first_of-push_option, option_or-none}
 use Rattle.text_lines.specs.Lines.{lines}
+use Rattle.text_lines.specs.LineFaults.{FaultyLine, fault_at, fault_in_line, line_faults}
 use Rattle.text_lines.specs.TextLeft.{TextLeft}
 use Rattle.text_lines.specs.Reading.{IsLineRead, IsLongLine}
 use Rattle.text_lines.specs.declared.line_reader.Line.{Line}
@@ -20,8 +23,9 @@ use Rattle.request_reader.specs.declared.reading.statement.Statement.TheVariants
 use Rattle.request_reader.specs.declared.stop.RequestStop.{RequestStop}
 use Rattle.request_reader.specs.declared.stop.RequestStop.TheVariants.{Refused as StopRefused, OutOfMemory}
 use Rattle.request_reader.specs.Asked.{Asked}
-use Rattle.request_reader.specs.Reading.{Told, FaultyLine, said_by, speaks, area_in, cost_in, item_in, items_from, told_by, fault_said, fault_of, fault_at, faults_at, line_faults, end_faults, request_fault, asked_of, asked_by, TellsReading}
-use Rattle.request_reader.specs.ReadingSteps.{told_with, fault_in_line}
+use Rattle.request_reader.specs.Reading.{Told, said_by, speaks, area_in, cost_in, item_in, items_from, told_by, fault_said, fault_of, fault_behind, end_faults, request_fault, asked_of, asked_by, TellsReading}
+use Rattle.request_reader.specs.ReadingSteps.{told_with}
+use Rattle.text_lines.proofs.FaultLaws.{IsReadTo, nothing_read, one_more_read, first_told, all_read}
 
 -- what some lines say together, and one line more
 abbrev told_more : Told → ℕ → Statement → Told
@@ -35,14 +39,8 @@ told_more told n said = record {
 first_push : {X : Type 0} (pick : Statement → Option X) (file : List (List ℕ)) (line : List ℕ) →
     first_of (filter_map (λ l. pick (said_by l)) (file ++ line ∷ []))
     ≡ option_or (first_of (filter_map (λ l. pick (said_by l)) file)) (pick (said_by line))
-first_push {X} pick file line = ap first_of (filter_map-append (λ l. pick (said_by l)) file (line ∷ []))
-    ∙ cases (pick (said_by line)) (filter_map (λ l. pick (said_by l)) file)
-  where
-    cases : (o : Option X) (xs : List X) → first_of (xs ++ cons_option o []) ≡ option_or (first_of xs) o
-    cases None [] = refl
-    cases (Some x) [] = refl
-    cases None (y ∷ ys) = refl
-    cases (Some x) (y ∷ ys) = refl
+first_push pick file line = ap first_of (filter_map-append (λ l. pick (said_by l)) file (line ∷ []))
+    ∙ first_of-push_option (pick (said_by line)) (filter_map (λ l. pick (said_by l)) file)
 
 items_push : (n : ℕ) (file : List (List ℕ)) (line : List ℕ) → items_from n (file ++ line ∷ []) ≡ items_from n file ++ item_in (n + length file) (said_by line)
 items_push n [] line = let place : n ≡ n + length {A = List ℕ} [] = omega arith in append-nil (item_in n (said_by line))
@@ -57,133 +55,95 @@ told_push : (file : List (List ℕ)) (line : List ℕ) → told_by (file ++ line
 told_push file line =
     let spoken : list_any (λ l. speaks (said_by l)) (file ++ line ∷ []) ≡ (list_any (λ l. speaks (said_by l)) file || speaks (said_by line)) =
     list_any-append (λ l. speaks (said_by l)) file (line ∷ [])
-    ∙ ap (λ (b : Bool). list_any (λ l. speaks (said_by l)) file || b) (or_none (speaks (said_by line))) in
+    ∙ ap (λ (b : Bool). list_any (λ l. speaks (said_by l)) file || b) (or-false (speaks (said_by line))) in
     let area = first_push area_in file line in
     let cost = first_push cost_in file line in
     let place : 1 + length file ≡ length file + 1 = omega arith in
     let items = items_push 1 file line ∙ ap (λ (k : ℕ). items_from 1 file ++ item_in k (said_by line)) place in
     cc (spoken, area, cost, items)
-  where
-    or_none : (b : Bool) → (b || false) ≡ b
-    or_none true = refl
-    or_none false = refl
-
-alone : (o : Option ℕ) → option_or o None ≡ o
-alone None = refl
-alone (Some x) = refl
 
 -- a line without a fault adds what it says
 told_is : (spoken : Bool) (area cost : Option ℕ) (items : List Item) (n : ℕ) (said : Statement) →
     fault_said (record { spoken = spoken; area = area; default_cost = cost; items = items }) said ≡ None →
     told_with (record { spoken = spoken; area = area; default_cost = cost; items = items }) n said
     ≡ told_more (record { spoken = spoken; area = area; default_cost = cost; items = items }) n said
-told_is true area cost items n Passed none = cc (alone area, alone cost, append-nil items)
-told_is false area cost items n Passed none = cc (alone area, alone cost, append-nil items)
+told_is true area cost items n Passed none = cc (option_or-none area, option_or-none cost, append-nil items)
+told_is false area cost items n Passed none = cc (option_or-none area, option_or-none cost, append-nil items)
 told_is true area cost items n Header none = absurd (cc)
-told_is false area cost items n Header none = cc (alone area, alone cost, append-nil items)
+told_is false area cost items n Header none = cc (option_or-none area, option_or-none cost, append-nil items)
 told_is false area cost items n (Area a) none = absurd (cc)
 told_is true (Some b) cost items n (Area a) none = absurd (cc)
-told_is true None cost items n (Area a) none = cc (alone cost, append-nil items)
+told_is true None cost items n (Area a) none = cc (option_or-none cost, append-nil items)
 told_is false area cost items n (DefaultCost d) none = absurd (cc)
 told_is true area (Some b) items n (DefaultCost d) none = absurd (cc)
-told_is true area None items n (DefaultCost d) none = cc (alone area, append-nil items)
+told_is true area None items n (DefaultCost d) none = cc (option_or-none area, append-nil items)
 told_is false area cost items n (Ask wish) none = absurd (cc)
-told_is true area cost items n (Ask wish) none = cc (alone area, alone cost)
+told_is true area cost items n (Ask wish) none = cc (option_or-none area, option_or-none cost)
 told_is true area cost items n (Refused fault) none = absurd (cc)
 told_is false area cost items n (Refused fault) none = absurd (cc)
 
 -- what was read stands for some lines without a fault, and the others are left
 pub record ReadTo (bytes : List ℕ) (left : TextLeft) (told : Told) : Type 0 where
   pub file : List (List ℕ)
-  pub longest : left.longest ≡ 65536
-  pub read : left.read ≡ length file
-  pub all : lines bytes ≡ file ++ lines left.bytes
+  pub to : IsReadTo fault_behind bytes left file
   pub told_is : told ≡ told_by file
-  pub faults : line_faults [] (lines bytes) ≡ line_faults file (lines left.bytes)
 
 pub read_begin : (bytes : List ℕ) (left : TextLeft) (told : Told) →
     left ≡ record { bytes = bytes; read = 0; ended = true; longest = 65536 } → told ≡ told_by [] →
     ReadTo bytes left told
-read_begin bytes left told is none =
-    let same : left.bytes ≡ bytes = ap (λ (t : TextLeft). t.bytes) is in
-    record {
-      file = [];
-      longest = ap (λ (t : TextLeft). t.longest) is;
-      read = ap (λ (t : TextLeft). t.read) is;
-      all = ap lines (sym same);
-      told_is = none;
-      faults = ap (λ (b : List ℕ). line_faults [] (lines b)) (sym same);
-    }
+read_begin bytes left told is none = record { file = []; to = nothing_read fault_behind bytes left is; told_is = none }
 
 -- a line of lawful length has the fault of what it says
 short_fault : (told : Told) (text : List ℕ) → length text ≤ 65536 → fault_of told text ≡ fault_said told (said_by text)
 short_fault told text short = cond-true (nat_le (length text) 65536) (fault_said told (said_by text)) (Some BadRequestLine) (le-leb (length text) 65536 short)
 
--- the faults from a line on
-faults_next : (bytes : List ℕ) (left : TextLeft) (told : Told) (line : List ℕ) (more : List (List ℕ))
-    (fault : Option RequestFault) (to : ReadTo bytes left told) → lines left.bytes ≡ line ∷ more →
-    fault_of told line ≡ fault →
-    line_faults [] (lines bytes) ≡ faults_at (left.read + 1) fault ++ line_faults (to.file ++ line ∷ []) more
-faults_next bytes left told line more fault to is found =
-    to.faults ∙ ap (line_faults to.file) is
-    ∙ ap (λ (o : Option RequestFault). faults_at (length to.file + 1) o ++ line_faults (to.file ++ line ∷ []) more)
-    (ap (λ (t : Told). fault_of t line) (sym to.told_is) ∙ found)
-    ∙ ap (λ (k : ℕ). faults_at (k + 1) fault ++ line_faults (to.file ++ line ∷ []) more) (sym to.read)
-
 pub read_more : (bytes : List ℕ) (left next : TextLeft) (told after : Told) (line : Line) → ReadTo bytes left told →
     IsLineRead left next line → fault_said told (said_by line.text.now) ≡ None →
     after ≡ told_with told line.number (said_by line.text.now) → ReadTo bytes next after
-read_more bytes left next told after line to read lawful is =
+read_more bytes left next told after line so_far read lawful is =
     let text = line.text.now in
-    let found : fault_of told text ≡ None = short_fault told text (omega (arith, read.1.within, to.longest)) ∙ lawful in
-    let number : line.number ≡ length to.file + 1 = omega (arith, read.1.counted, to.read) in
+    let found : fault_of told text ≡ None = short_fault told text (omega (arith, read.1.within, so_far.to.longest)) ∙ lawful in
+    let number : line.number ≡ length so_far.file + 1 = omega (arith, read.1.counted, so_far.to.read) in
     record {
-      file = to.file ++ text ∷ [];
-      longest = read.0.longest ∙ to.longest;
-      read = omega (arith, read.0.read, to.read, length-append to.file (text ∷ []));
-      all = to.all ∙ ap (λ (ls : List (List ℕ)). to.file ++ ls) read.0.first.first ∙ sym (append_assoc to.file (text ∷ []) (lines next.bytes));
+      file = so_far.file ++ text ∷ [];
+      to = one_more_read fault_behind bytes left next so_far.file line so_far.to read (ap (λ (t : Told). fault_of t text) (sym so_far.told_is) ∙ found);
       told_is =
           is ∙ told_is told.spoken told.area told.default_cost told.items line.number (said_by text) lawful
-          ∙ ap (λ (t : Told). told_more t line.number (said_by text)) to.told_is
-          ∙ ap (λ (n : ℕ). told_more (told_by to.file) n (said_by text)) number
-          ∙ sym (told_push to.file text);
-      faults = faults_next bytes left told text (lines next.bytes) None to read.0.first.first found;
+          ∙ ap (λ (t : Told). told_more t line.number (said_by text)) so_far.told_is
+          ∙ ap (λ (n : ℕ). told_more (told_by so_far.file) n (said_by text)) number
+          ∙ sym (told_push so_far.file text);
     }
 
--- the fault of a line is the first where no line before it has one
-tells_first : (n : ℕ) (fault : Option RequestFault) (more others : List FaultyLine) (stop : RequestStop) →
-    TellsReading (fault_in_line n fault) stop → TellsReading (first_of ((faults_at n fault ++ more) ++ others)) stop
-tells_first n fault more others OutOfMemory tells = tt
-tells_first n None more others (StopRefused told line) tells = absurd (cc)
-tells_first n (Some fault) more others (StopRefused told line) tells = tells
+-- a stop that tells no fault tells nothing
+tells_none : (stop : RequestStop) (faulty : Option (FaultyLine RequestFault)) → TellsReading None stop → TellsReading faulty stop
+tells_none OutOfMemory faulty tells = tt
+tells_none (StopRefused fault line) faulty tells = absurd (cc)
 
 refused_at : (bytes : List ℕ) (left : TextLeft) (told : Told) (line : List ℕ) (more : List (List ℕ))
     (fault : Option RequestFault) (number : ℕ) (stop : RequestStop) → ReadTo bytes left told →
     lines left.bytes ≡ line ∷ more → fault_of told line ≡ fault → number ≡ left.read + 1 →
     TellsReading (fault_in_line number fault) stop → TellsReading (request_fault bytes) stop
-refused_at bytes left told line more fault number stop to is found counted tells =
-    subst (λ (o : Option FaultyLine). TellsReading o stop)
-    (ap (λ (faults : List FaultyLine). first_of (faults ++ end_faults (lines bytes))) (sym (faults_next bytes left told line more fault to is found)))
-    (tells_first (left.read + 1) fault (line_faults (to.file ++ line ∷ []) more) (end_faults (lines bytes)) stop
-    (subst (λ (n : ℕ). TellsReading (fault_in_line n fault) stop) counted tells))
+refused_at bytes left told line more fault number stop so_far is found counted tells =
+    first_told fault_behind bytes left so_far.file line more fault number (end_faults (lines bytes)) (λ faulty. TellsReading faulty stop)
+    (tells_none stop) so_far.to is (ap (λ (t : Told). fault_of t line) (sym so_far.told_is) ∙ found) counted tells
 
 -- a line is refused for what it says
 pub read_refused : (bytes : List ℕ) (left next : TextLeft) (told : Told) (line : Line) (stop : RequestStop) →
     ReadTo bytes left told → IsLineRead left next line →
     TellsReading (fault_in_line line.number (fault_said told (said_by line.text.now))) stop →
     TellsReading (request_fault bytes) stop
-read_refused bytes left next told line stop to read tells =
-    refused_at bytes left told line.text.now (lines next.bytes) (fault_said told (said_by line.text.now)) line.number stop to read.0.first.first
-    (short_fault told line.text.now (omega (arith, read.1.within, to.longest))) read.1.counted tells
+read_refused bytes left next told line stop so_far read tells =
+    refused_at bytes left told line.text.now (lines next.bytes) (fault_said told (said_by line.text.now)) line.number stop so_far read.0.first.first
+    (short_fault told line.text.now (omega (arith, read.1.within, so_far.to.longest))) read.1.counted tells
 
 -- a line is refused for its length
 pub read_long : (bytes : List ℕ) (left next : TextLeft) (told : Told) (long : LongLine) (stop : RequestStop) →
     ReadTo bytes left told → IsLongLine left next long →
     TellsReading (Some (fault_at long.number BadRequestLine)) stop → TellsReading (request_fault bytes) stop
-read_long bytes left next told long stop to (line, over, is_long) tells =
-    refused_at bytes left told line (lines next.bytes) (Some BadRequestLine) long.number stop to over.first.first
+read_long bytes left next told long stop so_far (line, over, is_long) tells =
+    refused_at bytes left told line (lines next.bytes) (Some BadRequestLine) long.number stop so_far over.first.first
     (cond-false (nat_le (length line) 65536) (fault_said told (said_by line)) (Some BadRequestLine)
-    (lt-leb (length line) 65536 (omega (arith, is_long.over, to.longest))))
+    (lt-leb (length line) 65536 (omega (arith, is_long.over, so_far.to.longest))))
     is_long.counted tells
 
 -- at the end, the lines that were read are all lines, and none of them has a fault
@@ -193,13 +153,12 @@ record ReadAll (bytes : List ℕ) (read : ℕ) (told : Told) : Type 0 where
   fault : request_fault bytes ≡ first_of (end_faults (lines bytes))
 
 read_all : (bytes : List ℕ) (left : TextLeft) (told : Told) → ReadTo bytes left told → left.bytes ≡ [] → ReadAll bytes left.read told
-read_all bytes left told to end =
-    let all : lines bytes ≡ to.file = to.all ∙ ap (λ (b : List ℕ). to.file ++ lines b) end ∙ append-nil to.file in
+read_all bytes left told so_far end =
+    let all = all_read fault_behind bytes left so_far.file so_far.to end in
     record {
-      told_is = ap told_by all ∙ sym to.told_is;
-      read_is = ap length all ∙ sym to.read;
-      fault = ap (λ (faults : List FaultyLine). first_of (faults ++ end_faults (lines bytes)))
-          (to.faults ∙ ap (λ (b : List ℕ). line_faults to.file (lines b)) end);
+      told_is = ap told_by all.0 ∙ sym so_far.told_is;
+      read_is = ap length all.0 ∙ sym so_far.to.read;
+      fault = ap (λ (faults : List (FaultyLine RequestFault)). first_of (faults ++ end_faults (lines bytes))) all.1;
     }
 
 pub read_made : (bytes : List ℕ) (left : TextLeft) (told : Told) (asked : Asked) → ReadTo bytes left told →
@@ -218,7 +177,7 @@ pub read_missing : (bytes : List ℕ) (left : TextLeft) (told : Told) (lines_rea
     TellsReading (Some (fault_at (lines_read + 1) BadRequestLine)) stop → TellsReading (request_fault bytes) stop
 read_missing bytes left told lines_read stop to end count none tells =
     let done = read_all bytes left told to end in
-    subst (λ (o : Option FaultyLine). TellsReading o stop)
+    subst (λ (o : Option (FaultyLine RequestFault)). TellsReading o stop)
     (sym (done.fault ∙ ap first_of
     (cond-false (is_some (told_by (lines bytes)).area) []
     (fault_at (length (lines bytes) + 1) BadRequestLine ∷ [])

@@ -3,6 +3,7 @@ use Rattle.std.specs.Prelude.{◌≡◌, ℕ, ◌+◌, List, [], ◌∷◌, ◌+
 use Rattle.std.specs.List.{filter_map, list_any}
 use Rattle.cost_base.specs.Lists.{first_of}
 use Rattle.text_lines.specs.Lines.{lines, words}
+use Rattle.text_lines.specs.LineFaults.{FaultyLine, fault_at, line_faults}
 use Rattle.request_reader.specs.declared.Item.{Item}
 use Rattle.request_reader.specs.declared.stop.RequestFault.{RequestFault}
 use Rattle.request_reader.specs.declared.stop.RequestFault.TheVariants.{BadRequestLine, TooManyPaths}
@@ -74,34 +75,20 @@ fault_said told statement = if told.spoken then fault_behind_header told stateme
 abbrev pub fault_of : Told → List ℕ → Option RequestFault
 fault_of told line = if nat_le (length line) 65536 then fault_said told (said_by line) else Some BadRequestLine
 
--- a fault, and the line at which it stands
-pub record FaultyLine : Type 0 where
-  pub fault : RequestFault
-  pub line : ℕ
-
-abbrev pub fault_at : ℕ → RequestFault → FaultyLine
-fault_at n fault = record { fault = fault; line = n }
-
-abbrev pub faults_at : ℕ → Option RequestFault → List FaultyLine
-faults_at n None = []
-faults_at n (Some fault) = fault_at n fault ∷ []
-
--- the faults of these lines, which follow some lines
-abbrev pub line_faults : List (List ℕ) → List (List ℕ) → List FaultyLine
-line_faults before [] = []
-line_faults before (line ∷ more) =
-    faults_at (length before + 1) (fault_of (told_by before) line) ++ line_faults (before ++ line ∷ []) more
+-- the fault of a line behind these lines
+abbrev pub fault_behind : List (List ℕ) → List ℕ → Option RequestFault
+fault_behind before line = fault_of (told_by before) line
 
 -- the fault of a text that says no area, as of one that has no header: it stands behind the last line
-abbrev pub end_faults : List (List ℕ) → List FaultyLine
+abbrev pub end_faults : List (List ℕ) → List (FaultyLine RequestFault)
 end_faults file = if is_some (told_by file).area then [] else fault_at (length file + 1) BadRequestLine ∷ []
 
 -- the faults of a request file, in the order of its lines
-abbrev pub request_faults : List (List ℕ) → List FaultyLine
-request_faults file = line_faults [] file ++ end_faults file
+abbrev pub request_faults : List (List ℕ) → List (FaultyLine RequestFault)
+request_faults file = line_faults fault_behind [] file ++ end_faults file
 
 -- the fault for which a request file is refused
-abbrev pub request_fault : List ℕ → Option FaultyLine
+abbrev pub request_fault : List ℕ → Option (FaultyLine RequestFault)
 request_fault bytes = first_of (request_faults (lines bytes))
 
 abbrev pub asked_of : Told → Asked
@@ -112,6 +99,6 @@ abbrev pub asked_by : List ℕ → Asked
 asked_by bytes = asked_of (told_by (lines bytes))
 
 -- a stop tells the fault; want of memory says nothing
-abbrev pub TellsReading : Option FaultyLine → RequestStop → Type 0
+abbrev pub TellsReading : Option (FaultyLine RequestFault) → RequestStop → Type 0
 TellsReading faulty (StopRefused fault line) = faulty ≡ Some (fault_at line fault)
 TellsReading faulty OutOfMemory = Unit {0}

@@ -5,7 +5,7 @@ use Rattle.request_reader.specs.declared.stop.RequestFault.{RequestFault}
 use Rattle.request_reader.specs.declared.reading.statement.Statement.{Statement}
 use Rattle.request_reader.specs.declared.reading.statement.Statement.TheVariants.{Passed, Header, Area, DefaultCost, Ask, Refused}
 use Rattle.request_reader.specs.Asked.{KeepsBounds, IsDefault, is_path}
-use Rattle.request_reader.specs.Reading.{Told, FaultyLine, fault_at}
+use Rattle.request_reader.specs.Reading.{Told}
 
 -- what is said together with one line more, of number n, that has no fault
 abbrev pub told_with : Told → ℕ → Statement → Told
@@ -15,11 +15,6 @@ told_with told n (Area a) = record told { area = Some a }
 told_with told n (DefaultCost cost) = record told { default_cost = Some cost }
 told_with told n (Ask wish) = record told { items = told.items ++ record { line = n; what = wish } ∷ [] }
 told_with told n (Refused fault) = told
-
--- the fault of a line of number n
-abbrev pub fault_in_line : ℕ → Option RequestFault → Option FaultyLine
-fault_in_line n None = None
-fault_in_line n (Some fault) = Some (fault_at n fault)
 
 -- what a line says keeps the rules of requests
 abbrev pub KeepsRules : Statement → Type 0

@@ -1,7 +1,8 @@
 //! Reads a request file.
 ghost use Rattle.std.specs.Prelude.{◌≡◌, ◌-◌, ◌^◌, ◌<◌, None, length, IfOk, IfErr, OnOk};
+ghost use Rattle.text_lines.specs.LineFaults.{fault_in_line};
 ghost use Rattle.request_reader.specs.Reading.{asked_by, said_by, fault_said, request_fault, TellsReading};
-ghost use Rattle.request_reader.specs.ReadingSteps.{told_with, fault_in_line};
+ghost use Rattle.request_reader.specs.ReadingSteps.{told_with};
 
 mod line;
 mod path;

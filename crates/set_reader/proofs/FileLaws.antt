@@ -2,11 +2,13 @@
 use Rattle.std.specs.Prelude.{nat_le, if◌then◌else◌}
 use Rattle.std.specs.List.{cons_option, list_any, AllZip}
 use Rattle.std.proofs.Common.{◌≡◌, ℕ, ◌+◌, ◌≤◌, refl, sym, ◌∙◌, ap, subst, List, [], ◌∷◌, ◌++◌, length, Bool, true, false, ◌||◌, Option, Some, None, append_assoc, append-nil, length-append, arith}
+use Rattle.std.proofs.Math.Bool.{or-false}
 use Rattle.std.proofs.lemmas.Bool.{le-leb, lt-leb, cond-true, cond-false}
 use Rattle.std.proofs.lemmas.List.Folds.{list_any-append}
 use Rattle.std.proofs.lemmas.List.Elements.{filter_map-append, AllZip-push}
 use Rattle.cost_base.specs.Lists.{first_of}
 use Rattle.text_lines.specs.Lines.{lines}
+use Rattle.text_lines.specs.LineFaults.{FaultyLine, fault_at, fault_in_line, line_faults}
 use Rattle.text_lines.specs.TextLeft.{TextLeft}
 use Rattle.text_lines.specs.Reading.{IsLineRead, IsLongLine}
 use Rattle.text_lines.specs.declared.line_reader.Line.{Line}
@@ -20,18 +22,15 @@ use Rattle.set_reader.specs.declared.reading.statement.Statement.TheVariants.{Pa
 use Rattle.set_reader.specs.declared.stop.SetStop.{SetStop}
 use Rattle.set_reader.specs.declared.stop.SetStop.TheVariants.{Refused, OutOfMemory}
 use Rattle.set_reader.specs.SetLines.{said_by, speaks, numbers_in}
-use Rattle.set_reader.specs.Reading.{Told, FaultyLine, IsInOrder, AreSaid, told_by, wrong_if, fault_said, fault_of, fault_at, faults_at, line_faults, end_faults, set_fault, TellsReading}
-use Rattle.set_reader.specs.ReadingSteps.{SoFar, Adds, TakesLine, told_of, fault_in_line}
+use Rattle.set_reader.specs.Reading.{Told, IsInOrder, AreSaid, told_by, wrong_if, fault_said, fault_of, fault_behind, end_faults, set_fault, TellsReading}
+use Rattle.set_reader.specs.ReadingSteps.{SoFar, Adds, TakesLine, told_of}
+use Rattle.text_lines.proofs.FaultLaws.{IsReadTo, nothing_read, one_more_read, first_told, all_read}
 use Rattle.set_reader.proofs.SetLaws.{wrong_alike}
 
 -- what some lines say together, and one line more
 spoken_push : (file : List (List ℕ)) (line : List ℕ) → (told_by (file ++ line ∷ [])).spoken ≡ ((told_by file).spoken || speaks (said_by line))
 spoken_push file line = list_any-append (λ l. speaks (said_by l)) file (line ∷ [])
-    ∙ ap (λ (b : Bool). list_any (λ l. speaks (said_by l)) file || b) (or_none (speaks (said_by line)))
-  where
-    or_none : (b : Bool) → (b || false) ≡ b
-    or_none true = refl
-    or_none false = refl
+    ∙ ap (λ (b : Bool). list_any (λ l. speaks (said_by l)) file || b) (or-false (speaks (said_by line)))
 
 sets_push : (file : List (List ℕ)) (line : List ℕ) → (told_by (file ++ line ∷ [])).sets ≡ (told_by file).sets ++ cons_option (numbers_in (said_by line)) []
 sets_push file line = filter_map-append (λ l. numbers_in (said_by l)) file (line ∷ [])
@@ -55,28 +54,21 @@ faults_alike requests spoken said sets (Numbers numbers) orders =
 -- what was read stands for some lines without a fault, and the others are left
 pub record ReadTo (p : DesignProblem) (bytes : List ℕ) (left : TextLeft) (so_far : SoFar) : Type 0 where
   pub file : List (List ℕ)
-  pub longest : left.longest ≡ 65536
-  pub read : left.read ≡ length file
-  pub all : lines bytes ≡ file ++ lines left.bytes
+  pub to : IsReadTo (fault_behind p.paths) bytes left file
   pub problem : so_far.problem ≡ p
   pub spoken : so_far.spoken ≡ (told_by file).spoken
   pub orders : AllZip IsInOrder (told_by file).sets so_far.sets
-  pub faults : line_faults p.paths [] (lines bytes) ≡ line_faults p.paths file (lines left.bytes)
 
 pub read_begin : (p : DesignProblem) (bytes : List ℕ) (left : TextLeft) (so_far : SoFar) →
     left ≡ record { bytes = bytes; read = 0; ended = true; longest = 65536 } →
     so_far ≡ record { problem = p; spoken = false; sets = [] } → ReadTo p bytes left so_far
 read_begin p bytes left so_far is none =
-    let same : left.bytes ≡ bytes = ap (λ (t : TextLeft). t.bytes) is in
     record {
       file = [];
-      longest = ap (λ (t : TextLeft). t.longest) is;
-      read = ap (λ (t : TextLeft). t.read) is;
-      all = ap lines (sym same);
+      to = nothing_read (fault_behind p.paths) bytes left is;
       problem = ap (λ (s : SoFar). s.problem) none;
       spoken = ap (λ (s : SoFar). s.spoken) none;
       orders = rw (ap (λ (s : SoFar). s.sets) none) tt;
-      faults = ap (λ (b : List ℕ). line_faults p.paths [] (lines b)) (sym same);
     }
 
 -- what the reader finds at a statement is what the lines before it say of it
@@ -95,73 +87,57 @@ short_fault requests told text short =
     cond-true (nat_le (length text) 65536) (fault_said requests told (said_by text)) (Some BadSetLine)
     (le-leb (length text) 65536 short)
 
--- the faults from a line on
-faults_next : (p : DesignProblem) (bytes : List ℕ) (left : TextLeft) (so_far : SoFar) (line : List ℕ)
-    (more : List (List ℕ)) (fault : Option SetFault) (to : ReadTo p bytes left so_far) →
-    lines left.bytes ≡ line ∷ more → fault_of p.paths (told_by to.file) line ≡ fault →
-    line_faults p.paths [] (lines bytes) ≡ faults_at (left.read + 1) fault
-    ++ line_faults p.paths (to.file ++ line ∷ []) more
-faults_next p bytes left so_far line more fault to is found =
-    to.faults ∙ ap (line_faults p.paths to.file) is
-    ∙ ap (λ (o : Option SetFault). faults_at (length to.file + 1) o ++ line_faults p.paths (to.file ++ line ∷ []) more) found
-    ∙ ap (λ (k : ℕ). faults_at (k + 1) fault ++ line_faults p.paths (to.file ++ line ∷ []) more) (sym to.read)
-
 pub read_more : (p : DesignProblem) (bytes : List ℕ) (left next : TextLeft) (so_far after : SoFar) (line : Line) →
     ReadTo p bytes left so_far → IsLineRead left next line →
     fault_said so_far.problem.paths (told_of so_far) (said_by line.text.now) ≡ None →
     TakesLine so_far (said_by line.text.now) after → ReadTo p bytes next after
-read_more p bytes left next so_far after line to read lawful taken =
+read_more p bytes left next so_far after line so_read read lawful taken =
     let text = line.text.now in
-    let found : fault_of p.paths (told_by to.file) text ≡ None =
-    short_fault p.paths (told_by to.file) text (omega (arith, read.1.within, to.longest)) ∙ fault_found p bytes left so_far (said_by text) to ∙ lawful in
+    let found : fault_of p.paths (told_by so_read.file) text ≡ None =
+    short_fault p.paths (told_by so_read.file) text (omega (arith, read.1.within, so_read.to.longest))
+    ∙ fault_found p bytes left so_far (said_by text) so_read ∙ lawful in
     record {
-      file = to.file ++ text ∷ [];
-      longest = read.0.longest ∙ to.longest;
-      read = omega (arith, read.0.read, to.read, length-append to.file (text ∷ []));
-      all = to.all ∙ ap (λ (ls : List (List ℕ)). to.file ++ ls) read.0.first.first ∙ sym (append_assoc to.file (text ∷ []) (lines next.bytes));
-      problem = taken.problem ∙ to.problem;
-      spoken = taken.spoken ∙ ap (λ (b : Bool). b || speaks (said_by text)) to.spoken ∙ sym (spoken_push to.file text);
-      orders = rw (sets_push to.file text) (orders_push (numbers_in (said_by text)) (told_by to.file).sets so_far.sets after.sets to.orders taken.sets);
-      faults = faults_next p bytes left so_far text (lines next.bytes) None to read.0.first.first found;
+      file = so_read.file ++ text ∷ [];
+      to = one_more_read (fault_behind p.paths) bytes left next so_read.file line so_read.to read found;
+      problem = taken.problem ∙ so_read.problem;
+      spoken = taken.spoken ∙ ap (λ (b : Bool). b || speaks (said_by text)) so_read.spoken ∙ sym (spoken_push so_read.file text);
+      orders = rw (sets_push so_read.file text)
+          (orders_push (numbers_in (said_by text)) (told_by so_read.file).sets so_far.sets after.sets so_read.orders taken.sets);
     }
 
--- the fault of a line is the first where no line before it has one
-tells_first : (n : ℕ) (fault : Option SetFault) (more others : List FaultyLine) (stop : SetStop) →
-    TellsReading (fault_in_line n fault) stop → TellsReading (first_of ((faults_at n fault ++ more) ++ others)) stop
-tells_first n fault more others OutOfMemory tells = tt
-tells_first n None more others (Refused told line) tells = absurd (cc)
-tells_first n (Some fault) more others (Refused told line) tells = tells
+-- a stop that tells no fault tells nothing
+tells_none : (stop : SetStop) (faulty : Option (FaultyLine SetFault)) → TellsReading None stop → TellsReading faulty stop
+tells_none OutOfMemory faulty tells = tt
+tells_none (Refused fault line) faulty tells = absurd (cc)
 
 refused_at : (p : DesignProblem) (bytes : List ℕ) (left : TextLeft) (so_far : SoFar) (line : List ℕ)
     (more : List (List ℕ)) (fault : Option SetFault) (number : ℕ) (stop : SetStop) (to : ReadTo p bytes left so_far) →
     lines left.bytes ≡ line ∷ more → fault_of p.paths (told_by to.file) line ≡ fault → number ≡ left.read + 1 →
     TellsReading (fault_in_line number fault) stop → TellsReading (set_fault p bytes) stop
-refused_at p bytes left so_far line more fault number stop to is found counted tells =
-    subst (λ (o : Option FaultyLine). TellsReading o stop)
-    (ap (λ (faults : List FaultyLine). first_of (faults ++ end_faults (lines bytes))) (sym (faults_next p bytes left so_far line more fault to is found)))
-    (tells_first (left.read + 1) fault (line_faults p.paths (to.file ++ line ∷ []) more) (end_faults (lines bytes)) stop
-    (subst (λ (n : ℕ). TellsReading (fault_in_line n fault) stop) counted tells))
+refused_at p bytes left so_far line more fault number stop so_read is found counted tells =
+    first_told (fault_behind p.paths) bytes left so_read.file line more fault number (end_faults (lines bytes))
+    (λ faulty. TellsReading faulty stop) (tells_none stop) so_read.to is found counted tells
 
 -- a line is refused for what it says
 pub read_refused : (p : DesignProblem) (bytes : List ℕ) (left next : TextLeft) (so_far : SoFar) (line : Line)
     (stop : SetStop) → ReadTo p bytes left so_far → IsLineRead left next line →
     TellsReading (fault_in_line line.number (fault_said so_far.problem.paths (told_of so_far) (said_by line.text.now)))
     stop → TellsReading (set_fault p bytes) stop
-read_refused p bytes left next so_far line stop to read tells =
+read_refused p bytes left next so_far line stop so_read read tells =
     refused_at p bytes left so_far line.text.now (lines next.bytes)
-    (fault_said so_far.problem.paths (told_of so_far) (said_by line.text.now)) line.number stop to
+    (fault_said so_far.problem.paths (told_of so_far) (said_by line.text.now)) line.number stop so_read
     read.0.first.first
-    (short_fault p.paths (told_by to.file) line.text.now (omega (arith, read.1.within, to.longest))
-    ∙ fault_found p bytes left so_far (said_by line.text.now) to) read.1.counted tells
+    (short_fault p.paths (told_by so_read.file) line.text.now (omega (arith, read.1.within, so_read.to.longest))
+    ∙ fault_found p bytes left so_far (said_by line.text.now) so_read) read.1.counted tells
 
 -- a line is refused for its length
 pub read_long : (p : DesignProblem) (bytes : List ℕ) (left next : TextLeft) (so_far : SoFar) (long : LongLine)
     (stop : SetStop) → ReadTo p bytes left so_far → IsLongLine left next long →
     TellsReading (Some (fault_at long.number BadSetLine)) stop → TellsReading (set_fault p bytes) stop
-read_long p bytes left next so_far long stop to (line, over, is_long) tells =
-    refused_at p bytes left so_far line (lines next.bytes) (Some BadSetLine) long.number stop to over.first.first
-    (cond-false (nat_le (length line) 65536) (fault_said p.paths (told_by to.file) (said_by line)) (Some BadSetLine)
-    (lt-leb (length line) 65536 (omega (arith, is_long.over, to.longest))))
+read_long p bytes left next so_far long stop so_read (line, over, is_long) tells =
+    refused_at p bytes left so_far line (lines next.bytes) (Some BadSetLine) long.number stop so_read over.first.first
+    (cond-false (nat_le (length line) 65536) (fault_said p.paths (told_by so_read.file) (said_by line)) (Some BadSetLine)
+    (lt-leb (length line) 65536 (omega (arith, is_long.over, so_read.to.longest))))
     is_long.counted tells
 
 -- at the end, the lines that were read are all lines, and none of them has a fault
@@ -173,14 +149,13 @@ record ReadAll (p : DesignProblem) (bytes : List ℕ) (read : ℕ) (so_far : SoF
 
 read_all : (p : DesignProblem) (bytes : List ℕ) (left : TextLeft) (so_far : SoFar) → ReadTo p bytes left so_far →
     left.bytes ≡ [] → ReadAll p bytes left.read so_far
-read_all p bytes left so_far to end =
-    let all : lines bytes ≡ to.file = to.all ∙ ap (λ (b : List ℕ). to.file ++ lines b) end ∙ append-nil to.file in
+read_all p bytes left so_far so_read end =
+    let all = all_read (fault_behind p.paths) bytes left so_read.file so_read.to end in
     record {
-      spoken = ap (λ (file : List (List ℕ)). (told_by file).spoken) all ∙ sym to.spoken;
-      orders = rw all to.orders;
-      read_is = ap length all ∙ sym to.read;
-      fault = ap (λ (faults : List FaultyLine). first_of (faults ++ end_faults (lines bytes)))
-          (to.faults ∙ ap (λ (b : List ℕ). line_faults p.paths to.file (lines b)) end);
+      spoken = ap (λ (file : List (List ℕ)). (told_by file).spoken) all.0 ∙ sym so_read.spoken;
+      orders = rw all.0 so_read.orders;
+      read_is = ap length all.0 ∙ sym so_read.to.read;
+      fault = ap (λ (faults : List (FaultyLine SetFault)). first_of (faults ++ end_faults (lines bytes))) all.1;
     }
 
 pub read_made : (p : DesignProblem) (bytes : List ℕ) (left : TextLeft) (so_far : SoFar) (sets : List (List ℕ)) →
@@ -197,7 +172,7 @@ pub read_missing : (p : DesignProblem) (bytes : List ℕ) (left : TextLeft) (so_
     TellsReading (Some (fault_at (lines_read + 1) BadSetLine)) stop → TellsReading (set_fault p bytes) stop
 read_missing p bytes left so_far lines_read stop to end count none tells =
     let done = read_all p bytes left so_far to end in
-    subst (λ (o : Option FaultyLine). TellsReading o stop)
+    subst (λ (o : Option (FaultyLine SetFault)). TellsReading o stop)
     (sym (done.fault ∙ ap first_of (cond-false (told_by (lines bytes)).spoken [] (fault_at (length (lines bytes) + 1) BadSetLine ∷ []) (done.spoken ∙ none))
     ∙ ap (λ (n : ℕ). Some (fault_at (n + 1) BadSetLine)) (done.read_is ∙ sym count)))
     tells

@@ -11,6 +11,7 @@ use Rattle.std.proofs.lemmas.List.Quantifiers.{all_pairs_push}
 use Rattle.std.proofs.lemmas.List.Sorted.{IsPermutation-refl, IsPermutation-sym, IsPermutation-append, length_permutation, All-permutation, Contains-permutation, list_any-IsPermutation}
 use Rattle.std.proofs.lemmas.Map.Views.{list_any-from_Contains}
 use Rattle.cost_base.proofs.ByteLemmas.{same_bytes-same}
+use Rattle.cost_base.proofs.ListLemmas.{none_passes}
 use Rattle.area_graph.specs.Distances.{AreMarks}
 use Rattle.area_graph.proofs.GoneMarks.{no_marks}
 use Rattle.path_rows.specs.declared.problem.Request.{Request}
@@ -19,12 +20,6 @@ use Rattle.set_reader.specs.SpreadSets.{IsSetOf}
 use Rattle.set_reader.specs.Reading.{stands_in, same_ends, has_other_ends, has_edges_of, takes_away, is_wrong_behind, is_wrong_from, is_wrong_set, IsInOrder}
 use Rattle.set_reader.specs.ReadingSteps.{KeepsSets}
 use Rattle.set_reader.proofs.MemberLaws.{edges_at}
-
--- A test that no element of a list passes, at one of them.
-none_passes : {X : Type 0} (p : X → Bool) (xs : List X) → list_any p xs ≡ false → (k : ℕ) (d : X) → k < length xs → p (get_or xs k d) ≡ false
-none_passes p [] none k d within = absurd (omega (arith, within))
-none_passes p (x ∷ xs) none zero d within = (or_parts (p x) (list_any p xs) none).0
-none_passes p (x ∷ xs) none (suc k) d within = none_passes p xs (or_parts (p x) (list_any p xs) none).1 k d (omega (arith, within))
 
 -- Numbers that may stand together behind earlier ones.
 record AreRight (requests : List Request) (earlier members : List ℕ) : Type 0 where

@@ -4,6 +4,7 @@ use Rattle.std.specs.List.{filter_map, list_any, concat, AllZip}
 use Rattle.std.specs.List.Sorted.{IsStrictlyIncreasing}
 use Rattle.cost_base.specs.Lists.{first_of, same_bytes}
 use Rattle.text_lines.specs.Lines.{lines}
+use Rattle.text_lines.specs.LineFaults.{FaultyLine, fault_at, line_faults}
 use Rattle.path_rows.specs.declared.problem.Request.{Request}
 use Rattle.path_rows.specs.Problems.{DesignProblem, request_at}
 use Rattle.set_reader.specs.declared.stop.SetFault.{SetFault}
@@ -86,34 +87,20 @@ fault_said requests told statement = if told.spoken then fault_behind_header req
 abbrev pub fault_of : List Request → Told → List ℕ → Option SetFault
 fault_of requests told line = if nat_le (length line) 65536 then fault_said requests told (said_by line) else Some BadSetLine
 
--- a fault, and the line at which it stands
-pub record FaultyLine : Type 0 where
-  pub fault : SetFault
-  pub line : ℕ
-
-abbrev pub fault_at : ℕ → SetFault → FaultyLine
-fault_at n fault = record { fault = fault; line = n }
-
-abbrev pub faults_at : ℕ → Option SetFault → List FaultyLine
-faults_at n None = []
-faults_at n (Some fault) = fault_at n fault ∷ []
-
--- the faults of these lines, which follow some lines
-abbrev pub line_faults : List Request → List (List ℕ) → List (List ℕ) → List FaultyLine
-line_faults requests before [] = []
-line_faults requests before (line ∷ more) =
-    faults_at (length before + 1) (fault_of requests (told_by before) line) ++ line_faults requests (before ++ line ∷ []) more
+-- the fault of a line behind these lines
+abbrev pub fault_behind : List Request → List (List ℕ) → List ℕ → Option SetFault
+fault_behind requests before line = fault_of requests (told_by before) line
 
 -- the fault of a text without a header: it stands behind the last line
-abbrev pub end_faults : List (List ℕ) → List FaultyLine
+abbrev pub end_faults : List (List ℕ) → List (FaultyLine SetFault)
 end_faults file = if (told_by file).spoken then [] else fault_at (length file + 1) BadSetLine ∷ []
 
 -- the faults of a file of sets, in the order of its lines
-abbrev pub set_faults : List Request → List (List ℕ) → List FaultyLine
-set_faults requests file = line_faults requests [] file ++ end_faults file
+abbrev pub set_faults : List Request → List (List ℕ) → List (FaultyLine SetFault)
+set_faults requests file = line_faults (fault_behind requests) [] file ++ end_faults file
 
 -- the fault for which a file of sets is refused
-abbrev pub set_fault : DesignProblem → List ℕ → Option FaultyLine
+abbrev pub set_fault : DesignProblem → List ℕ → Option (FaultyLine SetFault)
 set_fault p bytes = first_of (set_faults p.paths (lines bytes))
 
 -- the numbers of each `set` line of a file, in the order of the lines
@@ -130,6 +117,6 @@ abbrev pub AreSaid : List ℕ → List (List ℕ) → Type 0
 AreSaid bytes sets = AllZip IsInOrder (numbers_said bytes) sets
 
 -- a stop tells the fault; want of memory says nothing
-abbrev pub TellsReading : Option FaultyLine → SetStop → Type 0
+abbrev pub TellsReading : Option (FaultyLine SetFault) → SetStop → Type 0
 TellsReading faulty (Refused fault line) = faulty ≡ Some (fault_at line fault)
 TellsReading faulty OutOfMemory = Unit {0}

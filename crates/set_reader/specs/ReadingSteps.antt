@@ -9,7 +9,7 @@ use Rattle.set_reader.specs.declared.reading.statement.Statement.{Statement}
 use Rattle.set_reader.specs.declared.reading.statement.Statement.TheVariants.{Numbers}
 use Rattle.set_reader.specs.SetLines.{speaks, numbers_in}
 use Rattle.set_reader.specs.SpreadSets.{AreSetsOf}
-use Rattle.set_reader.specs.Reading.{Told, FaultyLine, fault_at, IsInOrder, takes_away, has_other_ends}
+use Rattle.set_reader.specs.Reading.{Told, IsInOrder, takes_away, has_other_ends}
 
 -- what was read so far: whether a line spoke, and the sets, in rising order each
 pub record SoFar : Type 0 where
@@ -41,11 +41,6 @@ pub record TakesLine (before : SoFar) (said : Statement) (after : SoFar) : Type 
   pub problem : after.problem ≡ before.problem
   pub spoken : after.spoken ≡ (before.spoken || speaks said)
   pub sets : Adds (numbers_in said) before.sets after.sets
-
--- the fault of a line of number n
-abbrev pub fault_in_line : ℕ → Option SetFault → Option FaultyLine
-fault_in_line n None = None
-fault_in_line n (Some fault) = Some (fault_at n fault)
 
 -- A number may not stand behind these members, whatever their edges: it is no path's, it is marked, its request takes an edge
 -- away, or its path has other ends than the first member's.

@@ -1,9 +1,10 @@
 //! Reads a file of sets.
 ghost use Rattle.std.specs.Prelude.{◌≡◌, ◌+◌, ◌-◌, ◌^◌, ◌<◌, None, Some, length, IfOk, IfErr, OnOk};
+ghost use Rattle.text_lines.specs.LineFaults.{fault_at, fault_in_line};
 ghost use Rattle.set_reader.specs.SpreadSets.{AreSetsOf};
 ghost use Rattle.set_reader.specs.SetLines.{said_by};
-ghost use Rattle.set_reader.specs.Reading.{fault_said, fault_at, set_fault, AreSaid, TellsReading};
-ghost use Rattle.set_reader.specs.ReadingSteps.{told_of, TakesLine, fault_in_line};
+ghost use Rattle.set_reader.specs.Reading.{fault_said, set_fault, AreSaid, TellsReading};
+ghost use Rattle.set_reader.specs.ReadingSteps.{told_of, TakesLine};
 
 mod line;
 mod members;

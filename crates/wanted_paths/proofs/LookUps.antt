@@ -2,17 +2,16 @@
 use Rattle.std.proofs.Common.{inl, inr, ◌≡◌, ◌≢◌, ℕ, zero, suc, ◌+◌, ◌<◌, ◌≤◌, refl, sym, ◌∙◌, ap, List, [], ◌∷◌, ◌++◌, length, take, map, get_or, arith, Bool, true, false, cond, Option, Some, None}
 use Rattle.std.specs.Prelude.{All, AllPairs, filter, position, slice_get, slice_index_or, unwrap_or, MatchOption, if◌then◌else◌, ◌&&◌, ◌||◌, ◌==◌}
 use Rattle.std.specs.List.{list_any}
-use Rattle.std.proofs.lemmas.List.{length-map, length-append, get_or-map, map-append, take_more, length-take-le, get_or-take}
+use Rattle.std.proofs.lemmas.List.{length-map, get_or-map, map-append, take_more, length-take-le, get_or-take}
 use Rattle.std.proofs.lemmas.List.Elements.{All-head, All-tail, All-weaker}
 use Rattle.std.proofs.lemmas.List.Folds.{Any-from_list_any, list_any_none}
 use Rattle.std.proofs.lemmas.List.Quantifiers.{position-Some}
 use Rattle.std.proofs.lemmas.Option.{slice_get-get_or, slice_get_within}
-use Rattle.std.proofs.lemmas.Bool.{eqb-true, eq-eqb, and_parts, and_from, cases_Bool, cases_order, false≢true, or_parts, false_from_ne_true}
+use Rattle.std.proofs.lemmas.Bool.{eqb-true, eq-eqb, and_parts, and_from, cases_Bool, cases_order, false≢true, false_from_ne_true}
 use Rattle.cost_base.specs.Lists.{numbers_from, first_of, same_bytes}
-use Rattle.cost_base.proofs.ListLemmas.{list_any-map, list_any-agree, length-numbers_from, same_test}
+use Rattle.cost_base.proofs.ListLemmas.{list_any-map, list_any-agree, same_test, none_passes}
 use Rattle.cost_base.proofs.ByteLemmas.{same_bytes-true, same_bytes-same}
-use Rattle.area_graph.specs.declared.Vertex.{Vertex}
-use Rattle.area_graph.specs.declared.Vertex.TheVariants.{Router as RouterVertex, Subnet as SubnetVertex}
+use Rattle.area_graph.proofs.Vertices.{vertices_length}
 use Rattle.area_graph.specs.Area.{Area, edge_at, edges_out}
 use Rattle.lsdb_build.specs.declared.Far.TheVariants.{Router}
 use Rattle.lsdb_build.specs.declared.Linked.{Linked}
@@ -166,11 +165,6 @@ link_found d router interface now keys base known are =
 
 -- What isn't found has the number 0.
 
-pub none_there : {X : Type 0} (p : X → Bool) (xs : List X) → list_any p xs ≡ false → (k : ℕ) (d : X) → k < length xs → p (get_or xs k d) ≡ false
-none_there p [] none k d within = absurd (omega arith)
-none_there p (x ∷ xs) none zero d within = (or_parts (p x) (list_any p xs) none).0
-none_there p (x ∷ xs) none (suc k) d within = none_there p xs (or_parts (p x) (list_any p xs) none).1 k d (omega arith)
-
 pub none_passing : (test : ℕ → Bool) (a n : ℕ) → ((k : ℕ) → a ≤ k → k < a + n → test k ≡ false) → filter test (numbers_from a n) ≡ []
 none_passing test a zero fails = refl
 none_passing test a (suc n) fails = rw (fails a (omega arith) (omega arith)) (none_passing test (a + 1) n (λ k from below. fails k (omega arith) (omega arith)))
@@ -178,7 +172,7 @@ none_passing test a (suc n) fails = rw (fails a (omega arith) (omega arith)) (no
 pub router_unknown : (d : Database) (name : List ℕ) → knows_router d name ≡ false → router_number d name ≡ 0
 router_unknown d name unknown =
     rw (none_passing (λ r. same_bytes (slice_index_or d.routers r []) name) 0 (length d.routers)
-    (λ r from below. other r (none_there (same_bytes name) d.routers unknown r [] (omega arith)))) refl
+    (λ r from below. other r (none_passes (same_bytes name) d.routers unknown r [] (omega arith)))) refl
   where
     other : (r : ℕ) → same_bytes name (get_or d.routers r []) ≡ false → same_bytes (slice_index_or d.routers r []) name ≡ false
     other r differs = false_from_ne_true (same_bytes (slice_index_or d.routers r []) name)
@@ -189,7 +183,7 @@ link_unknown d router interface unknown =
     rw (none_passing (λ l. names_link d router interface (slice_get d.links l)) 0 (length d.links)
     (λ l from below. let within : l < length d.links = omega arith in
     rw (slice_get-get_or d.links l no_link within)
-    (none_there (is_named d router interface) d.links unknown l no_link within))) refl
+    (none_passes (is_named d router interface) d.links unknown l no_link within))) refl
 
 -- a router without a name that is known has no link
 pub no_router_link : (d : Database) (router interface : List ℕ) → IsDatabase d → knows_router d router ≡ false → knows_link d router interface ≡ false
@@ -198,7 +192,7 @@ no_router_link d router interface base unknown =
     (All-weaker (IsLink d) (λ link. is_named d router interface link ≡ false)
     (λ link is. false_from_ne_true (is_named d router interface link)
     (λ named. let parts = and_parts (same_bytes (slice_index_or d.routers link.router []) router) (same_bytes link.interface interface) named in
-    false≢true (sym (none_there (same_bytes router) d.routers unknown link.router [] is.router)
+    false≢true (sym (none_passes (same_bytes router) d.routers unknown link.router [] is.router)
     ∙ same_bytes-same router (get_or d.routers link.router [])
     (sym (same_bytes-true (slice_index_or d.routers link.router []) router parts.0)))))
     d.links base.each_link)
@@ -224,10 +218,4 @@ edge_to_first g from router = ap (λ (es : List ℕ). unwrap_or (first_of es) 0)
     (numbers_from 0 (length g.edges))))
 
 pub vertices_count : (d : Database) → length (outline d).vertices ≡ length d.routers + length d.subnets
-vertices_count d =
-    let routers : length (map RouterVertex (numbers_from 0 (length d.routers))) ≡ length d.routers
-    = length-map {B = Vertex} (numbers_from 0 (length d.routers)) RouterVertex ∙ length-numbers_from 0 (length d.routers) in
-    let subnets : length (map SubnetVertex (numbers_from 0 (length d.subnets))) ≡ length d.subnets
-    = length-map {B = Vertex} (numbers_from 0 (length d.subnets)) SubnetVertex ∙ length-numbers_from 0 (length d.subnets) in
-    let whole = length-append (map RouterVertex (numbers_from 0 (length d.routers))) (map SubnetVertex (numbers_from 0 (length d.subnets))) in
-    omega arith
+vertices_count d = vertices_length (length d.routers) (length d.subnets)

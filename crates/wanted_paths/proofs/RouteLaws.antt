@@ -7,10 +7,8 @@ use Rattle.std.proofs.lemmas.List.Folds.{Any-from_list_any}
 use Rattle.std.proofs.lemmas.Option.{slice_get-get_or, slice_get_within, get_or_from_slice_get}
 use Rattle.std.proofs.lemmas.Bool.{eqb-true, eq-eqb, and_parts, and_from, cases_Bool, cases_order, cases_eq, or_parts, or_from, not-true, eqb-false, ne_eqb, false≢true}
 use Rattle.cost_base.specs.Lists.{numbers_from, first_of, same_bytes, Lacks, NoneTwice}
-use Rattle.cost_base.proofs.ListLemmas.{length-numbers_from}
 use Rattle.cost_base.proofs.ByteLemmas.{same_bytes-true, same_bytes-same}
-use Rattle.area_graph.specs.declared.Vertex.{Vertex}
-use Rattle.area_graph.specs.declared.Vertex.TheVariants.{Router as RouterVertex, Subnet as SubnetVertex}
+use Rattle.area_graph.proofs.Vertices.{vertices_length}
 use Rattle.area_graph.specs.declared.Price.{Price}
 use Rattle.area_graph.specs.declared.Price.TheVariants.{Zero}
 use Rattle.area_graph.specs.declared.Edge.{Edge}
@@ -263,11 +261,7 @@ none_twice_is (x ∷ xs) once =
 
 -- a router's number is one of a vertex
 pub router_vertex : (d : Database) (prices : List Price) (r : ℕ) → r < length d.routers → r < length (graph_at d prices).vertices
-router_vertex d prices r within =
-    let routers : length (map RouterVertex (numbers_from 0 (length d.routers))) ≡ length d.routers
-    = length-map {B = Vertex} (numbers_from 0 (length d.routers)) RouterVertex ∙ length-numbers_from 0 (length d.routers) in
-    let whole = length-append (map RouterVertex (numbers_from 0 (length d.routers))) (map SubnetVertex (numbers_from 0 (length d.subnets))) in
-    omega arith
+router_vertex d prices r within = omega (arith, vertices_length (length d.routers) (length d.subnets))
 
 next_known : (d : Database) (hops : List (List ℕ × List ℕ)) (last : List ℕ) → is_known d hops last ≡ true → knows_router d (next_name hops last) ≡ true
 next_known d [] last known = known

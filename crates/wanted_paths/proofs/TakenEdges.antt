@@ -5,6 +5,7 @@ use Rattle.std.specs.List.{list_any}
 use Rattle.std.proofs.lemmas.List.Elements.{All-nil, All-cons, All-weaker}
 use Rattle.std.proofs.lemmas.List.{get_or_default}
 use Rattle.std.proofs.lemmas.List.Folds.{list_any-append}
+use Rattle.std.proofs.Math.Bool.{or-false}
 use Rattle.std.proofs.lemmas.Bool.{cases_Bool, cases_eq, eq-eqb, ne_eqb, eqb-false, or_parts, or_from, false≢true}
 use Rattle.cost_base.specs.Lists.{numbers_from}
 use Rattle.cost_base.proofs.ListLemmas.{filter-numbers_from-agree, list_any-agree}
@@ -80,11 +81,7 @@ has_far d g e router (ToSubnet s) within =
 
 has_mate : (e : ℕ) (mate : Option ℕ) → has e (option_to_list mate) ≡ mate_takes_of e mate
 has_mate e None = refl
-has_mate e (Some m) = or_false (e == m)
-  where
-    or_false : (b : Bool) → (b || false) ≡ b
-    or_false true = refl
-    or_false false = refl
+has_mate e (Some m) = or-false (e == m)
 
 has_link : (d : Database) (g : Area) (l e : ℕ) (o : Option Linked) → e < length g.edges → has e (taken_at d g l o) ≡ link_takes d g l o e
 has_link d g l e None within = refl

@@ -14,7 +14,7 @@ abbrev pub taken_from : Database → Area → ℕ → Far → List ℕ
 taken_from d g router (ToRouter r) = []
 taken_from d g router (ToSubnet s) = filter (λ e. (edge_at g e).to == router) (edges_out g (length d.routers + s))
 
--- the edge of the link, that of its mate, and that out of its subnet
+-- the edge of the link, that of its other end, and that out of its subnet
 abbrev pub taken_by_link : Database → Area → ℕ → Linked → List ℕ
 taken_by_link d g l link = l ∷ option_to_list link.mate ++ taken_from d g link.router link.to
 

@@ -10,8 +10,8 @@ ghost use Rattle.wanted_paths.specs.Taken.{taken_from, taken_by_link, taken_at, 
 
 use crate::ResolutionStop;
 use crate::names::Names;
-use crate::routes::{far_end, subnet_vertex};
-use area_graph::Graph;
+use crate::routes::subnet_vertex;
+use area_graph::{Graph, far_end};
 use cost_base::OutOfMemory;
 use lsdb_build::{Far, Linked};
 use request_reader::Part;

@@ -15,7 +15,7 @@ ghost use Rattle.wanted_paths.specs.Walks.{IsWalk};
 
 use crate::names::Names;
 use crate::{ResolutionFault, ResolutionStop};
-use area_graph::{Graph, Path, is_simple};
+use area_graph::{Graph, Path, far_end, is_simple};
 use cost_base::{Listed, Name, OutOfMemory};
 use lsdb_build::{Far, Linked};
 use request_reader::Hops;
@@ -107,16 +107,6 @@ fn check_hops(
         }
     }
     Ok(())
-}
-
-/// The vertex where an edge ends, 0 where there is no such edge.
-pub fn far_end(graph: &Graph, edge: u32) -> u32
-    ensures { result ≡ (edge_at graph.now edge).to }
-{
-    match graph.edges().get(edge as usize) {
-        Some(edge) => edge.to,
-        None => 0,
-    }
 }
 
 /// The first of some edges that ends at a vertex.

@@ -76,10 +76,8 @@ pub(crate) fn is_router(word: &[u8]) -> bool
 fn add_hop(hops: &mut Vec<(Name, Name)>, hop: (Name, Name)) -> Result<(), OutOfMemory>
     ensures { OnOk result (hops.new.items ≡ hops.old.items ++ hop ∷ []) }
 {
-    match hops.push(hop) {
-        Ok(()) => Ok(()),
-        Err(_) => Err(OutOfMemory),
-    }
+    hops.push(hop)?;
+    Ok(())
 }
 
 /// The router and the interface of a word R:IF, cut at its first `:`, of which neither is empty;
@@ -146,10 +144,8 @@ fn read_parts(alloc: Global, text: &[u8]) -> Result<Option<Listed<Part>>, OutOfM
 fn add_part(parts: &mut Vec<Part>, part: Part) -> Result<(), OutOfMemory>
     ensures { OnOk result (parts.new.items ≡ parts.old.items ++ part ∷ []) }
 {
-    match parts.push(part) {
-        Ok(()) => Ok(()),
-        Err(_) => Err(OutOfMemory),
-    }
+    parts.push(part)?;
+    Ok(())
 }
 
 /// A router of a word R, or an interface of a word R:IF; None exactly where the word is neither.

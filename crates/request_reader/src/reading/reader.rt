@@ -1,8 +1,9 @@
 //! What the lines of a request file say together.
 ghost use Rattle.std.specs.Prelude.{◌≡◌, ◌+◌, ◌-◌, ◌^◌, ◌<◌, ◌++◌, ◌∷◌, [], Some, None, true, false, IfOk, IfErr, OnOk, OnErr, is_some};
+ghost use Rattle.text_lines.specs.LineFaults.{fault_at, fault_in_line};
 ghost use Rattle.request_reader.specs.Asked.{KeepsBounds, IsDefault, is_path};
-ghost use Rattle.request_reader.specs.Reading.{told_by, fault_said, fault_behind_header, asked_of, fault_at, TellsReading};
-ghost use Rattle.request_reader.specs.ReadingSteps.{told_with, fault_in_line, KeepsRules};
+ghost use Rattle.request_reader.specs.Reading.{told_by, fault_said, fault_behind_header, asked_of, TellsReading};
+ghost use Rattle.request_reader.specs.ReadingSteps.{told_with, KeepsRules};
 ghost use Rattle.request_reader.specs.declared.stop.RequestFault.TheVariants.{BadRequestLine};
 ghost use Rattle.request_reader.specs.declared.reading.statement.Statement.TheVariants.{Area as AreaSaid, DefaultCost as DefaultCostSaid, Ask as AskSaid};
 

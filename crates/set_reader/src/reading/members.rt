@@ -5,8 +5,9 @@ ghost use Rattle.std.specs.List.{list_any};
 ghost use Rattle.cost_base.specs.Lists.{same_bytes};
 ghost use Rattle.area_graph.specs.Distances.{AreMarks};
 ghost use Rattle.path_rows.specs.Problems.{request_at};
+ghost use Rattle.text_lines.specs.LineFaults.{fault_in_line};
 ghost use Rattle.set_reader.specs.Reading.{same_ends, has_other_ends, takes_away, is_wrong_set, wrong_if, IsInOrder, TellsReading};
-ghost use Rattle.set_reader.specs.ReadingSteps.{fault_in_line, is_out_of_place};
+ghost use Rattle.set_reader.specs.ReadingSteps.{is_out_of_place};
 
 use crate::reading::refusal;
 use crate::{SetFault, SetStop};

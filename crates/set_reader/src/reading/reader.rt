@@ -1,8 +1,9 @@
 //! What the lines of a file of sets say together.
 ghost use Rattle.std.specs.Prelude.{◌≡◌, ◌+◌, ◌-◌, ◌^◌, ◌<◌, ◌≤◌, ◌∷◌, [], Some, None, true, false, length, IfOk, IfErr, OnOk};
+ghost use Rattle.text_lines.specs.LineFaults.{fault_at, fault_in_line};
 ghost use Rattle.set_reader.specs.SpreadSets.{AreSetsOf};
-ghost use Rattle.set_reader.specs.Reading.{fault_said, fault_behind_header, fault_at, TellsReading};
-ghost use Rattle.set_reader.specs.ReadingSteps.{told_of, HasSeveral, TakesLine, fault_in_line};
+ghost use Rattle.set_reader.specs.Reading.{fault_said, fault_behind_header, TellsReading};
+ghost use Rattle.set_reader.specs.ReadingSteps.{told_of, HasSeveral, TakesLine};
 ghost use Rattle.set_reader.specs.declared.stop.SetFault.TheVariants.{BadSetLine};
 ghost use Rattle.set_reader.specs.declared.reading.statement.Statement.TheVariants.{Numbers as NumbersSaid};
 

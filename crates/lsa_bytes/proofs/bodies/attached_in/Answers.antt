@@ -1,7 +1,7 @@
 use Rattle.std.proofs.Common.{ℕ, ◌+◌, ◌*◌, List, [], ◌∷◌, ◌++◌, map, ap, sym, ◌∙◌}
 use Rattle.cost_base.specs.Lists.{numbers_from}
 use Rattle.lsa_bytes.specs.Fields.{number_32}
-use Rattle.lsa_bytes.proofs.BodyLaws.{map-numbers_from-push}
+use Rattle.area_graph.proofs.Vertices.{map-numbers_from-push}
 use Rattle.lsa_bytes.proofs.bodies.attached_in.Goals as goal
 
 pub loop-i-preserved : goal.loop-i-preserved

@@ -2,8 +2,8 @@ use Rattle.std.proofs.Common.{reverse, take, map, ap, sym, ◌∙◌}
 use Rattle.lsdb_build.specs.Topology.{at_port}
 use Rattle.lsdb_build.specs.SubnetChecks.{fails, fault_of}
 use Rattle.lsdb_build.specs.Tallies.{same_trait, kind_on}
-use Rattle.lsdb_build.proofs.FirstPlaces.{left_on, first_met, none_met}
-use Rattle.lsdb_build.proofs.Tallies.{tally_on, tally_few}
+use Rattle.lsdb_build.proofs.FirstPlaces.{first_met, none_met}
+use Rattle.lsdb_build.proofs.Tallies.{tally_few, walked_on}
 use Rattle.lsdb_build.proofs.checks.refuse_on_subnet.Goals as goal
 
 pub add-requires : goal.add-requires
@@ -18,13 +18,10 @@ loop-port-preserved c =
     let i = c.loop-port.port-index in
     let p = c.port-item.result in
     let before = reverse (take i ports) in
-    record {
-      seen = tally_on same_trait kind_on c.add.new.self.counts ports i p c.loop-port-test.true c.port-item.is
-          c.kind_on.result c.kind_on.ensures
-          (c.in_ok-add.ensures.added (map kind_on before) c.loop-port.invariant.seen);
-      left = left_on (fails c.args.check) ports i c.loop-port.invariant.left p c.loop-port-test.true c.port-item.is
-          (sym (c.fails.ensures before c.loop-port.invariant.seen) ∙ c.if-fails.false);
-    }
+    walked_on same_trait kind_on (fails c.args.check) c.loop-port.seen.counts c.add.new.self.counts ports i p c.loop-port.invariant
+    c.loop-port-test.true c.port-item.is c.kind_on.result c.kind_on.ensures
+    (c.in_ok-add.ensures.added (map kind_on before) c.loop-port.invariant.seen)
+    (sym (c.fails.ensures before c.loop-port.invariant.seen) ∙ c.if-fails.false)
 
 pub returns-then-fails : goal.returns-then-fails
 returns-then-fails c =

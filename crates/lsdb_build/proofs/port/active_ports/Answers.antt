@@ -5,7 +5,7 @@ use Rattle.interface_model.specs.Records.{Router, IsRouter}
 use Rattle.lsdb_build.specs.Neighbours.{ports_of, ports_from}
 use Rattle.lsdb_build.proofs.port.active_ports.Goals as goal
 
--- the ports from a router on: its own, then those from the next one on
+-- the interfaces from a router on: its own, then those from the next one on
 ports_from-more : (area n : ℕ) (routers : List Router) (i : ℕ) (r : Router) → i < length routers →
     r ≡ get_or routers i r → ports_from area n (drop i routers) ≡ ports_of area n r.interfaces
     ++ ports_from area (n + 1) (drop (i + 1) routers)

@@ -1,13 +1,19 @@
-use Rattle.std.proofs.Common.{◌∙◌, ap, sym, List, ℕ, Option}
-use Rattle.std.specs.Prelude.{count_by, nat_lt, Some}
-use Rattle.lsdb_build.specs.declared.Linked.{Linked}
+use Rattle.std.proofs.Common.{◌∙◌, ap, sym, subst, ℕ, rules}
+use Rattle.std.specs.Prelude.{count_by, nat_lt}
+use Rattle.std.specs.List.Sorted.{IsPartitionedBy}
+use Rattle.std.proofs.lemmas.List.Sorted.{IsPartitionPoint-from_clause}
 use Rattle.path_requests.specs.Meaning.{owner_at, owners}
+use Rattle.path_requests.proofs.OwnerPlaces.{owners_partitioned, count_at_point}
 use Rattle.path_requests.proofs.problems.variable_of.Goals as goal
 
 pub returns : goal.returns
 returns c =
     let a = c.args.choices.now.asked in
     let d = c.args.choices.now.database in
-    c.variable.ensures
-    ∙ ap (λ (own : List ℕ). count_by (λ m. nat_lt m (owner_at a d c.args.number (Some c.args.link.now))) own) c.requires.own
-    ∙ ap (λ (o : Option Linked). count_by (λ m. nat_lt m (owner_at a d c.args.number o)) (owners a d)) (sym c.requires.there)
+    let test = λ (m : ℕ). nat_lt m c.owner-owner.result in
+    let parted = subst (IsPartitionedBy test) (sym c.requires.own) (owners_partitioned a d c.owner-owner.result) in
+    let point = IsPartitionPoint-from_clause test c.args.own.now _ c.partition_point.ensures.partitioned parted (λ a r q k. search rules) in
+    sym (count_at_point test c.args.own.now _ c.partition_point.ensures.bound point)
+    ∙ ap (count_by test) c.requires.own
+    ∙ ap (λ (o : ℕ). count_by (λ m. nat_lt m o) (owners a d)) (c.owner-owner.ensures
+    ∙ ap (owner_at a d c.args.number) (sym c.requires.there))

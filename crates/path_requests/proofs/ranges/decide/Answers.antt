@@ -1,8 +1,7 @@
-use Rattle.std.proofs.Common.{◌∙◌, ap, arith, List, Option, Some, length, map, get_or, set}
+use Rattle.std.proofs.Common.{◌∙◌, ap, arith, List, Option, Some, map, get_or, set}
 use Rattle.std.specs.Option.{option_or}
-use Rattle.std.proofs.lemmas.List.{length-map}
 use Rattle.path_requests.specs.Meaning.{Range}
-use Rattle.path_requests.proofs.ChosenLinks.{decided_named, decided_unknown, number_within}
+use Rattle.path_requests.proofs.ChosenLinks.{decided_named, decided_unknown, place_within}
 use Rattle.path_requests.proofs.ranges.decide.Goals as goal
 
 pub returns-then-place-len : goal.returns-then-place-len
@@ -21,16 +20,12 @@ returns-then-place-len c = λ f are.
 
 pub returns-else-place-len : goal.returns-else-place-len
 returns-else-place-len c = λ f are.
-    let d = c.args.names.now in
     let found = c.in-Some.ensures.found in
     absurd (omega (
       arith,
       c.if-place-len.false,
       c.len.ensures,
-      ap length are,
-      length-map d.links f,
-      found.1,
-      number_within d c.args.router.now c.args.interface.now c.in-Some.ensures.base found.0,
+      place_within c.args.names.now c.args.router.now c.args.interface.now f c.args.decided.now.items c.in-Some.link c.in-Some.ensures.base found.0 found.1 are,
     ))
 
 pub returns-in-None : goal.returns-in-None

@@ -1,6 +1,5 @@
-use Rattle.std.proofs.Common.{◌∙◌, ap, arith, List, Bool, true, length, map, set}
-use Rattle.std.proofs.lemmas.List.{length-map}
-use Rattle.path_requests.proofs.ChosenLinks.{marked_named, marked_unknown, number_within}
+use Rattle.std.proofs.Common.{◌∙◌, ap, arith, List, Bool, true, map, set}
+use Rattle.path_requests.proofs.ChosenLinks.{marked_named, marked_unknown, place_within}
 use Rattle.path_requests.proofs.symmetric.mark.Goals as goal
 
 pub returns-then-place-len : goal.returns-then-place-len
@@ -13,16 +12,12 @@ returns-then-place-len c = λ f are.
 
 pub returns-else-place-len : goal.returns-else-place-len
 returns-else-place-len c = λ f are.
-    let d = c.args.names.now in
     let found = c.in-Some.ensures.found in
     absurd (omega (
       arith,
       c.if-place-len.false,
       c.len.ensures,
-      ap length are,
-      length-map d.links f,
-      found.1,
-      number_within d c.args.router.now c.args.interface.now c.in-Some.ensures.base found.0,
+      place_within c.args.names.now c.args.router.now c.args.interface.now f c.args.marks.now.items c.in-Some.link c.in-Some.ensures.base found.0 found.1 are,
     ))
 
 pub returns-in-None : goal.returns-in-None
