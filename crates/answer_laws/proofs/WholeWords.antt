@@ -1,6 +1,6 @@
 -- Words of answers hold no LF, and words with a space between each two are one line.
-use Rattle.std.proofs.Common.{◌≡◌, ℕ, ◌+◌, List, [], ◌∷◌, map, codes, eqb, Bool, true, false, ℤ, pos, negsuc, refl, sym, subst}
-use Rattle.std.proofs.lemmas.Bool.{and_parts, true≢false}
+use Rattle.std.proofs.Common.{◌≡◌, ℕ, ◌+◌, List, [], ◌∷◌, map, codes, eqb, true, false, ℤ, pos, negsuc, refl, sym, subst}
+use Rattle.std.proofs.lemmas.Bool.{and_parts, not-true}
 use Rattle.std.proofs.lemmas.List.Elements.{All-nil, All-cons, All-append}
 use Rattle.std.specs.List.{list_all}
 use Rattle.std.specs.Prelude.{not}
@@ -33,11 +33,7 @@ pub written : (w : List ℕ) → list_all (λ c. not (eqb c 10)) w ≡ true → 
 written [] h = All-nil IsNoLF
 written (c ∷ cs) h =
     let parts = and_parts (not (eqb c 10)) (list_all (λ x. not (eqb x 10)) cs) h in
-    All-cons IsNoLF c cs (negated (eqb c 10) parts.0) (written cs parts.1)
-  where
-    negated : (b : Bool) → not b ≡ true → b ≡ false
-    negated true e = absurd (true≢false (sym e))
-    negated false e = refl
+    All-cons IsNoLF c cs (not-true (eqb c 10) parts.0) (written cs parts.1)
 
 -- words without an LF
 abbrev pub AreWhole : List (List ℕ) → Type 0

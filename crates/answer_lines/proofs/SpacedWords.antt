@@ -1,6 +1,6 @@
 -- Lines of words without spaces, cut at their spaces.
 use Rattle.std.proofs.Common.{◌≡◌, ℕ, List, [], ◌∷◌, All, eqb, ◌||◌, Bool, cond, true, false, map, refl, sym, ap, ◌∙◌}
-use Rattle.std.proofs.lemmas.Bool.{or_parts, eqb-true, and_parts, true≢false}
+use Rattle.std.proofs.lemmas.Bool.{or_parts, eqb-true, and_parts, not-true}
 use Rattle.std.proofs.lemmas.List.Elements.{All-nil, All-cons, All-head, All-tail, All-weaker}
 use Rattle.std.specs.List.{list_all}
 use Rattle.std.specs.Prelude.{not}
@@ -31,11 +31,7 @@ pub spaceless-from : (w : List ℕ) → list_all (λ c. not (eqb c 32)) w ≡ tr
 spaceless-from [] h = All-nil (λ c. eqb c 32 ≡ false)
 spaceless-from (c ∷ cs) h =
     let parts = and_parts (not (eqb c 32)) (list_all (λ x. not (eqb x 32)) cs) h in
-    All-cons (λ x. eqb x 32 ≡ false) c cs (negated (eqb c 32) parts.0) (spaceless-from cs parts.1)
-  where
-    negated : (b : Bool) → not b ≡ true → b ≡ false
-    negated true e = absurd (true≢false (sym e))
-    negated false e = refl
+    All-cons (λ x. eqb x 32 ≡ false) c cs (not-true (eqb c 32) parts.0) (spaceless-from cs parts.1)
 
 pub numbers-spaceless : (ns : List ℕ) → All IsSpaceless (map decimal ns)
 numbers-spaceless [] = All-nil IsSpaceless

@@ -5,8 +5,10 @@ use Rattle.cost_base.specs.Decimal.{decimal}
 use Rattle.text_lines.specs.Numbers.{split}
 use Rattle.text_lines.proofs.Pieces.{split-some}
 use Rattle.text_lines.proofs.Digits.{length-decimal-le}
+use Rattle.evidence_text.specs.Parts.{no_tree_line, tree_line}
+use Rattle.evidence_text.specs.declared.TreePart.{TreePart}
 use Rattle.evidence_text.specs.declared.TreePart.TheVariants.{Proof, Unfinished}
-use Rattle.answer_lines.specs.Grammar.{AtRow, AtTree}
+use Rattle.answer_lines.specs.Grammar.{Place, AtRow, AtTree, IsPartNext, Next}
 use Rattle.answer_lines.specs.Places.{Begins}
 use Rattle.begun_lines.specs.Begun.{IsFront, IsNumberWord, BeginsNumber, BeginsTree, BeginsCount}
 use Rattle.begun_lines.proofs.Beginnings.{two_parts, front-longer, behind-space}
@@ -107,48 +109,46 @@ short_head front cap count small few many =
       length-decimal-le 30 count (omega arith) (omega arith),
     )
 
-pub proof-begun : (rest : List ℕ) → (IsFront rest (codes "proof none") ⊎ BeginsTree rest (codes "proof ")) ↔ Begins (AtRow zero) rest
-proof-begun rest = (
+-- what begins the first line of a part, at a place where this line alone may stand
+part-begun : (place : Place) (part : TreePart) (none front rest : List ℕ) →
+    ((line : List ℕ) (next : Place) → IsPartNext part line next ↔ Next place line next) →
+    none ≡ no_tree_line part → length none ≤ 100 →
+    ((cap count : ℕ) → front ++ (decimal cap ++ 32 ∷ decimal count) ≡ tree_line part cap count) → length front ≤ 100 →
+    (IsFront rest none ⊎ BeginsTree rest front) ↔ Begins place rest
+part-begun place part none front rest lawful no_tree few a_tree small = (
   λ begun. elim begun [
-    | inl line ↦ begins-from (AtRow zero) (AtTree Proof 0 0) rest (codes "proof none") (inl (refl, refl)) (omega arith) line
+    | inl line ↦ begins-from place (AtTree part 0 0) rest none ((lawful none (AtTree part 0 0)).0 (inl (no_tree, refl))) (omega (arith, few)) line
     | inr head ↦
-        begins-from (AtRow zero) (AtTree Proof 1 head.1) rest (codes "proof " ++ (decimal head.0 ++ 32 ∷ decimal head.1))
-        (inr (record {
+        let line = front ++ (decimal head.0 ++ 32 ∷ decimal head.1) in
+        begins-from place (AtTree part 1 head.1) rest line
+        ((lawful line (AtTree part 1 head.1)).0 (inr (record {
           cap = head.0;
           count = head.1;
           cap_bounds = omega (arith, head.2);
           count_bounds = omega (arith, head.3);
-          is = refl;
+          is = a_tree head.0 head.1;
           leads = refl;
-        }))
-        (short_head (codes "proof ") head.0 head.1 (omega arith) head.2 head.3) head.4
+        })))
+        (short_head front head.0 head.1 small head.2 head.3) head.4
   ],
-  λ begins. elim begins.1.1.is [
-    | inl none ↦ inl (begins.0, none.0)
-    | inr head ↦ inr
-        (head.cap, head.count, omega (arith, head.cap_bounds), omega (arith, head.count_bounds), (begins.0, head.is))
+  λ begins. elim ((lawful (rest ++ begins.0) begins.1.0).1 begins.1.1.is) [
+    | inl line ↦ inl (begins.0, line.0 ∙ sym no_tree)
+    | inr head ↦ inr (
+      head.cap,
+      head.count,
+      omega (arith, head.cap_bounds),
+      omega (arith, head.count_bounds),
+      (begins.0, head.is ∙ sym (a_tree head.cap head.count)),
+    )
   ],
 )
 
+pub proof-begun : (rest : List ℕ) → (IsFront rest (codes "proof none") ⊎ BeginsTree rest (codes "proof ")) ↔ Begins (AtRow zero) rest
+proof-begun rest =
+    part-begun (AtRow zero) Proof (codes "proof none") (codes "proof ") rest (λ line next. (λ is. is, λ is. is)) refl (omega arith)
+    (λ cap count. refl) (omega arith)
+
 pub open-begun : (rest : List ℕ) → (IsFront rest (codes "open none") ⊎ BeginsTree rest (codes "open ")) ↔ Begins (AtTree Proof zero zero) rest
-open-begun rest = (
-  λ begun. elim begun [
-    | inl line ↦ begins-from (AtTree Proof zero zero) (AtTree Unfinished 0 0) rest (codes "open none") (inl (refl, refl)) (omega arith) line
-    | inr head ↦
-        begins-from (AtTree Proof zero zero) (AtTree Unfinished 1 head.1) rest (codes "open " ++ (decimal head.0 ++ 32 ∷ decimal head.1))
-        (inr (record {
-          cap = head.0;
-          count = head.1;
-          cap_bounds = omega (arith, head.2);
-          count_bounds = omega (arith, head.3);
-          is = refl;
-          leads = refl;
-        }))
-        (short_head (codes "open ") head.0 head.1 (omega arith) head.2 head.3) head.4
-  ],
-  λ begins. elim begins.1.1.is [
-    | inl none ↦ inl (begins.0, none.0)
-    | inr head ↦ inr
-        (head.cap, head.count, omega (arith, head.cap_bounds), omega (arith, head.count_bounds), (begins.0, head.is))
-  ],
-)
+open-begun rest =
+    part-begun (AtTree Proof zero zero) Unfinished (codes "open none") (codes "open ") rest (λ line next. (λ is. is, λ is. is)) refl
+    (omega arith) (λ cap count. refl) (omega arith)

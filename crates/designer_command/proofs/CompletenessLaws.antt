@@ -30,7 +30,7 @@ use Rattle.command_words.specs.Commands.{job_of}
 use Rattle.case_maker.specs.Cases.{made_case}
 use Rattle.input_files.specs.Readings.{Reading, Take, Refused, Ready, End, Says, Faulty, Failed, too_long, OnCame, EndsAs}
 use Rattle.input_files.specs.Outcomes.{Input}
-use Rattle.input_files.proofs.Readings.{faulty_failed, said_failed}
+use Rattle.input_files.proofs.Readings.{failed, faulty_failed, file_as, said_failed}
 use Rattle.answer_commands.specs.declared.rejection.Rejection.{Rejection}
 use Rattle.answer_commands.specs.Checks.{IsTextOf}
 use Rattle.answer_commands.specs.Rewrites.{IsUnfit, new_costs}
@@ -135,16 +135,8 @@ one_failed name file names same =
     let one : mark (bytes_eq name file) ≡ mark true = ap mark here in
     omega (arith, counted, one)
 
-abbrev failed : (A : Type 0) → List ℕ → End A
-failed A file = Failed file
-
-abbrev failed_as : {A : Type 0} → List ℕ → End A → List ℕ
-failed_as other (Says x) = other
-failed_as other (Faulty r) = other
-failed_as other (Failed file) = file
-
 same_file : {A : Type 0} (e f : End A) (x y : List ℕ) → e ≡ Failed x → f ≡ Failed y → e ≡ f → x ≡ y
-same_file e f x y first second same = sym (ap (λ t. failed_as [] t) first) ∙ ap (λ t. failed_as [] t) same ∙ ap (λ t. failed_as [] t) second
+same_file e f x y first second same = sym (ap (λ t. file_as [] t) first) ∙ ap (λ t. file_as [] t) same ∙ ap (λ t. file_as [] t) second
 
 -- what came of a file, and the failed file among it and the others
 failed_here : {A : Type 0} (taken_name name : List ℕ) (next : List ℕ → Reading A) (more : List Taken) (file : List ℕ)

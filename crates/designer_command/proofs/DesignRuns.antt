@@ -23,7 +23,7 @@ use Rattle.designer_command.specs.Designs.{IsAnswerTo}
 use Rattle.designer_command.specs.Reported.{status_of}
 use Rattle.designer_command.specs.Runs.{MayDesign, MayAudit}
 use Rattle.designer_command.proofs.DesignedLaws.{answer_may}
-use Rattle.designer_command.proofs.Runs.{may_report}
+use Rattle.report_writer.proofs.ReportLaws.{may_report}
 
 -- the report of an answer to the problem that was read
 pub design_found : (Given : List Taken → Type 0) (limits : Bounds) (names : InputFiles) (p : DesignProblem)

@@ -1,7 +1,6 @@
 -- The text of an answer prints, for well-formed input, what its verdict claims.
 use Rattle.std.proofs.Common.{◌≡◌, ℕ, ◌≤◌, refl, sym, ap, subst, arith, List, [], ◌∷◌, get_or, Some}
 use Rattle.std.specs.Prelude.{All, slice_index}
-use Rattle.std.specs.List.{AllZip}
 use Rattle.std.proofs.lemmas.List.Elements.{All-nil, All-cons, All-head, All-tail}
 use Rattle.area_graph.specs.Area.{Area}
 use Rattle.area_graph.specs.Costs.{IsOnlyCheapest, at_costs}
@@ -19,6 +18,7 @@ use Rattle.path_rows.specs.Bounds.{IsCost, BoundsCosts}
 use Rattle.path_rows.specs.Text.{FitsCostLine, FitsCosts, text}
 use Rattle.path_rows.proofs.ProblemTrees.{valid_holds}
 use Rattle.answer_laws.specs.Laws.{IsAnswerValue}
+use Rattle.printed_rows.specs.PrintedCosts.{CostLinesOf}
 use Rattle.least_bound.specs.Answered.{VerdictHolds}
 use Rattle.command_words.specs.Jobs.{Bounds}
 use Rattle.input_files.specs.Outcomes.{Input}
@@ -33,11 +33,8 @@ use Rattle.designer_command.proofs.ReadBackLaws.{graph_back_is}
 abbrev ArePrintable : List VarName → List ℕ → Type 0
 ArePrintable names w = All (λ name. (1 ≤ slice_index w name.var) × (slice_index w name.var ≤ 65535)) names
 
-abbrev LinesOf : List ℕ → List VarName → List CostLine → Type 0
-LinesOf w names lines = AllZip (λ name line. (line.router ≡ name.router) × (line.interface ≡ name.interface) × (line.cost ≡ slice_index w name.var)) names lines
-
 -- costs that lines give are costs of interfaces
-lines_printable : (w : List ℕ) (names : List VarName) (lines : List CostLine) → LinesOf w names lines →
+lines_printable : (w : List ℕ) (names : List VarName) (lines : List CostLine) → CostLinesOf w names lines →
     All FitsCostLine lines → All (λ line. IsCost line.cost) lines → ArePrintable names w
 lines_printable w [] [] zip fit small = All-nil (λ (name : VarName). (1 ≤ slice_index w name.var) × (slice_index w name.var ≤ 65535))
 lines_printable w [] (line ∷ lines) zip fit small = absurd zip

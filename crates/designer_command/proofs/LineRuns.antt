@@ -17,7 +17,7 @@ use Rattle.request_reader.specs.Asked.{Asked}
 use Rattle.path_requests.specs.Meaning.{range_of, is_free, variable_of, names_from}
 use Rattle.cost_base.proofs.ByteLemmas.{same_bytes-true, same_bytes-same}
 use Rattle.wanted_paths.proofs.RouteLaws.{router_number_is}
-use Rattle.designer_command.proofs.PresentCosts.{line_at}
+use Rattle.wish_commands.specs.SharedParts.{named_cost}
 use Rattle.designer_command.proofs.PrintedSections.{NoneOf, AfterRun, OneRun}
 
 -- One more link in front: it has a name where it is free.
@@ -29,8 +29,8 @@ abbrev if_free : Range → VarName → List VarName → List VarName
 if_free range name rest = (if is_free range then name ∷ [] else []) ++ rest
 
 none_step : (router : List ℕ) (w : List ℕ) (range : Range) (name : VarName) (rest : List VarName) →
-    same_bytes router name.router ≡ false → NoneOf router (map (line_at w) rest) →
-    NoneOf router (map (line_at w) (if_free range name rest))
+    same_bytes router name.router ≡ false → NoneOf router (map (named_cost w) rest) →
+    NoneOf router (map (named_cost w) (if_free range name rest))
 none_step router w (Within lo hi) name rest other more = (other, more)
 none_step router w AsItIs name rest other more = more
 
@@ -48,26 +48,26 @@ after_one router (line ∷ lines) run =
     ]
 
 after_same : (router : List ℕ) (w : List ℕ) (range : Range) (name : VarName) (rest : List VarName) →
-    same_bytes router name.router ≡ true → AfterRun router (map (line_at w) rest) →
-    AfterRun router (map (line_at w) (if_free range name rest))
+    same_bytes router name.router ≡ true → AfterRun router (map (named_cost w) rest) →
+    AfterRun router (map (named_cost w) (if_free range name rest))
 after_same router w (Within lo hi) name rest same more = inl (same, more)
 after_same router w AsItIs name rest same more = more
 
 after_other : (router : List ℕ) (w : List ℕ) (range : Range) (name : VarName) (rest : List VarName) →
-    same_bytes router name.router ≡ false → NoneOf router (map (line_at w) rest) →
-    AfterRun router (map (line_at w) (if_free range name rest))
+    same_bytes router name.router ≡ false → NoneOf router (map (named_cost w) rest) →
+    AfterRun router (map (named_cost w) (if_free range name rest))
 after_other router w (Within lo hi) name rest other more = inr (other, more)
-after_other router w AsItIs name rest other more = none_after router (map (line_at w) rest) more
+after_other router w AsItIs name rest other more = none_after router (map (named_cost w) rest) more
 
 one_same : (router : List ℕ) (w : List ℕ) (range : Range) (name : VarName) (rest : List VarName) →
-    same_bytes router name.router ≡ true → AfterRun router (map (line_at w) rest) →
-    OneRun router (map (line_at w) (if_free range name rest))
+    same_bytes router name.router ≡ true → AfterRun router (map (named_cost w) rest) →
+    OneRun router (map (named_cost w) (if_free range name rest))
 one_same router w (Within lo hi) name rest same more = inl (same, more)
-one_same router w AsItIs name rest same more = after_one router (map (line_at w) rest) more
+one_same router w AsItIs name rest same more = after_one router (map (named_cost w) rest) more
 
 one_other : (router : List ℕ) (w : List ℕ) (range : Range) (name : VarName) (rest : List VarName) →
-    same_bytes router name.router ≡ false → OneRun router (map (line_at w) rest) →
-    OneRun router (map (line_at w) (if_free range name rest))
+    same_bytes router name.router ≡ false → OneRun router (map (named_cost w) rest) →
+    OneRun router (map (named_cost w) (if_free range name rest))
 one_other router w (Within lo hi) name rest other more = inr (other, more)
 one_other router w AsItIs name rest other more = more
 
@@ -100,7 +100,7 @@ InRouters d links = All (λ link. link.router < length d.routers) links
 
 none_behind : (a : Asked) (d : Database) (w : List ℕ) (n l : ℕ) (links : List Linked) →
     AllPairs (λ a b. a ≢ b) d.routers → n < length d.routers → InRouters d links → All (λ link. n < link.router) links →
-    NoneOf (slice_index_or d.routers n []) (map (line_at w) (names_from a d l links))
+    NoneOf (slice_index_or d.routers n []) (map (named_cost w) (names_from a d l links))
 none_behind a d w n l [] different n_in within above = tt
 none_behind a d w n l (link ∷ links) different n_in within above =
     let here : n < link.router = All-head (λ (i : Linked). n < i.router) link links above in
@@ -116,7 +116,7 @@ higher n m links less above = λ k e within. let h = above k e within in omega a
 run_from : (a : Asked) (d : Database) (w : List ℕ) (n l : ℕ) (links : List Linked) → AllPairs (λ a b. a ≢ b) d.routers →
     n < length d.routers → InRouters d links → AllPairs (λ a b. a.router ≤ b.router) links →
     All (λ link. n ≤ link.router) links →
-    AfterRun (slice_index_or d.routers n []) (map (line_at w) (names_from a d l links))
+    AfterRun (slice_index_or d.routers n []) (map (named_cost w) (names_from a d l links))
 run_from a d w n l [] different n_in within sorted above = tt
 run_from a d w n l (link ∷ links) different n_in within sorted above =
     let here : n ≤ link.router = All-head (λ (i : Linked). n ≤ i.router) link links above in
@@ -140,7 +140,7 @@ run_from a d w n l (link ∷ links) different n_in within sorted above =
 pub one_run : (a : Asked) (d : Database) (w : List ℕ) (n l : ℕ) (links : List Linked) →
     AllPairs (λ a b. a ≢ b) d.routers → n < length d.routers → InRouters d links →
     AllPairs (λ a b. a.router ≤ b.router) links →
-    OneRun (slice_index_or d.routers n []) (map (line_at w) (names_from a d l links))
+    OneRun (slice_index_or d.routers n []) (map (named_cost w) (names_from a d l links))
 one_run a d w n l [] different n_in within sorted = tt
 one_run a d w n l (link ∷ links) different n_in within sorted =
     let inside : link.router < length d.routers = All-head (λ (i : Linked). i.router < length d.routers) link links within in
@@ -154,8 +154,8 @@ one_run a d w n l (link ∷ links) different n_in within sorted =
         | inl less ↦
             one_other (slice_index_or d.routers n []) w (range_of a d link) (name_of a d l link) (names_from a d (l + 1) links)
             (other_router d n link.router different n_in inside (λ same. absurd (omega arith)))
-            (after_one (slice_index_or d.routers n []) (map (line_at w) (names_from a d (l + 1) links))
-            (none_after (slice_index_or d.routers n []) (map (line_at w) (names_from a d (l + 1) links))
+            (after_one (slice_index_or d.routers n []) (map (named_cost w) (names_from a d (l + 1) links))
+            (none_after (slice_index_or d.routers n []) (map (named_cost w) (names_from a d (l + 1) links))
             (none_behind a d w n (l + 1) links different n_in behind (higher n link.router links less (pairs_head link links sorted)))))
         | inr more ↦
             one_other (slice_index_or d.routers n []) w (range_of a d link) (name_of a d l link) (names_from a d (l + 1) links)

@@ -21,6 +21,7 @@ use Rattle.path_requests.specs.Meaning.{range_of, is_free, variable_of, present_
 use Rattle.wanted_paths.specs.Paths.{is_named}
 use Rattle.cost_base.proofs.ByteLemmas.{same_bytes-true, same_bytes-same}
 use Rattle.wanted_paths.proofs.RouteLaws.{router_number_is}
+use Rattle.wish_commands.specs.SharedParts.{named_cost}
 use Rattle.designer_command.specs.ReadBack.{fixed_at, graph_with}
 use Rattle.designer_command.proofs.CheapestWith.{edge_with}
 
@@ -30,10 +31,6 @@ cost_in [] router interface before = before
 cost_in (line ∷ lines) router interface before =
     cost_in lines router interface (if same_bytes line.router router && same_bytes line.interface interface then Some line.cost else before)
 
--- the line of a name at costs
-abbrev pub line_at : List ℕ → VarName → CostLine
-line_at w name = record { router = name.router; interface = name.interface; cost = slice_index w name.var }
-
 same_line : (r s i j : List ℕ) (c k : ℕ) → r ≡ s → i ≡ j → c ≡ k →
     ◌≡◌ {A = CostLine} (record { router = r; interface = i; cost = c }) (record { router = s; interface = j; cost = k })
 same_line r s i j c k routers interfaces costs = cc
@@ -41,12 +38,12 @@ same_line r s i j c k routers interfaces costs = cc
 -- lines that name variables are the names' lines
 pub named_lines : (w : List ℕ) (names : List VarName) (lines : List CostLine) →
     AllZip (λ name line. (line.router ≡ name.router) × (line.interface ≡ name.interface)
-    × (line.cost ≡ slice_index w name.var)) names lines → lines ≡ map (line_at w) names
+    × (line.cost ≡ slice_index w name.var)) names lines → lines ≡ map (named_cost w) names
 named_lines w [] [] zip = refl
 named_lines w [] (line ∷ lines) zip = absurd zip
 named_lines w (name ∷ names) [] zip = absurd zip
 named_lines w (name ∷ names) (line ∷ lines) zip =
-    let head : line ≡ line_at w name =
+    let head : line ≡ named_cost w name =
     same_line line.router name.router line.interface name.interface line.cost (slice_index w name.var) zip.0.0
     zip.0.1 zip.0.2 in
     let tail = named_lines w names lines zip.1 in
@@ -68,7 +65,7 @@ cond_same false o = refl
 
 -- what the line of one link does, if it has one
 one_cost : (a : Asked) (d : Database) (w : List ℕ) (l : ℕ) (link : Linked) (range : Range) (r x : List ℕ) (before : Option ℕ) →
-    cost_in (map (line_at w) (if is_free range then
+    cost_in (map (named_cost w) (if is_free range then
     record {
       router = slice_index_or d.routers link.router [];
       interface = link.interface;
@@ -79,33 +76,33 @@ one_cost a d w l link (Within lo hi) r x before = refl
 one_cost a d w l link AsItIs r x before = cond_same (is_named d r x link) before
 
 cost_step : (a : Asked) (d : Database) (w : List ℕ) (l : ℕ) (link : Linked) (links : List Linked) (r x : List ℕ) (before : Option ℕ) →
-    cost_in (map (line_at w) (names_from a d l (link ∷ links))) r x before
-    ≡ cost_in (map (line_at w) (names_from a d (l + 1) links)) r x
+    cost_in (map (named_cost w) (names_from a d l (link ∷ links))) r x before
+    ≡ cost_in (map (named_cost w) (names_from a d (l + 1) links)) r x
     (cond (is_named d r x link) (cost_given w (price_of a d l link (range_of a d link)) before) before)
 cost_step a d w l link links r x before =
     let first : List VarName = if is_free (range_of a d link) then
     record { router = slice_index_or d.routers link.router []; interface = link.interface; var = variable_of a d l }
     ∷ [] else [] in
-    ap (λ (lines : List CostLine). cost_in lines r x before) (map-append (line_at w) first (names_from a d (l + 1) links))
-    ∙ cost_in-append (map (line_at w) first) (map (line_at w) (names_from a d (l + 1) links)) r x before
-    ∙ ap (cost_in (map (line_at w) (names_from a d (l + 1) links)) r x) (one_cost a d w l link (range_of a d link) r x before)
+    ap (λ (lines : List CostLine). cost_in lines r x before) (map-append (named_cost w) first (names_from a d (l + 1) links))
+    ∙ cost_in-append (map (named_cost w) first) (map (named_cost w) (names_from a d (l + 1) links)) r x before
+    ∙ ap (cost_in (map (named_cost w) (names_from a d (l + 1) links)) r x) (one_cost a d w l link (range_of a d link) r x before)
 
 -- lines of other links leave the cost
 none_named : (a : Asked) (d : Database) (w : List ℕ) (l : ℕ) (links : List Linked) (r x : List ℕ) (before : Option ℕ) →
     ((k : ℕ) (other : Linked) → slice_get links k ≡ Some other → is_named d r x other ≡ false) →
-    cost_in (map (line_at w) (names_from a d l links)) r x before ≡ before
+    cost_in (map (named_cost w) (names_from a d l links)) r x before ≡ before
 none_named a d w l [] r x before others = refl
 none_named a d w l (link ∷ links) r x before others =
     cost_step a d w l link links r x before
     ∙ rw (others 0 link refl) (none_named a d w (l + 1) links r x before (λ k other there. others (suc k) other there))
 
 -- the line of the link at a place gives its cost, where no other link has its name
-pub named_cost : (a : Asked) (d : Database) (w : List ℕ) (l : ℕ) (links : List Linked) (r x : List ℕ)
+pub link_cost : (a : Asked) (d : Database) (w : List ℕ) (l : ℕ) (links : List Linked) (r x : List ℕ)
     (before : Option ℕ) (k : ℕ) (link : Linked) → slice_get links k ≡ Some link → is_named d r x link ≡ true →
     ((j : ℕ) (other : Linked) → j ≢ k → slice_get links j ≡ Some other → is_named d r x other ≡ false) →
-    cost_in (map (line_at w) (names_from a d l links)) r x before ≡ cost_given w (price_of a d (l + k) link (range_of a d link)) before
-named_cost a d w l [] r x before k link there named others = absurd (cc)
-named_cost a d w l (first ∷ links) r x before zero link there named others =
+    cost_in (map (named_cost w) (names_from a d l links)) r x before ≡ cost_given w (price_of a d (l + k) link (range_of a d link)) before
+link_cost a d w l [] r x before k link there named others = absurd (cc)
+link_cost a d w l (first ∷ links) r x before zero link there named others =
     let same : first ≡ link = cc in
     let here : is_named d r x first ≡ true = ap (is_named d r x) same ∙ named in
     let place : l ≡ l + 0 = omega arith in
@@ -114,11 +111,11 @@ named_cost a d w l (first ∷ links) r x before zero link there named others =
     (λ j other stands. others (suc j) other (λ e. absurd (omega arith)) stands))
     ∙ ap (λ (i : Linked). cost_given w (price_of a d l i (range_of a d i)) before) same
     ∙ ap (λ (n : ℕ). cost_given w (price_of a d n link (range_of a d link)) before) place
-named_cost a d w l (first ∷ links) r x before (suc k) link there named others =
+link_cost a d w l (first ∷ links) r x before (suc k) link there named others =
     let place : l + 1 + k ≡ l + suc k = omega arith in
     cost_step a d w l first links r x before
     ∙ rw (others 0 first (λ e. absurd (omega arith)) refl)
-    (named_cost a d w (l + 1) links r x before k link there named (λ j other apart stands. others (suc j) other (λ e. apart (omega arith)) stands))
+    (link_cost a d w (l + 1) links r x before k link there named (λ j other apart stands. others (suc j) other (λ e. apart (omega arith)) stands))
     ∙ ap (λ (n : ℕ). cost_given w (price_of a d n link (range_of a d link)) before) place
 
 -- no two links of a database have the same names
@@ -182,7 +179,7 @@ given_price a d w l link AsItIs cost is = ap (λ (o : Option ℕ). Fixed (unwrap
 
 -- the price of each link with the costs of the lines is its price at costs
 price_back : (a : Asked) (d : Database) (w : List ℕ) (k : ℕ) (link : Linked) → IsDatabase d → slice_get d.links k ≡ Some link →
-    Fixed (present_cost a (recosted_link (costs_by_lines (map (line_at w) (names_from a d 0 d.links)) d.routers) link))
+    Fixed (present_cost a (recosted_link (costs_by_lines (map (named_cost w) (names_from a d 0 d.links)) d.routers) link))
     ≡ fixed_at w (price_of a d k link (range_of a d link))
 price_back a d w k link base there =
     let r : List ℕ = slice_index_or d.routers link.router [] in
@@ -190,9 +187,9 @@ price_back a d w k link base there =
     and_from (same_bytes r r) (same_bytes link.interface link.interface) (same_bytes-same r r refl)
     (same_bytes-same link.interface link.interface refl) in
     let place : 0 + k ≡ k = omega arith in
-    let cost = named_cost a d w 0 d.links r link.interface link.cost k link there named
+    let cost = link_cost a d w 0 d.links r link.interface link.cost k link there named
     (λ j other apart stands. named_once d k j link other base there stands apart) in
-    given_price a d w k link (range_of a d link) (cost_in (map (line_at w) (names_from a d 0 d.links)) r link.interface link.cost)
+    given_price a d w k link (range_of a d link) (cost_in (map (named_cost w) (names_from a d 0 d.links)) r link.interface link.cost)
     (cost ∙ ap (λ (n : ℕ). cost_given w (price_of a d n link (range_of a d link)) link.cost) place)
 
 prices_back : (a : Asked) (d : Database) (w : List ℕ) (c : ℕ → List ℕ → Option ℕ → Option ℕ) (l : ℕ) (links : List Linked) →
@@ -247,7 +244,7 @@ pub recosted_graph_is : (a : Asked) (d : Database) (w : List ℕ) (lines : List 
     ≡ graph_with w (graph_at d (prices_from a d 0 d.links))
 recosted_graph_is a d w lines base zip =
     let are = named_lines w (names_from a d 0 d.links) lines zip in
-    let c : ℕ → List ℕ → Option ℕ → Option ℕ = costs_by_lines (map (line_at w) (names_from a d 0 d.links)) d.routers in
+    let c : ℕ → List ℕ → Option ℕ → Option ℕ = costs_by_lines (map (named_cost w) (names_from a d 0 d.links)) d.routers in
     ap (λ (ls : List CostLine). graph_at (recosted (costs_by_lines ls d.routers) d)
     (map (λ link. Fixed (present_cost a link)) (recosted (costs_by_lines ls d.routers) d).links)) are
     ∙ recosted_graph c d (map (λ link. Fixed (present_cost a link)) (map (recosted_link c) d.links))

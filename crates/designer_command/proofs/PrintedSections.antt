@@ -3,6 +3,7 @@ use Rattle.std.proofs.Common.{◌≡◌, ℕ, ◌⊎◌, inl, inr, refl, sym, �
 use Rattle.std.specs.Prelude.{codes, All, ◌==◌, if◌then◌else◌}
 use Rattle.std.proofs.lemmas.List.{append_assoc}
 use Rattle.std.proofs.lemmas.List.Elements.{All-head, All-tail}
+use Rattle.std.proofs.Math.Bool.{and-true}
 use Rattle.std.proofs.lemmas.Bool.{and_from, and_parts, and_right, cases_Bool, false≢true}
 use Rattle.cost_base.specs.Decimal.{decimal}
 use Rattle.cost_base.specs.Lists.{same_bytes}
@@ -120,11 +121,7 @@ router_words name one = ap (λ (ws : List (List ℕ)). codes "router" ∷ ws) (w
 
 router_opens : (router name : List ℕ) → IsOneWord name → opens_section router (router_line name) ≡ same_bytes router name
 router_opens router name one =
-    ap (λ (ws : List (List ℕ)). length ws == 2 && begin_with (codes "router" ∷ router ∷ []) ws) (router_words name one) ∙ by_test (same_bytes router name)
-  where
-    by_test : (b : Bool) → (b && true) ≡ b
-    by_test true = refl
-    by_test false = refl
+    ap (λ (ws : List (List ℕ)). length ws == 2 && begin_with (codes "router" ∷ router ∷ []) ws) (router_words name one) ∙ and-true (same_bytes router name)
 
 -- the lines of an interface's cost
 abbrev three : CostLine → List (List ℕ) → List (List ℕ)

@@ -29,7 +29,8 @@ use Rattle.cost_base.proofs.ByteLemmas.{same_bytes-true, same_bytes-same, same_b
 use Rattle.input_files.specs.Outcomes.{ConfigFile, Input, routers_of}
 use Rattle.designer_command.specs.ReadBack.{router_back, database_back, graph_back, graph_with}
 use Rattle.input_files.proofs.ReadyInputs.{IsReadyInput}
-use Rattle.designer_command.proofs.PresentCosts.{cost_in, line_at, named_lines, costs_by_lines, recosted_graph_is}
+use Rattle.wish_commands.specs.SharedParts.{named_cost}
+use Rattle.designer_command.proofs.PresentCosts.{cost_in, named_lines, costs_by_lines, recosted_graph_is}
 use Rattle.designer_command.proofs.PrintedText.{NamesWords}
 use Rattle.designer_command.proofs.PrintedSections.{pairs_of, OneRun, section_printed}
 use Rattle.designer_command.proofs.LineRuns.{one_run, IsNameOf, names_known, number_of}
@@ -148,7 +149,7 @@ router_back_is : (d : Database) (asked : Asked) (files : List ConfigFile) (a : A
     (k : ℕ) (file : ConfigFile) → IsDatabase d → d.routers ≡ map (λ r. r.name) (routers_of files) →
     All (IsNameOf d.routers (routers_of files)) (names_from asked d 0 d.links) →
     All (λ name. (1 ≤ slice_index w name.var) × (slice_index w name.var ≤ 65535)) (names_from asked d 0 d.links) →
-    a.costs ≡ Some costs → costs.lines ≡ map (line_at w) (names_from asked d 0 d.links) →
+    a.costs ≡ Some costs → costs.lines ≡ map (named_cost w) (names_from asked d 0 d.links) →
     slice_get files k ≡ Some file →
     router_back (text a) file ≡ recosted_router (costs_by_lines costs.lines d.routers k)
     (config_of file.name file.bytes)
@@ -161,11 +162,11 @@ router_back_is d asked files a costs w k file base names known within some are t
     let pairs : List (List ℕ × ℕ) = pairs_of (config_of file.name file.bytes).name costs.lines in
     let run : OneRun (config_of file.name file.bytes).name costs.lines
     = subst (λ (ls : List CostLine). OneRun (config_of file.name file.bytes).name ls) (sym are)
-    (subst (λ (r : List ℕ). OneRun r (map (line_at w) (names_from asked d 0 d.links))) stands
+    (subst (λ (r : List ℕ). OneRun r (map (named_cost w) (names_from asked d 0 d.links))) stands
     (one_run asked d w k 0 d.links base.different inside (λ j link link_in. (base.each_link j link link_in).router) base.in_order)) in
     let words : All NamesWords costs.lines
     = subst (λ (ls : List CostLine). All NamesWords ls) (sym are)
-    (All-map NamesWords (line_at w) (names_from asked d 0 d.links)
+    (All-map NamesWords (named_cost w) (names_from asked d 0 d.links)
     (λ j name name_in. record {
       router = (known j name name_in).router_word;
       interface = (known j name name_in).interface_word;
@@ -175,7 +176,7 @@ router_back_is d asked files a costs w k file base names known within some are t
     (subst (λ (ls : List CostLine). All (λ line. same_bytes (config_of file.name file.bytes).name line.router ≡ true →
     IsSectionCost (lines file.bytes) (line.interface, line.cost)) ls) (sym are)
     (All-map (λ (line : CostLine). same_bytes (config_of file.name file.bytes).name line.router ≡ true →
-    IsSectionCost (lines file.bytes) (line.interface, line.cost)) (line_at w) (names_from asked d 0 d.links)
+    IsSectionCost (lines file.bytes) (line.interface, line.cost)) (named_cost w) (names_from asked d 0 d.links)
     (λ j name name_in same. section_cost d files w k file (get_or (names_from asked d 0 d.links) j name) base names
     there (known j name name_in) (within j name name_in) same))) in
     ap (λ (section_is : List (List ℕ)). config_of file.name (ended file.bytes ++ with_ends section_is))
@@ -189,7 +190,7 @@ router_back_is d asked files a costs w k file base names known within some are t
 -- the database read back is the database with the costs of the lines
 pub database_back_is : (d : Input) (a : AnswerParts) (costs : Costs) (w : List ℕ) →
     d.database ≡ database_of d.asked.area (routers_of d.files) → IsDatabase d.database → a.costs ≡ Some costs →
-    costs.lines ≡ map (line_at w) (names_from d.asked d.database 0 d.database.links) →
+    costs.lines ≡ map (named_cost w) (names_from d.asked d.database 0 d.database.links) →
     All (λ name. (1 ≤ slice_index w name.var) × (slice_index w name.var ≤ 65535))
     (names_from d.asked d.database 0 d.database.links) →
     database_back d (text a) ≡ recosted (costs_by_lines costs.lines d.database.routers) d.database

@@ -14,7 +14,7 @@ use Rattle.input_files.specs.declared.stop.Stop.TheVariants as stops
 use Rattle.input_files.specs.Readings.{Reading, Gave, End, Says, Faulty, Failed}
 use Rattle.input_files.specs.Stops.{StopsAs, IsReadAs, refusal_in}
 use Rattle.report_writer.specs.declared.report.Report.{Report}
-use Rattle.report_writer.specs.Reports.{Reports, ReportsStop, ReportsAny, IsWritten, bytes_in}
+use Rattle.report_writer.specs.Reports.{ReportsStop, ReportsAny, IsWritten, bytes_in}
 use Rattle.input_files.specs.Outcomes.{Input}
 use Rattle.case_maker.specs.Cases.{made_case}
 use Rattle.designer_command.specs.Trials.{MayTryEnd, case_end}
@@ -119,11 +119,6 @@ written_meets may handed got_before got_now count_before count_now aim bytes end
 written_meets may handed got_before got_now count_before count_now aim bytes end none got allowed (inr h) =
     subst (λ (s : Status). Writes may handed got_before got_now count_before count_now s) (sym h.0)
     (record { status = aim; bytes = bytes; allowed = allowed; length = h.1.0; written = h.1.1; part = got (take h.1.0 bytes) h.1.1; cause = h.2 })
-
--- a report of this status and text may be written where they may
-pub may_report : (may : Status → List ℕ → Type 0) (aim : Status) (bytes : List ℕ) (report : Report) →
-    Reports aim bytes report → may aim bytes → may report.status (bytes_in report.text)
-may_report may aim bytes report r h = subst (λ (b : List ℕ). may report.status b) (sym r.text) (subst (λ (s : Status). may s bytes) (sym r.status) h)
 
 -- a report that memory sufficed for, or not, ends a run
 pub made_meets : (Same : Type 0) (may : Status → List ℕ → Type 0) (handed : List ℕ → Type 0)

@@ -35,7 +35,7 @@ use Rattle.report_writer.specs.Reports.{Reports, bytes_in}
 use Rattle.designer_command.specs.Designs.{IsAnswerTo, IsDesigned}
 use Rattle.designer_command.specs.TotalRuns.{IsFloorTotal, IsProvedTotal, IsTotalUndecided, IsTotalled, MayTotal, ReportsFound, ReportsFoundAs, ReportsTotal, at_cap, bound_lines, found_text, proof_lines, shown_lines, total_text}
 use Rattle.designer_command.proofs.DesignedLaws.{designed_costs, designed_is, impossible_is, undecided_is}
-use Rattle.designer_command.proofs.Runs.{may_report}
+use Rattle.report_writer.proofs.ReportLaws.{may_report}
 
 abbrev cap_in : Verdict → ℕ
 cap_in (Optimal k) = k

@@ -16,8 +16,8 @@ use Rattle.path_rows.specs.declared.answer.Verdict.{Verdict}
 use Rattle.path_rows.specs.declared.answer.Verdict.TheVariants.{Optimal, Impossible, Budget}
 use Rattle.path_rows.specs.Problems.{DesignProblem}
 use Rattle.path_rows.specs.Rows.{IsBest, greatest_cost}
-use Rattle.evidence_checker.specs.Tests.{costs_given}
-use Rattle.evidence_checker.proofs.CostLaws.{names_written}
+use Rattle.path_rows.specs.GivenCosts.{costs_given}
+use Rattle.path_rows.proofs.GivenCosts.{names_written}
 use Rattle.path_rows.specs.Answers.{AnswerParts, Names, lines_in}
 use Rattle.path_rows.specs.Text.{text}
 use Rattle.least_bound.specs.Answered.{VerdictHolds}
@@ -38,7 +38,7 @@ use Rattle.designer_command.specs.Designs.{IsAnswerTo, IsShownImpossible, IsShow
 use Rattle.designer_command.specs.Reported.{status_of}
 use Rattle.designer_command.specs.Trials.{MayTry, MayTryEnd, MayTrial, case_end, case_files, case_texts, costless_line, summary_line, trial_limits}
 use Rattle.designer_command.proofs.DesignedLaws.{gives_best, impossible_is, undecided_is}
-use Rattle.designer_command.proofs.Runs.{may_report}
+use Rattle.report_writer.proofs.ReportLaws.{may_report}
 
 abbrev TriesAll : ℕ → ℕ → DesignProblem → Report → Type 0
 TriesAll blocks start p report = (d : Input) → d.problem ≡ p → MayTry blocks start d report.status (bytes_in report.text)

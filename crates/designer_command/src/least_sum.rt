@@ -1,16 +1,14 @@
 //! `total`: the least total among the best costs.
-ghost use Rattle.std.specs.Prelude.{◌≡◌, ◌++◌, ◌∷◌, [], ◌≤◌, IfOk, OnOk, Some, codes};
+ghost use Rattle.std.specs.Prelude.{◌≡◌, ◌++◌, ◌∷◌, [], ◌≤◌, IfOk, OnOk, codes};
 ghost use Rattle.cost_base.specs.Decimal.{decimal};
 ghost use Rattle.form_search.specs.Advised.{AreCalled};
 ghost use Rattle.command_words.specs.Jobs.{bounds};
-ghost use Rattle.path_rows.specs.Text.{spaced, text, tree_lines};
+ghost use Rattle.path_rows.specs.Text.{spaced, text};
 ghost use Rattle.text_lines.specs.Lines.{with_ends};
-ghost use Rattle.evidence_text.specs.Parts.{part_word, rows_lines};
 ghost use Rattle.input_files.specs.Readings.{Gave};
 ghost use Rattle.input_files.specs.Outcomes.{outcome};
 ghost use Rattle.input_files.specs.Stops.{IsReadAs, files_named};
 ghost use Rattle.report_writer.specs.Reports.{bytes_in};
-ghost use Rattle.least_total.specs.Results.{FitText};
 ghost use Rattle.designer_command.specs.Designs.{IsAnswerTo};
 ghost use Rattle.designer_command.specs.TotalRuns.{CanPrint, MayTotal, CanReport, ReportsFoundAs, ReportsTotal, shown_lines};
 
@@ -21,11 +19,11 @@ use cost_base::{OutOfMemory, Shelf, Status};
 use evidence_text::TreePart;
 use input_files::{FileWords, Stop, View, read_problem};
 use least_total::{Total, TotalProof, least_total};
-use path_rows::{Answer, CapTree, Problem, Row, Tree, Verdict};
+use path_rows::{Answer, CapTree, Problem, Verdict};
 use report_writer::Report;
 use std::alloc::Global;
 use text_lines::{push_bytes, push_number};
-use text_parts::{push_rows, push_tree, text_of_answer};
+use text_parts::{push_evidence, text_of_answer};
 use wide_fraction::Limits;
 
 /// Adds a line of a word and a number.
@@ -51,21 +49,6 @@ fn begun_text(alloc: Global, answer: &Answer, total: u64) -> Result<Vec<u8>, Out
     Ok(text)
 }
 
-/// Adds the parts of rows and of a tree over the box at a cap.
-fn push_evidence(
-    alloc: Global,
-    text: &mut Vec<u8>,
-    rows: &[Row],
-    part: TreePart,
-    tree: CapTree,
-) -> Result<(), OutOfMemory>
-    requires { FitText tree.cap rows.now tree.tree }
-    ensures { OnOk result (text.new.items ≡ text.old.items ++ with_ends (rows_lines rows.now ++ tree_lines (part_word part) (Some tree))) }
-{
-    push_rows(alloc, text, rows)?;
-    push_tree(alloc, text, part, Some(&tree))
-}
-
 /// Adds the lines that show that a total is the least.
 fn push_proof(
     alloc: Global,
@@ -79,7 +62,7 @@ fn push_proof(
     match proof {
         TotalProof::Floor => push_bytes(text, b"floor total\n"),
         TotalProof::Tree { rows, tree } => {
-            push_evidence(alloc, text, &rows, TreePart::Proof, CapTree { cap, tree })
+            push_evidence(alloc, text, &rows, TreePart::Proof, &CapTree { cap, tree })
         }
     }
 }
@@ -112,7 +95,7 @@ fn report_of_found(alloc: Global, cap: u16, found: Total) -> Result<Report, OutO
             let mut text = begun_text(alloc, &answer, total)?;
             push_line(&mut text, b"bound", bound)?;
             let tree = CapTree { cap, tree };
-            push_evidence(alloc, &mut text, &rows, TreePart::Unfinished, tree)?;
+            push_evidence(alloc, &mut text, &rows, TreePart::Unfinished, &tree)?;
             push_bytes(&mut text, b"end\n")?;
             Ok(Report::made(Status::Undecided, text))
         }

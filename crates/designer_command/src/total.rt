@@ -1,11 +1,10 @@
 //! The total of the costs of an answer.
 ghost use Rattle.std.specs.Prelude.{◌≡◌, ◌≤◌, length, IfOk};
 ghost use Rattle.std.specs.List.{sum};
-ghost use Rattle.evidence_checker.specs.Tests.{costs_given};
+ghost use Rattle.path_rows.specs.GivenCosts.{costs_given};
 
 use cost_base::OutOfMemory;
-use evidence_checker::costs_given;
-use path_rows::{CostLine, Problem};
+use path_rows::{CostLine, Problem, costs_given};
 use std::alloc::Global;
 
 /// The sum of costs.

@@ -1,5 +1,6 @@
 -- The parts of an answer's text, in their order.
 use Rattle.std.proofs.Common.{◌≡◌, ℕ, List, [], ◌∷◌, ◌++◌, codes, append_assoc, ◌∙◌, sym, ap, subst, Option}
+use Rattle.path_rows.specs.declared.answer.Answer.TheInside.{Inside}
 use Rattle.path_rows.specs.declared.answer.CapTree.{CapTree}
 use Rattle.path_rows.specs.declared.answer.Costs.{Costs}
 use Rattle.path_rows.specs.declared.form.Row.{Row}
@@ -10,6 +11,17 @@ use Rattle.evidence_text.specs.Lines.{AreShort}
 use Rattle.evidence_text.specs.Parts.{head_lines, floor_line, rows_lines, end_lines}
 use Rattle.text_lines.proofs.LineLaws.{with_ends-append}
 use Rattle.evidence_text.proofs.TextLaws.{short_front, short_rest}
+
+-- what an answer holds
+abbrev pub parts_held : Inside → AnswerParts
+parts_held a = record {
+  verdict = a.verdict;
+  costs = a.costs;
+  floor = a.floor;
+  rows = a.rows;
+  proof = a.proof;
+  unfinished = a.unfinished;
+}
 
 -- what follows the proof
 abbrev pub after_proof : AnswerParts → List (List ℕ)

@@ -2,7 +2,8 @@
 use Rattle.std.proofs.Common.{◌≡◌, ℕ, ◌++◌, List, sym, subst, arith, Option, Result, Ok, Err}
 use Rattle.std.proofs.lemmas.Bool.{false≢true}
 use Rattle.std.specs.Result.{IsErr}
-use Rattle.cost_base.proofs.PutPieces.{whole_whole, whole_part, part_more}
+use Rattle.cost_base.specs.HistoryLaws.{handed_more}
+use Rattle.cost_base.proofs.PutPieces.{whole_part, part_more}
 use Rattle.evidence_text.specs.Lines.{IsPut}
 
 -- a text was put, and then another one is put or refused
@@ -10,7 +11,7 @@ pub put-then : {T E : Type 0} {a b c : Option (List ℕ)} {f0 f1 f2 : ℕ} {x : 
     IsPut {T = T} {E = E} a b f0 f1 xs (Ok x) → IsPut b c f1 f2 ys result → IsPut a c f0 f2 (xs ++ ys) result
 put-then {T} {E} {a} {b} {c} {f0} {f1} {f2} {x} {xs} {ys} (Ok y) p q =
     record {
-      whole = whole_whole a b c xs ys p.whole q.whole;
+      whole = handed_more a b c xs ys p.whole q.whole;
       part = tt;
       cause = record { later = omega (arith, p.cause.later, q.cause.later); failed = tt };
     }

@@ -1,10 +1,11 @@
 -- Lines put one after another.
-use Rattle.std.proofs.Common.{◌≡◌, ℕ, ◌+◌, ◌<◌, ◌≤◌, List, [], ◌∷◌, ◌++◌, length, map, get_or, drop, refl, sym, ap, ◌∙◌, subst, append_assoc, append-nil, arith, Option, Some, None, Result, Ok, Err}
+use Rattle.std.proofs.Common.{◌≡◌, ℕ, ◌+◌, ◌<◌, ◌≤◌, List, [], ◌∷◌, ◌++◌, length, map, get_or, drop, refl, sym, ap, ◌∙◌, subst, append_assoc, append-nil, arith, Option, Some, Result, Ok, Err}
 use Rattle.std.proofs.lemmas.List.{at_drop_more}
 use Rattle.std.proofs.lemmas.Bool.{false≢true}
 use Rattle.std.specs.Result.{IsErr}
 use Rattle.cost_base.specs.Outside.{GotWhole, GotPart}
-use Rattle.cost_base.proofs.PutPieces.{whole_whole, whole_part, part_more}
+use Rattle.cost_base.specs.HistoryLaws.{handed_more, handed_none}
+use Rattle.cost_base.proofs.PutPieces.{whole_part, part_more}
 use Rattle.path_rows.specs.declared.answer.CostLine.{CostLine}
 use Rattle.path_rows.specs.declared.answer.CapTree.{CapTree}
 use Rattle.path_rows.specs.declared.tree.Entry.{Entry}
@@ -29,14 +30,9 @@ pub next_short : {a b : Option (List ℕ)} {f0 f1 : ℕ} {left : List (List ℕ)
     (lines rest : List (List ℕ)) → left ≡ lines ++ rest → IsUnderway a b f0 f1 left total → AreShort lines
 next_short lines rest e u = short_front lines rest (subst AreShort e u.short)
 
--- a sink that got no more
-got_nothing : (a : Option (List ℕ)) → GotWhole a a []
-got_nothing None = tt
-got_nothing (Some x) = sym (append-nil x)
-
 -- before the first line
 pub begin : (a : Option (List ℕ)) (f : ℕ) (lines : List (List ℕ)) → AreShort lines → IsUnderway a a f f lines (with_ends lines)
-begin a f lines short = record { so_far = []; got = got_nothing a; later = omega arith; same = refl; short = short }
+begin a f lines short = record { so_far = []; got = handed_none a; later = omega arith; same = refl; short = short }
 
 -- what was put, the next lines and the rest are the whole
 joined : (so_far total : List ℕ) (left lines rest : List (List ℕ)) → left ≡ lines ++ rest →
@@ -53,7 +49,7 @@ pub turn : {T E : Type 0} {a b c : Option (List ℕ)} {f0 f1 f2 : ℕ} {left : L
 turn {T} {E} {a} {b} {c} {f0} {f1} {f2} {left} {total} {x} lines rest e u p =
     record {
       so_far = u.so_far ++ with_ends lines;
-      got = whole_whole a b c u.so_far (with_ends lines) u.got p.whole;
+      got = handed_more a b c u.so_far (with_ends lines) u.got p.whole;
       later = omega (arith, u.later, p.cause.later);
       same = joined u.so_far total left lines rest e u.same;
       short = short_rest lines rest (subst AreShort e u.short);

@@ -1,16 +1,13 @@
 -- Routes between the routers of LSAs.
-use Rattle.std.proofs.Common.{◌≡◌, ℕ, suc, ◌+◌, ◌<◌, ◌≤◌, refl, sym, ◌∙◌, ap, subst, List, [], ◌∷◌, length, map, arith, Bool, true, false, cond, Option, None, Some, slice_index_or}
+use Rattle.std.proofs.Common.{◌≡◌, ℕ, suc, ◌+◌, ◌<◌, ◌≤◌, refl, sym, ◌∙◌, ap, subst, List, [], ◌∷◌, length, arith, Bool, true, false, cond, Option, None, Some, slice_index_or}
 use Rattle.std.specs.Prelude.{All, codes, flat_map, unwrap_or, ◌*◌, ◌==◌, ◌&&◌, ◌||◌}
 use Rattle.std.specs.List.{list_any}
 use Rattle.std.proofs.lemmas.Bool.{false≢true}
-use Rattle.std.proofs.lemmas.List.{length-append, length-map}
 use Rattle.std.proofs.lemmas.List.Elements.{All-nil, All-cons, All-append}
 use Rattle.std.proofs.lemmas.Simd.{map-map}
 use Rattle.cost_base.specs.declared.Status.{Status}
 use Rattle.cost_base.specs.declared.Status.TheVariants.{Done}
-use Rattle.cost_base.specs.Lists.{numbers_from}
-use Rattle.cost_base.proofs.ListLemmas.{length-numbers_from}
-use Rattle.area_graph.specs.declared.Vertex.TheVariants.{Router as RouterVertex, Subnet as SubnetVertex}
+use Rattle.area_graph.proofs.Vertices.{vertices_length}
 use Rattle.area_graph.specs.declared.Price.{Price}
 use Rattle.area_graph.specs.declared.Price.TheVariants.{Fixed, Zero}
 use Rattle.area_graph.specs.declared.Edge.{Edge}
@@ -125,14 +122,10 @@ any_router id (lsa ∷ lsas) any = by_kind (is_router lsa) refl any (any_router 
 
 pub vertex_within : (lsas : List Lsa) (id : ℕ) → list_any (is_router_of id) lsas ≡ true → vertex_of lsas id < length (lsa_graph lsas).vertices
 vertex_within lsas id known =
-    let r = length (routers lsas) in
-    let s = length (networks lsas) in
     omega (
       arith,
       back_below 0 (is_router_of id) (routers lsas) (any_router id lsas known),
-      length-append (map RouterVertex (numbers_from 0 r)) (map SubnetVertex (numbers_from 0 s)),
-      length-map (numbers_from 0 r) RouterVertex,
-      length-numbers_from 0 r,
+      vertices_length (length (routers lsas)) (length (networks lsas)),
     )
 
 -- What is found.

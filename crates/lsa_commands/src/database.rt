@@ -11,7 +11,7 @@ ghost use Rattle.lsa_commands.specs.LsaFiles.{lsa_stop, lsas_read};
 
 use cost_base::Shelf;
 use input_files::{Stop, read_file};
-use lsa_bytes::{Body, Database, Lsa, LsaFault, LsaStop, read_lsas};
+use lsa_bytes::{Database, Lsa, LsaFault, LsaStop, is_router, read_lsas};
 use std::alloc::Global;
 
 /// The greatest length of a file of LSAs: 64 MiB.
@@ -50,10 +50,7 @@ pub fn read_database<'a, S: Shelf>(
 pub fn is_router_of(lsa: &Lsa, id: u32) -> bool
     ensures { result ≡ is_router_of id lsa.now }
 {
-    match lsa.body {
-        Body::Links(_) => lsa.router == id,
-        Body::Attached(_) => false,
-    }
+    is_router(lsa) && lsa.router == id
 }
 
 /// Whether a router has a router-LSA.

@@ -15,6 +15,7 @@ use interface_model::RouterConfig;
 use lsa_bytes::{IdFault, check_ids};
 use lsa_writer::lsas_of;
 use lsdb_build::{Linked, Lsdb};
+use path_requests::present_cost;
 use report_writer::Report;
 use request_reader::Requests;
 use std::alloc::Global;
@@ -40,13 +41,6 @@ fn check_router_ids<'a>(configs: &[RouterConfig], words: FileWords<'a>) -> Resul
         None => Ok(()),
         Some(found) => Err(stop_of_id(found, words)),
     }
-}
-
-/// The present cost of a link, or the default where it has none.
-fn present_cost(requests: &Requests, link: &Linked) -> u16
-    ensures { result ≡ present_cost requests.now link.now }
-{
-    link.cost.unwrap_or(requests.default_cost.unwrap_or(0))
 }
 
 /// The present costs of links.

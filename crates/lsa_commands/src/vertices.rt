@@ -1,18 +1,10 @@
 //! The vertices of LSAs, and what names them.
 ghost use Rattle.std.specs.Prelude.{◌≡◌, ◌<◌, ◌^◌, ◌++◌, IfOk, OnOk, length};
-ghost use Rattle.lsa_bytes.specs.Databases.{is_router};
 ghost use Rattle.lsa_commands.specs.Routes.{network_ids, router_ids, vertex_ids, vertex_of};
 
 use cost_base::OutOfMemory;
-use lsa_bytes::{Body, Lsa};
+use lsa_bytes::{Lsa, is_router};
 use std::alloc::Global;
-
-/// Whether an LSA is a router-LSA.
-fn is_router(lsa: &Lsa) -> bool
-    ensures { result ≡ is_router lsa.now }
-{
-    matches!(lsa.body, Body::Links(_))
-}
 
 /// The vertex of a router, 0 where it has no router-LSA.
 pub fn vertex_of(lsas: &[Lsa], id: u32) -> u32

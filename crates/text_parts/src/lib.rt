@@ -4,4 +4,4 @@
 mod parts;
 mod text_buffer;
 
-pub use parts::{push_costs, push_rows, push_tree, text_of_answer};
+pub use parts::{push_costs, push_evidence, push_rows, push_tree, text_of_answer};

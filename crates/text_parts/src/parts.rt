@@ -1,5 +1,5 @@
 //! The parts of an answer's text behind a text.
-ghost use Rattle.std.specs.Prelude.{◌≡◌, ◌++◌, IfOk, OnOk};
+ghost use Rattle.std.specs.Prelude.{◌≡◌, ◌++◌, Some, IfOk, OnOk};
 ghost use Rattle.std.specs.Option.{option_copied};
 ghost use Rattle.path_rows.specs.Text.{text, costs_lines, tree_lines};
 ghost use Rattle.text_lines.specs.Lines.{with_ends};
@@ -92,4 +92,24 @@ pub fn push_tree(
         }
         Err(PutFailed) => Err(OutOfMemory),
     }
+}
+
+/// Adds the lines of rows at the end, and behind them those of a tree, as the text of an answer has them in this part.
+///
+/// # Errors
+///
+/// `OutOfMemory`.
+pub fn push_evidence(
+    alloc: Global,
+    text: &mut Vec<u8>,
+    rows: &[Row],
+    part: TreePart,
+    tree: &CapTree,
+) -> Result<(), OutOfMemory>
+    requires rows { AreShort (rows_lines rows.now) }
+    requires tree { AreShort (tree_lines (part_word part) (Some tree.now)) }
+    ensures { OnOk result (text.new.items ≡ text.old.items ++ with_ends (rows_lines rows.now ++ tree_lines (part_word part) (Some tree.now))) }
+{
+    push_rows(alloc, text, rows)?;
+    push_tree(alloc, text, part, Some(tree))
 }

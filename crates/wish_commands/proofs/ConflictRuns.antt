@@ -1,6 +1,5 @@
 -- What `conflict` reports of the problem that was read.
-use Rattle.std.proofs.Common.{ℕ, refl, sym, subst, List}
-use Rattle.cost_base.specs.declared.Status.{Status}
+use Rattle.std.proofs.Common.{refl, sym, subst, List}
 use Rattle.cost_base.specs.Histories.{Taken}
 use Rattle.path_rows.specs.Problems.{DesignProblem}
 use Rattle.command_words.specs.Jobs.{Bounds}
@@ -12,16 +11,11 @@ use Rattle.input_files.specs.Stops.{IsReady}
 use Rattle.input_files.proofs.Problems.{IsProblemOf}
 use Rattle.report_writer.specs.declared.report.Report.{Report}
 use Rattle.report_writer.specs.Reports.{Reports, bytes_in}
+use Rattle.report_writer.proofs.ReportLaws.{may_report}
 use Rattle.conflict_core.specs.declared.conflict.Conflict.{Conflict}
 use Rattle.conflict_core.specs.declared.conflict.Conflict.TheVariants.{Fits, Core, Unknown}
 use Rattle.conflict_core.specs.Conflicts.{IsConflictFound}
 use Rattle.wish_commands.specs.Conflicts.{MayConflict, conflict_text, status_of}
-
--- a report of what may be written
-pub may_report : (may : Status → List ℕ → Type 0) (aim : Status) (bytes : List ℕ) (report : Report) →
-    Reports aim bytes report → may aim bytes → may report.status (bytes_in report.text)
-may_report may aim bytes report r allowed =
-    subst (λ (s : Status). may s (bytes_in report.text)) (sym r.status) (subst (may aim) (sym r.text) allowed)
 
 -- what was found may be written
 found_may : (limits : Bounds) (d : Input) (conflict : Conflict) →

@@ -4,10 +4,12 @@ use Rattle.std.specs.Prelude.{Option, None}
 use Rattle.std.specs.Borrow.{Bor}
 use Rattle.cost_base.specs.Histories.{Taken}
 use Rattle.path_rows.specs.Problems.{DesignProblem}
+use Rattle.text_lines.specs.LineFaults.{FaultyLine}
+use Rattle.set_reader.specs.declared.stop.SetFault.{SetFault}
 use Rattle.set_reader.specs.declared.stop.SetStop.{SetStop}
 use Rattle.set_reader.specs.declared.stop.SetStop.TheVariants as stops
 use Rattle.set_reader.specs.FaultNumbers.{number_of}
-use Rattle.set_reader.specs.Reading.{AreSaid, FaultyLine, TellsReading, set_fault}
+use Rattle.set_reader.specs.Reading.{AreSaid, TellsReading, set_fault}
 use Rattle.set_reader.specs.SpreadSets.{AreSetsOf}
 use Rattle.command_words.specs.Jobs.{Bounds}
 use Rattle.input_files.specs.Readings.{EndsAs, Faulty, Gave, Says}
@@ -19,7 +21,7 @@ use Rattle.spread_sets.specs.declared.spread.Spread.TheVariants.{Fit, Impossible
 use Rattle.spread_sets.specs.Answers.{IsSpreadFound}
 use Rattle.wish_commands.specs.SetFiles.{AreSetsIn, Sharing, if_sets, set_stop, sets_read}
 use Rattle.wish_commands.specs.Spreads.{MaySpread, spread_text, status_of}
-use Rattle.wish_commands.proofs.ConflictRuns.{may_report}
+use Rattle.report_writer.proofs.ReportLaws.{may_report}
 
 abbrev sharing_of : DesignProblem → List ℕ → Sharing
 sharing_of p bytes = record { problem = p; bytes = bytes }
@@ -34,7 +36,7 @@ pub sets_ready : (file : List ℕ) (p : DesignProblem) (bytes : List ℕ) (sets 
     IsReady (if_sets file p bytes (set_fault p bytes)) [] (AreSetsFor p) sets
 sets_ready file p bytes sets none said lawful = record {
   said = sharing_of p bytes;
-  ends = subst (λ (f : Option FaultyLine). EndsAs (if_sets file p bytes f) [] (Says (sharing_of p bytes))) (sym none) refl;
+  ends = subst (λ (f : Option (FaultyLine SetFault)). EndsAs (if_sets file p bytes f) [] (Says (sharing_of p bytes))) (sym none) refl;
   fits = (refl, record { said = said; lawful = lawful });
 }
 
@@ -43,7 +45,7 @@ pub sets_stop : (file : Bor (List ℕ)) (p : DesignProblem) (bytes : List ℕ) (
     TellsReading (set_fault p bytes) stop →
     StopsAs (if_sets file.now p bytes (set_fault p bytes)) [] (set_stop stop file)
 sets_stop file p bytes (stops.Refused fault line) tells =
-    subst (λ (f : Option FaultyLine). EndsAs (if_sets file.now p bytes f) [] (Faulty (refusal_in (number_of fault) file line))) (sym tells) refl
+    subst (λ (f : Option (FaultyLine SetFault)). EndsAs (if_sets file.now p bytes f) [] (Faulty (refusal_in (number_of fault) file line))) (sym tells) refl
 sets_stop file p bytes stops.OutOfMemory tells = tt
 
 -- what was found may be written

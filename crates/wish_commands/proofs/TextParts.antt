@@ -26,13 +26,6 @@ one_line old middle new line first last = last ∙ ap (λ (bytes : List ℕ). by
     no_more [] = refl
     no_more (b ∷ bytes) = ap (λ (bs : List ℕ). b ∷ bs) (no_more bytes)
 
--- lines behind a text, in two parts
-pub two_parts : (old middle new : List ℕ) (first later : List (List ℕ)) → middle ≡ old ++ with_ends first →
-    new ≡ middle ++ with_ends later → new ≡ old ++ with_ends (first ++ later)
-two_parts old middle new first later one two =
-    two ∙ ap (λ (bytes : List ℕ). bytes ++ with_ends later) one ∙ append_assoc old (with_ends first) (with_ends later)
-    ∙ ap (λ (bytes : List ℕ). old ++ bytes) (sym (with_ends-append first later))
-
 -- Words behind a line.
 
 -- A word behind a space.

@@ -2,10 +2,12 @@
 use Rattle.std.specs.Prelude.{ℕ, List, Option, Some, None}
 use Rattle.std.specs.Borrow.{Bor}
 use Rattle.path_rows.specs.Problems.{DesignProblem}
+use Rattle.text_lines.specs.LineFaults.{FaultyLine}
+use Rattle.set_reader.specs.declared.stop.SetFault.{SetFault}
 use Rattle.set_reader.specs.declared.stop.SetStop.{SetStop}
 use Rattle.set_reader.specs.declared.stop.SetStop.TheVariants.{Refused as SetsRefused, OutOfMemory as NoMemoryForSets}
 use Rattle.set_reader.specs.FaultNumbers.{number_of}
-use Rattle.set_reader.specs.Reading.{AreSaid, FaultyLine, set_fault}
+use Rattle.set_reader.specs.Reading.{AreSaid, set_fault}
 use Rattle.set_reader.specs.SpreadSets.{AreSetsOf}
 use Rattle.input_files.specs.declared.stop.Stop.{Stop}
 use Rattle.input_files.specs.declared.stop.Stop.TheVariants.{Refused as StopRefused, OutOfMemory as StopOutOfMemory}
@@ -29,7 +31,7 @@ pub record AreSetsIn (sets : List (List ℕ)) (sharing : Sharing) : Type 0 where
   pub lawful : AreSetsOf sharing.problem sets
 
 -- the first faulty line of a file of sets is refused by its number
-abbrev pub if_sets : List ℕ → DesignProblem → List ℕ → Option FaultyLine → Reading Sharing
+abbrev pub if_sets : List ℕ → DesignProblem → List ℕ → Option (FaultyLine SetFault) → Reading Sharing
 if_sets file p bytes None = Ready (record { problem = p; bytes = bytes })
 if_sets file p bytes (Some faulty) = Refused (record { number = number_of faulty.fault; file = file; line = faulty.line })
 

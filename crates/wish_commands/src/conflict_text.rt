@@ -1,11 +1,8 @@
 //! The text of `conflict`.
-ghost use Rattle.std.specs.Prelude.{◌≡◌, ℕ, ◌≤◌, [], ◌∷◌, ◌++◌, length, codes, Some, All, IfOk, OnOk};
+ghost use Rattle.std.specs.Prelude.{◌≡◌, ℕ, ◌≤◌, [], ◌∷◌, ◌++◌, length, codes, All, IfOk, OnOk};
 ghost use Rattle.path_rows.specs.Boxes.{IsInBox};
 ghost use Rattle.path_rows.specs.Rows.{box_of};
-ghost use Rattle.path_rows.specs.Text.{tree_lines};
 ghost use Rattle.text_lines.specs.Lines.{with_ends};
-ghost use Rattle.evidence_text.specs.Lines.{AreShort};
-ghost use Rattle.evidence_text.specs.Parts.{rows_lines, part_word};
 ghost use Rattle.conflict_core.specs.declared.conflict.Conflict.TheVariants.{Core, Fits, Unknown};
 ghost use Rattle.conflict_core.specs.Conflicts.{IsConflictFound, IsCore, IsUnknown};
 ghost use Rattle.wish_commands.specs.Conflicts.{conflict_text, members_line, without_line, without_parts};
@@ -16,10 +13,10 @@ use conflict_core::{Conflict, all_requests};
 use cost_base::OutOfMemory;
 use cost_branching::keeps_conditions;
 use evidence_text::TreePart;
-use path_rows::{CapTree, CostList, Problem, Row, Tree};
+use path_rows::{CostList, Problem, Row, Tree};
 use std::alloc::Global;
 use text_lines::push_number;
-use text_parts::{push_costs, push_rows, push_tree};
+use text_parts::{push_costs, push_evidence};
 
 /// The line of a set of requests.
 fn members_line(alloc: Global, members: &[u32]) -> Result<Vec<u8>, OutOfMemory>
@@ -110,22 +107,6 @@ fn fits_text(alloc: Global, problem: &Problem, costs: &CostList) -> Result<Vec<u
     push_costs_part(alloc, &mut text, problem, costs)?;
     push_line(&mut text, b"end")?;
     Ok(text)
-}
-
-/// Adds the lines of rows, and of a tree over them.
-fn push_evidence(
-    alloc: Global,
-    text: &mut Vec<u8>,
-    rows: &[Row],
-    part: TreePart,
-    tree: &CapTree,
-) -> Result<(), OutOfMemory>
-    requires rows { AreShort (rows_lines rows.now) }
-    requires tree { AreShort (tree_lines (part_word part) (Some tree.now)) }
-    ensures { OnOk result (text.new.items ≡ text.old.items ++ with_ends (rows_lines rows.now ++ tree_lines (part_word part) (Some tree.now))) }
-{
-    push_rows(alloc, text, rows)?;
-    push_tree(alloc, text, part, Some(tree))
 }
 
 /// The text of a least conflict.

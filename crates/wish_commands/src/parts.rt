@@ -10,8 +10,8 @@ ghost use Rattle.wish_commands.specs.SharedParts.{at_ceiling, named_costs};
 
 use cost_base::OutOfMemory;
 use cost_branching::keeps_conditions;
-use path_rows::{CapTree, CostList, Costs, Problem, Tree};
-use printed_rows::{greatest_of, printed_costs};
+use path_rows::{CapTree, CostList, Costs, Problem, Tree, greatest_of};
+use printed_rows::printed_costs;
 use std::alloc::Global;
 use text_lines::{push_bytes, push_number};
 

@@ -10,7 +10,8 @@ use Rattle.command_words.specs.Words.{texts}
 use Rattle.report_writer.specs.Reports.{bytes_in}
 use Rattle.designer_command.specs.Usage.{usage}
 use Rattle.designer_command.specs.Runs.{MayWrite, Writes}
-use Rattle.designer_command.proofs.Runs.{made_meets, written_meets, writes_none, may_report}
+use Rattle.designer_command.proofs.Runs.{made_meets, written_meets, writes_none}
+use Rattle.report_writer.proofs.ReportLaws.{may_report}
 use Rattle.designer_command.proofs.top_call.run.Goals as goal
 
 pub returns-in-Ok : goal.returns-in-Ok

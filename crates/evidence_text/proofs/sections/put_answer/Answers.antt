@@ -3,132 +3,52 @@ use Rattle.std.specs.Option.{option_copied}
 use Rattle.path_rows.specs.declared.answer.CapTree.{CapTree}
 use Rattle.path_rows.specs.declared.answer.Costs.{Costs}
 use Rattle.path_rows.specs.declared.form.Row.{Row}
-use Rattle.path_rows.specs.Answers.{AnswerParts}
 use Rattle.path_rows.specs.Text.{costs_lines, tree_lines}
 use Rattle.evidence_text.specs.Lines.{AreShort}
 use Rattle.evidence_text.specs.Parts.{rows_lines}
-use Rattle.evidence_text.proofs.AnswerOrder.{text-parts, short_parts}
+use Rattle.evidence_text.proofs.AnswerOrder.{parts_held, text-parts, short_parts}
 use Rattle.evidence_text.proofs.PutChains.{put-then, put-cut, put-as}
 use Rattle.evidence_text.proofs.sections.put_answer.Goals as goal
 
 pub put_head-requires : goal.put_head-requires
-put_head-requires g c =
-    let inside = c.answer.inside in
-    let a : AnswerParts = record {
-      verdict = inside.verdict;
-      costs = inside.costs;
-      floor = inside.floor;
-      rows = inside.rows;
-      proof = inside.proof;
-      unfinished = inside.unfinished;
-    } in
-    (short_parts a c.answer.invariant.lines).head
+put_head-requires g c = (short_parts (parts_held c.answer.inside) c.answer.invariant.lines).head
 
 pub put_costs_part-requires : goal.put_costs_part-requires
 put_costs_part-requires g c =
-    let inside = c.answer.inside in
-    let a : AnswerParts = record {
-      verdict = inside.verdict;
-      costs = inside.costs;
-      floor = inside.floor;
-      rows = inside.rows;
-      proof = inside.proof;
-      unfinished = inside.unfinished;
-    } in
-    subst (λ (costs : Option Costs). AreShort (costs_lines costs)) (sym c.as_ref.ensures.value) (short_parts a c.answer.invariant.lines).costs
+    subst (λ (costs : Option Costs). AreShort (costs_lines costs)) (sym c.as_ref.ensures.value)
+    (short_parts (parts_held c.answer.inside) c.answer.invariant.lines).costs
 
 pub put_floor-requires : goal.put_floor-requires
-put_floor-requires g c =
-    let inside = c.answer.inside in
-    let a : AnswerParts = record {
-      verdict = inside.verdict;
-      costs = inside.costs;
-      floor = inside.floor;
-      rows = inside.rows;
-      proof = inside.proof;
-      unfinished = inside.unfinished;
-    } in
-    (short_parts a c.answer.invariant.lines).floor
+put_floor-requires g c = (short_parts (parts_held c.answer.inside) c.answer.invariant.lines).floor
 
 pub put_rows_part-requires : goal.put_rows_part-requires
 put_rows_part-requires g c =
-    let inside = c.answer.inside in
-    let a : AnswerParts = record {
-      verdict = inside.verdict;
-      costs = inside.costs;
-      floor = inside.floor;
-      rows = inside.rows;
-      proof = inside.proof;
-      unfinished = inside.unfinished;
-    } in
-    subst (λ (rows : List Row). AreShort (rows_lines rows)) (sym c.as_slice.ensures) (short_parts a c.answer.invariant.lines).rows
+    subst (λ (rows : List Row). AreShort (rows_lines rows)) (sym c.as_slice.ensures)
+    (short_parts (parts_held c.answer.inside) c.answer.invariant.lines).rows
 
 pub put_tree_part-requires : goal.put_tree_part-requires
 put_tree_part-requires g c =
-    let inside = c.answer.inside in
-    let a : AnswerParts = record {
-      verdict = inside.verdict;
-      costs = inside.costs;
-      floor = inside.floor;
-      rows = inside.rows;
-      proof = inside.proof;
-      unfinished = inside.unfinished;
-    } in
-    subst (λ (tree : Option CapTree). AreShort (tree_lines (codes "proof") tree)) (sym c.as_ref-2.ensures.value) (short_parts a c.answer.invariant.lines).proof
+    subst (λ (tree : Option CapTree). AreShort (tree_lines (codes "proof") tree)) (sym c.as_ref-2.ensures.value)
+    (short_parts (parts_held c.answer.inside) c.answer.invariant.lines).proof
 
 pub put_tree_part-requires-2 : goal.put_tree_part-requires-2
 put_tree_part-requires-2 g c =
-    let inside = c.answer.inside in
-    let a : AnswerParts = record {
-      verdict = inside.verdict;
-      costs = inside.costs;
-      floor = inside.floor;
-      rows = inside.rows;
-      proof = inside.proof;
-      unfinished = inside.unfinished;
-    } in
     subst (λ (tree : Option CapTree). AreShort (tree_lines (codes "open") tree)) (sym c.as_ref-3.ensures.value)
-    (short_parts a c.answer.invariant.lines).unfinished
+    (short_parts (parts_held c.answer.inside) c.answer.invariant.lines).unfinished
 
 pub put_end-requires : goal.put_end-requires
-put_end-requires g c =
-    let inside = c.answer.inside in
-    let a : AnswerParts = record {
-      verdict = inside.verdict;
-      costs = inside.costs;
-      floor = inside.floor;
-      rows = inside.rows;
-      proof = inside.proof;
-      unfinished = inside.unfinished;
-    } in
-    (short_parts a c.answer.invariant.lines).end
+put_end-requires g c = (short_parts (parts_held c.answer.inside) c.answer.invariant.lines).end
 
 pub returns-in_err-put_head : goal.returns-in_err-put_head
 returns-in_err-put_head g c =
-    let inside = c.answer.inside in
-    let a : AnswerParts = record {
-      verdict = inside.verdict;
-      costs = inside.costs;
-      floor = inside.floor;
-      rows = inside.rows;
-      proof = inside.proof;
-      unfinished = inside.unfinished;
-    } in
+    let a = parts_held c.answer.inside in
     let put = put-as (text-parts a c.args.answer.now a.costs a.rows a.proof a.unfinished c.answer.view_is refl refl refl
     refl) (put-cut _ c.from_residual.result c.from_residual.ensures.0 c.in_err-put_head.ensures) in
     record { whole = put.whole; part = put.part; cause = put.cause }
 
 pub returns-in_err-put_costs_part : goal.returns-in_err-put_costs_part
 returns-in_err-put_costs_part g c =
-    let inside = c.answer.inside in
-    let a : AnswerParts = record {
-      verdict = inside.verdict;
-      costs = inside.costs;
-      floor = inside.floor;
-      rows = inside.rows;
-      proof = inside.proof;
-      unfinished = inside.unfinished;
-    } in
+    let a = parts_held c.answer.inside in
     let put = put-as (text-parts a c.args.answer.now (option_copied c.as_ref.result) a.rows a.proof a.unfinished
     c.answer.view_is c.as_ref.ensures.value refl refl refl)
     (put-then _ c.in_ok-put_head.ensures
@@ -138,15 +58,7 @@ returns-in_err-put_costs_part g c =
 
 pub returns-in_err-put_floor : goal.returns-in_err-put_floor
 returns-in_err-put_floor g c =
-    let inside = c.answer.inside in
-    let a : AnswerParts = record {
-      verdict = inside.verdict;
-      costs = inside.costs;
-      floor = inside.floor;
-      rows = inside.rows;
-      proof = inside.proof;
-      unfinished = inside.unfinished;
-    } in
+    let a = parts_held c.answer.inside in
     let put = put-as (text-parts a c.args.answer.now (option_copied c.as_ref.result) a.rows a.proof a.unfinished
     c.answer.view_is c.as_ref.ensures.value refl refl refl)
     (put-then _ c.in_ok-put_head.ensures
@@ -157,15 +69,7 @@ returns-in_err-put_floor g c =
 
 pub returns-in_err-put_rows_part : goal.returns-in_err-put_rows_part
 returns-in_err-put_rows_part g c =
-    let inside = c.answer.inside in
-    let a : AnswerParts = record {
-      verdict = inside.verdict;
-      costs = inside.costs;
-      floor = inside.floor;
-      rows = inside.rows;
-      proof = inside.proof;
-      unfinished = inside.unfinished;
-    } in
+    let a = parts_held c.answer.inside in
     let put = put-as (text-parts a c.args.answer.now (option_copied c.as_ref.result) (c.as_slice.result.now) a.proof
     a.unfinished c.answer.view_is c.as_ref.ensures.value c.as_slice.ensures refl refl)
     (put-then _ c.in_ok-put_head.ensures
@@ -177,15 +81,7 @@ returns-in_err-put_rows_part g c =
 
 pub returns-in_err-put_tree_part : goal.returns-in_err-put_tree_part
 returns-in_err-put_tree_part g c =
-    let inside = c.answer.inside in
-    let a : AnswerParts = record {
-      verdict = inside.verdict;
-      costs = inside.costs;
-      floor = inside.floor;
-      rows = inside.rows;
-      proof = inside.proof;
-      unfinished = inside.unfinished;
-    } in
+    let a = parts_held c.answer.inside in
     let put = put-as (text-parts a c.args.answer.now (option_copied c.as_ref.result) (c.as_slice.result.now)
     (option_copied c.as_ref-2.result) a.unfinished c.answer.view_is c.as_ref.ensures.value c.as_slice.ensures
     c.as_ref-2.ensures.value refl)
@@ -199,15 +95,7 @@ returns-in_err-put_tree_part g c =
 
 pub returns-in_err-put_tree_part-2 : goal.returns-in_err-put_tree_part-2
 returns-in_err-put_tree_part-2 g c =
-    let inside = c.answer.inside in
-    let a : AnswerParts = record {
-      verdict = inside.verdict;
-      costs = inside.costs;
-      floor = inside.floor;
-      rows = inside.rows;
-      proof = inside.proof;
-      unfinished = inside.unfinished;
-    } in
+    let a = parts_held c.answer.inside in
     let put = put-as (text-parts a c.args.answer.now (option_copied c.as_ref.result) (c.as_slice.result.now)
     (option_copied c.as_ref-2.result) (option_copied c.as_ref-3.result) c.answer.view_is c.as_ref.ensures.value
     c.as_slice.ensures c.as_ref-2.ensures.value c.as_ref-3.ensures.value)
@@ -222,15 +110,7 @@ returns-in_err-put_tree_part-2 g c =
 
 pub returns : goal.returns
 returns g c =
-    let inside = c.answer.inside in
-    let a : AnswerParts = record {
-      verdict = inside.verdict;
-      costs = inside.costs;
-      floor = inside.floor;
-      rows = inside.rows;
-      proof = inside.proof;
-      unfinished = inside.unfinished;
-    } in
+    let a = parts_held c.answer.inside in
     let put = put-as (text-parts a c.args.answer.now (option_copied c.as_ref.result) (c.as_slice.result.now)
     (option_copied c.as_ref-2.result) (option_copied c.as_ref-3.result) c.answer.view_is c.as_ref.ensures.value
     c.as_slice.ensures c.as_ref-2.ensures.value c.as_ref-3.ensures.value)

@@ -3,13 +3,13 @@ use Rattle.std.specs.Prelude.{Some}
 use Rattle.std.proofs.lemmas.Result.{on_ok_weaker}
 use Rattle.path_rows.specs.Text.{tree_lines}
 use Rattle.evidence_text.specs.Parts.{rows_lines, part_word}
-use Rattle.wish_commands.proofs.TextParts.{two_parts}
-use Rattle.wish_commands.proofs.conflict_text.push_evidence.Goals as goal
+use Rattle.text_lines.proofs.LineLaws.{lines_behind}
+use Rattle.text_parts.proofs.parts.push_evidence.Goals as goal
 
 pub returns : goal.returns
 returns c =
     on_ok_weaker c.push_tree.result
-    (λ later. two_parts c.args.text.now.items c.push_rows.new.text.items c.push_tree.new.text.items
+    (λ later. lines_behind c.args.text.now.items c.push_rows.new.text.items c.push_tree.new.text.items
     (rows_lines c.args.rows.now) (tree_lines (part_word c.args.part) (Some c.args.tree.now))
     c.in_ok-push_rows.ensures later)
     c.push_tree.ensures
