@@ -14,6 +14,7 @@ use Rattle.config_reader.specs.Statements.{Block, OfInterface, OfRouter, OfOther
 use Rattle.config_reader.specs.Settings.{said, said_by, block_by_head, about, is_of}
 use Rattle.config_reader.specs.Configs.{first_heads, firsts, with_line, name_opened}
 use Rattle.config_reader.specs.Reading.{open_block}
+use Rattle.config_reader.specs.Gathered.{NamesApart}
 use Rattle.config_reader.proofs.SaidSteps.{said_after, said-push, opened_from}
 use Rattle.config_reader.proofs.SettingSteps.{about-push, said_where}
 use Rattle.config_reader.proofs.HeadSteps.{first_heads-push, heads_with, is_headed, unless_known}
@@ -112,11 +113,6 @@ about-unheaded = by_lines (λ file. (name : List ℕ) → is_headed name (first_
             (λ here. false≢true (sym unheaded
             ∙ open_headed file name
             (said_block file line name (is_of-true name (said_after file line).block here))))
-
--- no name of some stands behind itself
-abbrev pub NamesApart : List (List ℕ) → Type 0
-NamesApart [] = Unit {0}
-NamesApart (name ∷ names) = (list_any (same_bytes name) names ≡ false) × NamesApart names
 
 abbrev pub head_names : List (List ℕ × ℕ) → List (List ℕ)
 head_names heads = map (λ head. head.0) heads

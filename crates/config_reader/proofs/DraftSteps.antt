@@ -20,7 +20,7 @@ use Rattle.config_reader.specs.declared.reader.SaidLine.{SaidLine}
 use Rattle.config_reader.specs.Heards.{head_of, said_of}
 use Rattle.config_reader.specs.declared.reader.NamedHead.{NamedHead}
 use Rattle.config_reader.proofs.LongerLists.{any-map}
-use Rattle.config_reader.proofs.BlockFacts.{NamesApart as Apart, head_names, firsts-apart}
+use Rattle.config_reader.proofs.BlockFacts.{firsts-apart}
 use Rattle.config_reader.proofs.HeadSteps.{firsts-push, unless_known, is_headed}
 
 abbrev pub names_of : List Draft → List (List ℕ)
@@ -187,16 +187,12 @@ opened_more heads i old new d within so_far drafts names = record {
 pub opened_names : (heads : List (List ℕ × ℕ)) (d : Drafts) → IsOpened heads d → (d.names ≡ names_of d.drafts.items) × NamesApart d.names
 opened_names heads d opened = (
   opened.names ∙ sym (ap names_of opened.drafts ∙ same (firsts [] heads)),
-  subst NamesApart (sym opened.names) (apart_here (firsts [] heads) (firsts-apart [] heads)),
+  subst NamesApart (sym opened.names) (firsts-apart [] heads),
 )
   where
     same : (hs : List (List ℕ × ℕ)) → names_of (map new_draft hs) ≡ map (λ h. h.0) hs
     same [] = refl
     same (h ∷ hs) = ap (λ ns. h.0 ∷ ns) (same hs)
-
-    apart_here : (hs : List (List ℕ × ℕ)) → Apart (head_names hs) → NamesApart (map (λ h. h.0) hs)
-    apart_here [] h = tt
-    apart_here (x ∷ hs) h = (h.0, apart_here hs h.1)
 
 -- the drafts of opened ones after what is said
 pub gathered : (nets : List NetworkLine) (heads : List (List ℕ × ℕ)) (all : List Said) (opened d : Drafts) →

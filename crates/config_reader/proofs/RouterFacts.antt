@@ -24,10 +24,12 @@ use Rattle.config_reader.proofs.SaidSteps.{said_after, said-push, opened_from}
 use Rattle.config_reader.proofs.SettingSteps.{about-push, said_where}
 use Rattle.config_reader.specs.declared.stop.ConfigFault.{ConfigFault}
 use Rattle.config_reader.specs.declared.stop.ConfigFault.TheVariants.{BadNumber}
+use Rattle.config_reader.specs.Gathered.{NamesApart}
+use Rattle.config_reader.specs.FaultList.{is_short}
 use Rattle.interface_model.specs.declared.Kind.{Kind}
 use Rattle.config_reader.proofs.HeadSteps.{first_heads-push, heads_with, is_headed, unless_known}
 use Rattle.config_reader.proofs.PrintedLines.{lacks_end, all_lack_end}
-use Rattle.config_reader.proofs.BlockFacts.{by_lines, NamesApart, head_names, firsts-apart}
+use Rattle.config_reader.proofs.BlockFacts.{by_lines, head_names, firsts-apart}
 
 -- what a statement keeps: a prefix length is at most 32, and a cost is positive
 abbrev pub FitsStatement : Statement → Type 0
@@ -388,11 +390,8 @@ router_word name named =
         let parts = and_parts (is_name_byte x) (list_all is_name_byte xs) h in
         All-cons (λ c. ends_a_word c ≡ false) x xs (name_byte_solid x parts.0) (each xs parts.1)
 
-abbrev pub is_short_line : List ℕ → Bool
-is_short_line line = nat_le (length line) 4096
-
 -- a configuration with no line too long and a router's name says a router
-pub router_kept : (file_name bytes : List ℕ) → list_all is_short_line (lines bytes) ≡ true →
+pub router_kept : (file_name bytes : List ℕ) → list_all is_short (lines bytes) ≡ true →
     is_router_name (router_name file_name (lines bytes)).0 ≡ true → IsRouter (config_of file_name bytes)
 router_kept file_name bytes short named = record {
   name = router_word (router_name file_name (lines bytes)).0 named;
@@ -401,9 +400,9 @@ router_kept file_name bytes short named = record {
       (firsts-apart [] (filter_map (opened_at (lines bytes)) (numbers_from 0 (length (lines bytes)))));
 }
   where
-    both : (ls : List (List ℕ)) → all_lack_end ls ≡ true → list_all is_short_line ls ≡ true → list_all is_good_line ls ≡ true
+    both : (ls : List (List ℕ)) → all_lack_end ls ≡ true → list_all is_short ls ≡ true → list_all is_good_line ls ≡ true
     both [] a b = refl
     both (l ∷ ls) a b =
         let pa = and_parts (lacks_end l) (all_lack_end ls) a in
-        let pb = and_parts (is_short_line l) (list_all is_short_line ls) b in
+        let pb = and_parts (is_short l) (list_all is_short ls) b in
         rw (pa.0, pb.0) (both ls pa.1 pb.1)

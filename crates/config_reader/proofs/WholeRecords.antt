@@ -28,7 +28,7 @@ use Rattle.config_reader.proofs.DraftLaws.{draft_of, plain, plain_by, drafted}
 use Rattle.config_reader.proofs.BlockFacts.{by_lines}
 use Rattle.config_reader.proofs.HeardSteps.{fault-push}
 use Rattle.config_reader.proofs.SaidSteps.{said_after}
-use Rattle.config_reader.proofs.RouterFacts.{is_short_line, router_kept}
+use Rattle.config_reader.proofs.RouterFacts.{router_kept}
 use Rattle.config_reader.proofs.WholeConfigs.{net_of, nets_law, whole_parts}
 use Rattle.config_reader.proofs.WholeFaults.{faults_law, named_law, file_drafts}
 
@@ -128,13 +128,13 @@ earliest_parts (Some x) (Some y) e = absurd (cases (nat_lt y.line x.line) e)
     cases true h = let g : Some y ≡ None = h in absurd (cc)
     cases false h = let g : Some x ≡ None = h in absurd (cc)
 
-all_short : (file : List (List ℕ)) → (heard file).fault ≡ None → list_all is_short_line file ≡ true
-all_short = by_lines (λ file. (heard file).fault ≡ None → list_all is_short_line file ≡ true) (λ e. refl) step
+all_short : (file : List (List ℕ)) → (heard file).fault ≡ None → list_all is_short file ≡ true
+all_short = by_lines (λ file. (heard file).fault ≡ None → list_all is_short file ≡ true) (λ e. refl) step
   where
-    step : (file : List (List ℕ)) (line : List ℕ) → ((heard file).fault ≡ None → list_all is_short_line file ≡ true) →
-        (heard (file ++ line ∷ [])).fault ≡ None → list_all is_short_line (file ++ line ∷ []) ≡ true
+    step : (file : List (List ℕ)) (line : List ℕ) → ((heard file).fault ≡ None → list_all is_short file ≡ true) →
+        (heard (file ++ line ∷ [])).fault ≡ None → list_all is_short (file ++ line ∷ []) ≡ true
     step file line before none =
-        list_all-append is_short_line file (line ∷ [])
+        list_all-append is_short file (line ∷ [])
         ∙ both (before parts.0) (short (refused (said_after (read_lines file) (read_line line)).statement)
         (is_short line) refl parts.1)
       where
@@ -146,7 +146,7 @@ all_short = by_lines (λ file. (heard file).fault ≡ None → list_all is_short
             (option_or (long_line line) (refused (said_after (read_lines file) (read_line line)).statement)))
             (sym (fault-push file line) ∙ none)
 
-        both : list_all is_short_line file ≡ true → is_short line ≡ true → (list_all is_short_line file && (is_short_line line && true)) ≡ true
+        both : list_all is_short file ≡ true → is_short line ≡ true → (list_all is_short file && (is_short line && true)) ≡ true
         both a b = rw (a, b)
 
         short : (o : Option ConfigFault) (b : Bool) → is_short line ≡ b →
@@ -154,10 +154,10 @@ all_short = by_lines (λ file. (heard file).fault ≡ None → list_all is_short
         short o true e h = e
         short o false e h = let g : Some (record { line = length file + 1; fault = LongLine }) ≡ None = h in absurd (cc)
 
-read_same : (file : List (List ℕ)) → list_all is_short_line file ≡ true → read_lines file ≡ file
+read_same : (file : List (List ℕ)) → list_all is_short file ≡ true → read_lines file ≡ file
 read_same [] short = refl
 read_same (line ∷ file) short =
-    let parts = and_parts (is_short_line line) (list_all is_short_line file) short in
+    let parts = and_parts (is_short line) (list_all is_short file) short in
     cc (ap (λ b. cond b line []) parts.0, read_same file parts.1)
 
 named_good : (name : List ℕ × ℕ) → name_fault name ≡ None → is_router_name name.0 ≡ true
@@ -248,7 +248,7 @@ made_law file_name bytes nets drafts found made none =
     inner : (earliest (heard file).fault (first_second drafts (heard file).said) ≡ None) × (first_clash nets None drafts ≡ None)
     inner = earliest_parts (earliest (heard file).fault (first_second drafts (heard file).said)) (first_clash nets None drafts) outer.0
 
-    short : list_all is_short_line file ≡ true
+    short : list_all is_short file ≡ true
     short = all_short file (earliest_parts (heard file).fault (first_second drafts (heard file).said) inner.0).0
 
     whole : read_lines file ≡ file

@@ -20,11 +20,13 @@ use Rattle.path_rows.specs.declared.answer.CostLine.{CostLine}
 use Rattle.path_rows.specs.declared.answer.CapTree.{CapTree}
 use Rattle.path_rows.specs.Answers.{AnswerParts}
 use Rattle.path_rows.specs.Text.{spaced, verdict_words, router_lines, cost_lines, costs_lines, row_line, entry_line, tree_lines, text}
+use Rattle.evidence_text.specs.Parts.{end_lines}
+use Rattle.answer_lines.specs.Grammar.{router_line}
 use Rattle.config_reader.specs.Statements.{begin_with}
 use Rattle.config_reader.specs.Sections.{section_lines}
 use Rattle.text_lines.proofs.WordLaws.{words-one}
 use Rattle.designer_command.specs.ReadBack.{opens_section, until_end, section}
-use Rattle.designer_command.proofs.PrintedText.{NamesWords, head_part, floor_part, end_part, last_part, parts_are, lines_text}
+use Rattle.designer_command.proofs.PrintedText.{NamesWords, head_part, floor_part, last_part, parts_are, lines_text}
 
 -- the interfaces and costs of a router's lines
 abbrev pub pairs_of : List ℕ → List CostLine → List (List ℕ × ℕ)
@@ -108,13 +110,10 @@ other_open (Some t) = other_entries t.tree
 -- no section begins behind the costs
 last_section : (router : List ℕ) (a : AnswerParts) → section router (last_part a) ≡ []
 last_section router a =
-    others_section router (floor_part a) (tree_lines (codes "proof") a.proof ++ (tree_lines (codes "open") a.unfinished ++ end_part)) (other_rows a.rows)
-    ∙ others_section router (tree_lines (codes "proof") a.proof) (tree_lines (codes "open") a.unfinished ++ end_part) (other_proof a.proof)
-    ∙ others_section router (tree_lines (codes "open") a.unfinished) end_part (other_open a.unfinished)
-    ∙ others_section router end_part [] refl
-
-abbrev router_line : List ℕ → List ℕ
-router_line name = spaced (codes "router" ∷ name ∷ [])
+    others_section router (floor_part a) (tree_lines (codes "proof") a.proof ++ (tree_lines (codes "open") a.unfinished ++ end_lines)) (other_rows a.rows)
+    ∙ others_section router (tree_lines (codes "proof") a.proof) (tree_lines (codes "open") a.unfinished ++ end_lines) (other_proof a.proof)
+    ∙ others_section router (tree_lines (codes "open") a.unfinished) end_lines (other_open a.unfinished)
+    ∙ others_section router end_lines [] refl
 
 router_words : (name : List ℕ) → IsOneWord name → words (router_line name) ≡ codes "router" ∷ name ∷ []
 router_words name one = ap (λ (ws : List (List ℕ)). codes "router" ∷ ws) (words-one name one)

@@ -28,6 +28,7 @@ use Rattle.path_rows.specs.declared.answer.Floor.TheVariants.{Absent, Empty, Var
 use Rattle.path_rows.specs.declared.answer.CapTree.{CapTree}
 use Rattle.path_rows.specs.Answers.{AnswerParts}
 use Rattle.path_rows.specs.Text.{spaced, verdict_words, router_lines, cost_lines, costs_lines, floor_word, row_line, side_word, step_word, integer, ratio_word, member_words, members_words, part_words, entry_line, tree_lines, answer_lines, text}
+use Rattle.evidence_text.specs.Parts.{end_lines}
 use Rattle.config_reader.proofs.PrintedLines.{lacks_end, word_lacks_end, all_lack_end, lines-with_ends}
 use Rattle.text_lines.proofs.WordLaws.{decimal-word}
 
@@ -179,29 +180,26 @@ head_part a = codes "ospfcost answer 1" ∷ spaced (codes "verdict" ∷ verdict_
 abbrev pub floor_part : AnswerParts → List (List ℕ)
 floor_part a = spaced (codes "floor" ∷ floor_word a.floor ∷ []) ∷ spaced (codes "rows" ∷ decimal (length a.rows) ∷ []) ∷ map row_line a.rows
 
-abbrev pub end_part : List (List ℕ)
-end_part = codes "wide none" ∷ codes "end" ∷ []
-
 abbrev pub last_part : AnswerParts → List (List ℕ)
-last_part a = floor_part a ++ (tree_lines (codes "proof") a.proof ++ (tree_lines (codes "open") a.unfinished ++ end_part))
+last_part a = floor_part a ++ (tree_lines (codes "proof") a.proof ++ (tree_lines (codes "open") a.unfinished ++ end_lines))
 
 regrouped : (p c f t u e : List (List ℕ)) → p ++ c ++ f ++ t ++ u ++ e ≡ p ++ (c ++ (f ++ (t ++ (u ++ e))))
 regrouped p c f t u e = simp append_assoc
 
 pub parts_are : (a : AnswerParts) → answer_lines a ≡ head_part a ++ (costs_lines a.costs ++ last_part a)
 parts_are a = regrouped (head_part a) (costs_lines a.costs) (floor_part a) (tree_lines (codes "proof") a.proof)
-    (tree_lines (codes "open") a.unfinished) end_part
+    (tree_lines (codes "open") a.unfinished) end_lines
 
 last_lacks : (a : AnswerParts) → all_lack_end (last_part a) ≡ true
 last_lacks a =
-    all_append (floor_part a) (tree_lines (codes "proof") a.proof ++ (tree_lines (codes "open") a.unfinished ++ end_part))
+    all_append (floor_part a) (tree_lines (codes "proof") a.proof ++ (tree_lines (codes "open") a.unfinished ++ end_lines))
     (all_cons (spaced (codes "floor" ∷ floor_word a.floor ∷ [])) (spaced (codes "rows" ∷ decimal (length a.rows) ∷ []) ∷ map row_line a.rows)
     (spaced_lacks (codes "floor" ∷ floor_word a.floor ∷ []) (all_cons (floor_word a.floor) [] (floor_lacks a.floor) refl))
     (all_cons (spaced (codes "rows" ∷ decimal (length a.rows) ∷ [])) (map row_line a.rows)
     (spaced_lacks (codes "rows" ∷ decimal (length a.rows) ∷ []) (decimals_lack (length a.rows ∷ [])))
     (rows_lack a.rows)))
-    (all_append (tree_lines (codes "proof") a.proof) (tree_lines (codes "open") a.unfinished ++ end_part) (tree_lacks (codes "proof") a.proof refl)
-    (all_append (tree_lines (codes "open") a.unfinished) end_part (tree_lacks (codes "open") a.unfinished refl) refl))
+    (all_append (tree_lines (codes "proof") a.proof) (tree_lines (codes "open") a.unfinished ++ end_lines) (tree_lacks (codes "proof") a.proof refl)
+    (all_append (tree_lines (codes "open") a.unfinished) end_lines (tree_lacks (codes "open") a.unfinished refl) refl))
 
 head_lacks : (a : AnswerParts) → all_lack_end (head_part a) ≡ true
 head_lacks a = all_cons (spaced (codes "verdict" ∷ verdict_words a.verdict)) []

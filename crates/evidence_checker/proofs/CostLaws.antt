@@ -167,15 +167,15 @@ nothing_off costs (name ∷ names) [] (suc k) var past off = given_nil (drop k n
 nothing_off costs (name ∷ names) (line ∷ lines) (suc k) var past off = nothing_off costs names lines k var (omega arith) off
 
 -- at the end it is the first variable with unequal ends
-first_of_least : (n : ℕ) (costs : List ℕ) (names : List VarName) (lines : List CostLine) (k : ℕ) (least : Option ℕ) →
+pub off_ends : (n : ℕ) (costs : List ℕ) (names : List VarName) (lines : List CostLine) (k : ℕ) (least : Option ℕ) →
     All (λ name. name.var < length costs) names → costs ≡ written (replicate n 0) names lines → length names ≤ k →
     LeastOff costs names lines k least → IsFirst (HasUnequalEnds names lines) least
-first_of_least n costs names lines k None known is past so_far = λ var unequal.
+off_ends n costs names lines k None known is past so_far = λ var unequal.
     elim (so_far.others var (unequal_off costs names lines var unequal)) [
       | inl most ↦ most
       | inr left ↦ nothing_off costs names lines k var past left
     ]
-first_of_least n costs names lines k (Some least) known is past so_far = (
+off_ends n costs names lines k (Some least) known is past so_far = (
   off_unequal n costs names lines least known is (so_far.found least refl),
   λ var before unequal.
       elim (so_far.others var (unequal_off costs names lines var unequal)) [
@@ -183,11 +183,6 @@ first_of_least n costs names lines k (Some least) known is past so_far = (
         | inr left ↦ nothing_off costs names lines k var past left
       ],
 )
-
-pub off_ends : (n : ℕ) (costs : List ℕ) (names : List VarName) (lines : List CostLine) (k : ℕ) (least : Option ℕ) →
-    All (λ name. name.var < length costs) names → costs ≡ written (replicate n 0) names lines → length names ≤ k →
-    LeastOff costs names lines k least → IsFirst (HasUnequalEnds names lines) least
-off_ends = first_of_least
 
 -- there are as many costs as variables
 pub given_count : (n : ℕ) (costs : List ℕ) (names : List VarName) (lines : List CostLine) → costs ≡ written (replicate n 0) names lines → length costs ≡ n

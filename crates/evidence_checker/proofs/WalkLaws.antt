@@ -1,6 +1,6 @@
 -- A tree that is gone through line by line, with the box of the next line and those that wait behind it.
 use Rattle.std.proofs.Common.{◌≡◌, ℕ, suc, ◌+◌, refl, sym, ◌∙◌, ap, subst, List, [], ◌∷◌, ◌++◌, length, drop, get_or, add-one, drop-cons, ◌<◌, length-set, arith, inl, inr}
-use Rattle.std.specs.Prelude.{Bool, true, false, Result, IfErr, All, MatchBool}
+use Rattle.std.specs.Prelude.{Bool, false, Result, IfErr, All}
 use Rattle.std.proofs.lemmas.List.Elements.{All-nil, All-cons, All-head, All-tail, All-append, All-same}
 use Rattle.path_rows.specs.declared.tree.Side.TheVariants.{Low, High}
 use Rattle.path_rows.specs.Boxes.{with_low, with_high}
@@ -119,10 +119,3 @@ next_have_ends n box boxes entry next others have e =
     (All-append (λ (b : CostBox). length b.low ≡ n) (subboxes box entry) boxes
     (parts_have_ends n box entry (All-head (λ (b : CostBox). length b.low ≡ n) box boxes have))
     (All-tail (λ (b : CostBox). length b.low ≡ n) box boxes have))
-
--- what a test of a Bool tells
-pub at_true : (A B : Type 0) → (b : Bool) → b ≡ true → MatchBool b A B → A
-at_true A B b e h = let P : Bool → Type 0 = λ v. MatchBool v A B in subst P e h
-
-pub at_false : (A B : Type 0) → (b : Bool) → b ≡ false → MatchBool b A B → B
-at_false A B b e h = let P : Bool → Type 0 = λ v. MatchBool v A B in subst P e h

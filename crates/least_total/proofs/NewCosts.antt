@@ -24,7 +24,7 @@ use Rattle.printed_rows.specs.PrintedCosts.{ArePrintedCosts}
 use Rattle.printed_rows.proofs.AnswerLines.{costs_fit, costs_short}
 use Rattle.least_total.specs.Given.{AreGiven}
 use Rattle.least_total.specs.Rounds.{IsFitWithin}
-use Rattle.least_total.specs.Results.{IsRecosted}
+use Rattle.least_total.specs.Results.{IsLine, IsRecosted}
 
 -- a valid optimal answer gives best costs
 pub gives_best : (p : DesignProblem) (a : AnswerParts) (k : ℕ) → IsProblem p → IsValid p a → a.verdict ≡ Optimal k → GivesBest p k a.costs
@@ -117,27 +117,24 @@ recosted_is p a k w new problem valid is fit printed =
 
 -- The text of the answer with other costs.
 
-abbrev IsShort : List ℕ → Type 0
-IsShort line = length line ≤ 65536
-
 -- lines between others that are changed for short ones
 lines_between : (first second third fourth fifth last other : List (List ℕ)) →
-    All IsShort (first ++ second ++ third ++ fourth ++ fifth ++ last) → All IsShort other →
-    All IsShort (first ++ other ++ third ++ fourth ++ fifth ++ last)
+    All IsLine (first ++ second ++ third ++ fourth ++ fifth ++ last) → All IsLine other →
+    All IsLine (first ++ other ++ third ++ fourth ++ fifth ++ last)
 lines_between first second third fourth fifth last other all short =
-    let a = All-left IsShort (first ++ second ++ third ++ fourth ++ fifth) last all in
-    let b = All-left IsShort (first ++ second ++ third ++ fourth) fifth a in
-    let c = All-left IsShort (first ++ second ++ third) fourth b in
-    let d = All-left IsShort (first ++ second) third c in
-    All-append IsShort (first ++ other ++ third ++ fourth ++ fifth) last
-    (All-append IsShort (first ++ other ++ third ++ fourth) fifth
-    (All-append IsShort (first ++ other ++ third) fourth
-    (All-append IsShort (first ++ other) third
-    (All-append IsShort first other (All-left IsShort first second d) short)
-    (All-right IsShort (first ++ second) third c))
-    (All-right IsShort (first ++ second ++ third) fourth b))
-    (All-right IsShort (first ++ second ++ third ++ fourth) fifth a))
-    (All-right IsShort (first ++ second ++ third ++ fourth ++ fifth) last all)
+    let a = All-left IsLine (first ++ second ++ third ++ fourth ++ fifth) last all in
+    let b = All-left IsLine (first ++ second ++ third ++ fourth) fifth a in
+    let c = All-left IsLine (first ++ second ++ third) fourth b in
+    let d = All-left IsLine (first ++ second) third c in
+    All-append IsLine (first ++ other ++ third ++ fourth ++ fifth) last
+    (All-append IsLine (first ++ other ++ third ++ fourth) fifth
+    (All-append IsLine (first ++ other ++ third) fourth
+    (All-append IsLine (first ++ other) third
+    (All-append IsLine first other (All-left IsLine first second d) short)
+    (All-right IsLine (first ++ second) third c))
+    (All-right IsLine (first ++ second ++ third) fourth b))
+    (All-right IsLine (first ++ second ++ third ++ fourth) fifth a))
+    (All-right IsLine (first ++ second ++ third ++ fourth ++ fifth) last all)
 
 pub recosted_kept : (p : DesignProblem) (a : AnswerParts) (w : List ℕ) (new : Costs) → IsAnswer a →
     ArePrintedCosts p w new → IsAnswer

@@ -9,7 +9,8 @@ use Rattle.path_rows.specs.declared.tree.Entry.{Entry}
 use Rattle.path_rows.specs.Trees.{SoundAt, is_undone}
 use Rattle.evidence_checker.specs.Numbers.{number_of}
 use Rattle.evidence_checker.specs.Tests.{line_tests}
-use Rattle.evidence_checker.proofs.WalkLaws.{HaveEnds, Walks, at_false, at_true, line_read, next_have_ends, walk_begins, walk_ends, walk_goes_on, walk_stops}
+use Rattle.evidence_checker.proofs.Choices.{when_true, when_false}
+use Rattle.evidence_checker.proofs.WalkLaws.{HaveEnds, Walks, line_read, next_have_ends, walk_begins, walk_ends, walk_goes_on, walk_stops}
 use Rattle.evidence_checker.proofs.tree.check_tree.Goals.{After-index-entries-line}
 use Rattle.evidence_checker.proofs.tree.check_tree.Goals as goal
 
@@ -77,7 +78,7 @@ returns-then-not-branch-clause-sound c =
     let walks = walks_here (goal.at.returns-then-not-branch-clause-sound c).After-index-entries-line in
     let here = subst (λ (box : CostBox). SoundAt forms box entry × (is_undone entry ≡ false)) c.present.ensures.present c.in_default.ensures.first in
     walk_ends forms (c.args.costs ∷ []) c.args.entries.now boxes.present boxes.behind c.loop-line.line entry _ walks here.0 here.1
-    (at_false _ _ c.in_ok-go_on.field-0 c.if-not-branch.true c.in_ok-go_on.ensures)
+    (when_false _ _ c.in_ok-go_on.field-0 c.if-not-branch.true c.in_ok-go_on.ensures)
 
 pub loop-line-preserved : goal.loop-line-preserved
 loop-line-preserved c =
@@ -86,7 +87,7 @@ loop-line-preserved c =
     let entry = c.index-entries-line.result in
     let walks = walks_here (goal.at.loop-line-preserved c).After-index-entries-line in
     let here = subst (λ (box : CostBox). SoundAt forms box entry × (is_undone entry ≡ false)) c.present.ensures.present c.in_default.ensures.first in
-    let next = at_true _ _ c.in_ok-go_on.field-0 c.if-not-branch.false c.in_ok-go_on.ensures in
+    let next = when_true _ _ c.in_ok-go_on.field-0 c.if-not-branch.false c.in_ok-go_on.ensures in
     record {
       walks = walk_goes_on forms (c.args.costs ∷ []) c.args.entries.now boxes.present boxes.behind c.loop-line.line
           entry _ c.go_on.new.boxes.present c.go_on.new.boxes.behind walks here.0 here.1 next;
