@@ -3,7 +3,7 @@ use Rattle.std.proofs.Common.{◌≡◌, ℕ, ◌+◌, ◌*◌, ◌^◌, ◌<◌
 use Rattle.std.proofs.Common.{get_or-set_other, length-set}
 use Rattle.std.proofs.Math.Nat.{mul-le-mul_right}
 use Rattle.std.proofs.lemmas.List.Sums.{sum_by-cons, sum_by-set}
-use Rattle.cost_base.specs.Lists.{NoneTwice}
+use Rattle.cost_base.specs.Lists.{Has, NoneTwice}
 use Rattle.area_graph.specs.declared.Point.{Point}
 use Rattle.area_graph.specs.declared.Vertex.{Vertex}
 use Rattle.area_graph.specs.declared.Vertex.TheVariants.{Router, Subnet}
@@ -12,7 +12,6 @@ use Rattle.area_graph.specs.declared.Price.TheVariants.{Fixed, Var, Zero}
 use Rattle.area_graph.specs.Area.{Area, edge_at, no_edge, vertex_at, is_router, FitsGraph, FitsEdge, FitsSource, IsMetric, HasMetrics}
 use Rattle.area_graph.specs.Paths.{Joins, visited}
 use Rattle.area_graph.specs.Costs.{price_at, cost, IsPriced, FitsPoint}
-use Rattle.area_graph.proofs.Walks.{Member}
 use Rattle.area_graph.proofs.Deviations.{lacks_not}
 
 -- a list with one element that passes no more counts one less
@@ -73,7 +72,7 @@ step-le g p vs s e es graph metrics fits same mark known from after_subnet after
 -- a path with no vertex twice costs at most the greatest interface cost for each router that it can leave
 pub cost-le_routers : (g : Area) (p : Point) (vs : List Vertex) (s : ℕ) (es : List ℕ) (t : ℕ) → FitsGraph g →
     HasMetrics g → FitsPoint g p → length vs ≡ length g.vertices → Joins g s es t → NoneTwice (visited g s es) →
-    ((v : ℕ) → Member (visited g s es) v → get_or vs v (Router 0) ≡ vertex_at g v) →
+    ((v : ℕ) → Has (visited g s es) v → get_or vs v (Router 0) ≡ vertex_at g v) →
     cost g p es ≤ count_by is_router vs * (65535 * p.scale)
 cost-le_routers g p vs s [] t graph metrics fits same joins once marks = omega arith
 cost-le_routers g p vs s (e ∷ es) t graph metrics fits same joins once marks =
@@ -82,7 +81,7 @@ cost-le_routers g p vs s (e ∷ es) t graph metrics fits same joins once marks =
     (cost-le_routers g p (set vs s (Subnet 0)) (edge_at g e).to es t graph metrics fits (length-set vs s (Subnet 0) ∙ same) joins.2 once.1
     (λ v has. get_or-set_other vs s v (Subnet 0) (Router 0)
     (λ back. lacks_not (visited g (edge_at g e).to es) s once.0
-    (subst (λ (x : ℕ). Member (visited g (edge_at g e).to es) x) back has)) ∙ marks v (inr has)))
+    (subst (λ (x : ℕ). Has (visited g (edge_at g e).to es) x) back has)) ∙ marks v (inr has)))
 
 thousand : (count scale total : ℕ) → count ≤ 1000 → 1 ≤ scale → total ≤ count * (65535 * scale) → total < 2 ^ 26 * scale
 thousand count scale total few above within = let most = mul-le-mul_right (65535 * scale) few in omega (arith, most)

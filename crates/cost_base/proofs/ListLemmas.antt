@@ -1,6 +1,6 @@
 -- Lists: numbers in a row, maps and filters over them, tests of images, a list with one more element, what a list lacks, and two lists together.
 use Rattle.std.proofs.Common.{◌≡◌, ◌≢◌, ℕ, zero, suc, ◌+◌, ◌<◌, ◌≤◌, refl, sym, ◌∙◌, ap, subst, List, [], ◌∷◌, ◌++◌, All, Bool, true, false, cond, ◌||◌, filter, map, length, get_or, arith, Option, None, Some, append_assoc, zero-add}
-use Rattle.std.specs.List.{AllZip, cons_option, list_any}
+use Rattle.std.specs.List.{AllByRecursion, AllZip, cons_option, list_any}
 use Rattle.std.specs.Option.{option_or}
 use Rattle.std.proofs.lemmas.Bool.{false_from_ne_true, false≢true}
 use Rattle.std.proofs.lemmas.List.{length-map, map-append}
@@ -205,6 +205,44 @@ All-left P (x ∷ xs) ys all = All-cons P x xs (All-head P x (xs ++ ys) all) (Al
 pub All-right : {X : Type 0} (P : X → Type 0) (xs ys : List X) → All P (xs ++ ys) → All P ys
 All-right P [] ys all = all
 All-right P (x ∷ xs) ys all = All-right P xs ys (All-tail P x (xs ++ ys) all)
+
+-- What holds of each element, one after another.
+
+-- of each of two lists
+pub each_append : {X : Type 0} (P : X → Type 0) (xs ys : List X) → AllByRecursion P xs → AllByRecursion P ys → AllByRecursion P (xs ++ ys)
+each_append P [] ys first rest = rest
+each_append P (x ∷ xs) ys first rest = (first.0, each_append P xs ys first.1 rest)
+
+-- of the first of two lists
+pub each_left : {X : Type 0} (P : X → Type 0) (xs ys : List X) → AllByRecursion P (xs ++ ys) → AllByRecursion P xs
+each_left P [] ys all = tt
+each_left P (x ∷ xs) ys all = (all.0, each_left P xs ys all.1)
+
+-- and of the second
+pub each_right : {X : Type 0} (P : X → Type 0) (xs ys : List X) → AllByRecursion P (xs ++ ys) → AllByRecursion P ys
+each_right P [] ys all = all
+each_right P (x ∷ xs) ys all = each_right P xs ys all.1
+
+-- and what follows from it
+pub each_weaker : {X : Type 0} (P Q : X → Type 0) (xs : List X) → ((x : X) → P x → Q x) → AllByRecursion P xs → AllByRecursion Q xs
+each_weaker P Q [] step all = tt
+each_weaker P Q (x ∷ xs) step all = (step x all.0, each_weaker P Q xs step all.1)
+
+-- of what a function gives for each
+pub each_mapped : {X Y : Type 0} (P : Y → Type 0) (f : X → Y) (xs : List X) → ((x : X) → P (f x)) → AllByRecursion P (map f xs)
+each_mapped P f [] each = tt
+each_mapped P f (x ∷ xs) each = (each x, each_mapped P f xs each)
+
+-- at each place
+pub all_from_each : {X : Type 0} (P : X → Type 0) (xs : List X) → AllByRecursion P xs → All P xs
+all_from_each P [] all k d k_in = absurd (omega arith)
+all_from_each P (x ∷ xs) all zero d k_in = all.0
+all_from_each P (x ∷ xs) all (suc k) d k_in = all_from_each P xs all.1 k d (omega arith)
+
+-- and of each where it holds at each place
+pub each_from_places : {X : Type 0} (P : X → Type 0) (xs : List X) (d : X) → ((k : ℕ) → k < length xs → P (get_or xs k d)) → AllByRecursion P xs
+each_from_places P [] d at = tt
+each_from_places P (x ∷ xs) d at = (at 0 (omega arith), each_from_places P xs d (λ k k_in. at (suc k) (omega arith)))
 
 -- two lists side by side are as long as each other
 pub length_zip : {X Y : Type 0} (R : X → Y → Type 0) (xs : List X) (ys : List Y) → AllZip R xs ys → length xs ≡ length ys

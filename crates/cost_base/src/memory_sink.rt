@@ -41,16 +41,14 @@ impl MemorySink {
         ensures fail { IfOk result (λ sink. sink.fail.items ≡ fail.items) }
         ensures calls { IfOk result (λ sink. sink.calls ≡ 0) }
     {
-        match Vec::with_capacity(alloc, room) {
-            Ok(bytes) => Ok(MemorySink {
-                bytes,
-                room,
-                fail,
-                calls: 0,
-                faults: 0,
-            }),
-            Err(_) => Err(OutOfMemory),
-        }
+        let bytes = Vec::with_capacity(alloc, room)?;
+        Ok(MemorySink {
+            bytes,
+            room,
+            fail,
+            calls: 0,
+            faults: 0,
+        })
     }
 
     /// The bytes that the sink got.

@@ -32,14 +32,12 @@ impl SureSink {
         ensures room { IfOk result (λ sink. sink.room ≡ room) }
         ensures lost { IfOk result (λ sink. sink.lost ≡ false) }
     {
-        match Vec::with_capacity(alloc, room) {
-            Ok(bytes) => Ok(SureSink {
-                bytes,
-                room,
-                lost: false,
-            }),
-            Err(_) => Err(OutOfMemory),
-        }
+        let bytes = Vec::with_capacity(alloc, room)?;
+        Ok(SureSink {
+            bytes,
+            room,
+            lost: false,
+        })
     }
 
     /// The bytes of the pieces that fitted, in order.

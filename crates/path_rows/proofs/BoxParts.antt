@@ -1,6 +1,7 @@
 -- The boxes of a sound entry stay boxes, within the one that they began with.
 use Rattle.std.proofs.Common.{ℕ, ◌+◌, ◌<◌, ◌≤◌, refl, sym, ◌∙◌, subst, inl, inr, List, [], ◌∷◌, length, length-set, arith}
 use Rattle.std.specs.Prelude.{slice_index}
+use Rattle.std.specs.List.{AllByRecursion}
 use Rattle.area_graph.specs.declared.Point.{Point}
 use Rattle.path_rows.specs.declared.form.Form.{Form}
 use Rattle.path_rows.specs.declared.form.CostBox.{CostBox}
@@ -13,7 +14,7 @@ use Rattle.path_rows.specs.Earnest.{Place}
 use Rattle.path_rows.specs.OpenPlaces.{IsPart, Opens, fresh}
 use Rattle.path_rows.proofs.TreeLaws.{set_cases}
 use Rattle.path_rows.proofs.TreeCounts.{box_high, box_low}
-use Rattle.path_rows.proofs.OpenPlaces.{AllOf, boxes_of, opens_all}
+use Rattle.path_rows.proofs.OpenPlaces.{boxes_of, opens_all}
 
 pub part_whole : (box : CostBox) → IsPart box box
 part_whole box = record { low_count = refl; high_count = refl; low = λ k k_in. omega arith; high = λ k k_in. omega arith }
@@ -60,7 +61,7 @@ cut_boxes n outer box var v kept above below = (
 
 -- a sound entry's boxes
 pub subboxes_in : (n : ℕ) (outer : CostBox) (forms : List Form) (box : CostBox) (entry : Entry) → IsBoxIn n outer box →
-    SoundAt forms box entry → AllOf (IsBoxIn n outer) (subboxes box entry)
+    SoundAt forms box entry → AllByRecursion (IsBoxIn n outer) (subboxes box entry)
 subboxes_in n outer forms box (Tighten var Low v row) kept sound =
     (record { is_box = box_low n box var v kept.is_box sound.smaller.1; is_part = part_low outer box var v kept.is_part (omega (arith, sound.smaller.0)) }, tt)
 subboxes_in n outer forms box (Tighten var High v row) kept sound = (
@@ -78,7 +79,7 @@ subboxes_in n outer forms box Undone kept sound = tt
 -- the open boxes of a tree over a box
 pub open_boxes_in : (accepts : Point → Type 0) (top n : ℕ) (forms : List Form) (start : CostBox) (entries : List Entry)
     (left : List Place) → IsBox n start → Opens accepts top forms (fresh start ∷ []) entries left →
-    AllOf (IsBoxIn n start) (boxes_of left)
+    AllByRecursion (IsBoxIn n start) (boxes_of left)
 open_boxes_in accepts top n forms start entries left kept opens =
     opens_all accepts top forms (IsBoxIn n start) (subboxes_in n start forms) (fresh start ∷ []) entries left
     (record { is_box = kept; is_part = part_whole start }, tt) opens

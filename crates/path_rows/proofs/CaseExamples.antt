@@ -23,7 +23,7 @@ use Rattle.path_rows.specs.Trees.{IsSoundTree, IsClosed, IsWholeTree, entry_coun
 use Rattle.path_rows.specs.Laws.{HasNone}
 use Rattle.path_rows.proofs.TreeLaws.{closed_tree_none}
 
-abbrev link : ℕ → ℕ → Price → Edge
+abbrev pub link : ℕ → ℕ → Price → Edge
 link from to price = record { from = from; to = to; price = price }
 
 -- each of n variables from 1 to most

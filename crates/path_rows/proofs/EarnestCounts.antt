@@ -1,6 +1,7 @@
 -- In an earnest tree a run of Tightens has at most two for each variable, so many of its entries have two subtrees.
 use Rattle.std.proofs.Common.{◌≡◌, ℕ, suc, ◌+◌, ◌*◌, ◌<◌, ◌≤◌, refl, sym, ◌∙◌, List, [], ◌∷◌, map, length, length-set, arith}
 use Rattle.std.specs.Prelude.{Contains}
+use Rattle.std.specs.List.{AllByRecursion}
 use Rattle.std.proofs.lemmas.List.{length-map}
 use Rattle.cost_base.specs.Lists.{Lacks, NoneTwice}
 use Rattle.area_graph.specs.declared.Point.{Point}
@@ -14,7 +15,7 @@ use Rattle.path_rows.specs.Boxes.{with_low, with_high}
 use Rattle.path_rows.specs.Trees.{entry_count, tightened}
 use Rattle.path_rows.specs.Earnest.{Place, Earnest, IsEarnestTree}
 use Rattle.path_rows.specs.ProblemLaws.{cut_count, HasManyCuts}
-use Rattle.path_rows.proofs.PathBounds.{Below, none_twice-le}
+use Rattle.path_rows.proofs.PathBounds.{none_twice-le}
 use Rattle.path_rows.proofs.TreeCounts.{undone_mark}
 use Rattle.path_rows.proofs.TreeShapes.{has_mark}
 
@@ -48,12 +49,11 @@ code_below n v High v_in = omega arith
 pub record Kept (n : ℕ) (place : Place) : Type 0 where
   pub count : length place.box.low ≡ n
   pub once : NoneTwice (map code place.since)
-  pub below : Below (2 * n) (map code place.since)
+  pub below : AllByRecursion (λ v. v < 2 * n) (map code place.since)
 
 -- each open place keeps it
 abbrev pub AllKept : ℕ → List Place → Type 0
-AllKept n [] = Unit {0}
-AllKept n (place ∷ places) = Kept n place × AllKept n places
+AllKept n places = AllByRecursion (Kept n) places
 
 -- how many Tightens stand above the open places since their last cuts
 abbrev pub all_since : List Place → ℕ

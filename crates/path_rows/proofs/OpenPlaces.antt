@@ -1,6 +1,8 @@
 -- A tree of cases while it grows, entry by entry, and how it ends.
 use Rattle.std.proofs.Common.{◌≡◌, ℕ, zero, suc, refl, sym, subst, List, [], ◌∷◌, ◌++◌, map, length, arith}
 use Rattle.std.specs.Prelude.{false}
+use Rattle.std.specs.List.{AllByRecursion}
+use Rattle.cost_base.proofs.ListLemmas.{each_append}
 use Rattle.area_graph.specs.declared.Point.{Point}
 use Rattle.path_rows.specs.declared.form.Form.{Form}
 use Rattle.path_rows.specs.declared.form.CostBox.{CostBox}
@@ -67,15 +69,6 @@ pub earnest_tree_sound : (accepts : Point → Type 0) (top : ℕ) (forms : List 
     IsEarnestTree accepts top forms box tree → IsSoundTree forms box tree
 earnest_tree_sound accepts top forms box tree earnest = earnest_sound accepts top forms (record { box = box; since = [] } ∷ []) tree earnest
 
--- a property of all boxes
-abbrev pub AllOf : (CostBox → Type 0) → List CostBox → Type 0
-AllOf Keeps [] = Unit {0}
-AllOf Keeps (box ∷ boxes) = Keeps box × AllOf Keeps boxes
-
-pub all_of_more : (Keeps : CostBox → Type 0) (boxes more : List CostBox) → AllOf Keeps boxes → AllOf Keeps more → AllOf Keeps (boxes ++ more)
-all_of_more Keeps [] more all rest = rest
-all_of_more Keeps (box ∷ boxes) more all rest = (all.0, all_of_more Keeps boxes more all.1 rest)
-
 -- the boxes that are open behind an entry
 pub same_boxes : (place : Place) (entry : Entry) (places : List Place) →
     boxes_of (subplaces place entry ++ places) ≡ subboxes place.box entry ++ boxes_of places
@@ -87,14 +80,14 @@ same_boxes place Undone places = refl
 
 -- what each sound entry hands from its box to its subtrees' boxes holds of the open ones
 pub opens_all : (accepts : Point → Type 0) (top : ℕ) (forms : List Form) (Keeps : CostBox → Type 0) →
-    ((box : CostBox) (entry : Entry) → Keeps box → SoundAt forms box entry → AllOf Keeps (subboxes box entry)) →
-    (places : List Place) (entries : List Entry) (left : List Place) → AllOf Keeps (boxes_of places) →
-    Opens accepts top forms places entries left → AllOf Keeps (boxes_of left)
-opens_all accepts top forms Keeps hands places [] left all opens = subst (λ (ps : List Place). AllOf Keeps (boxes_of ps)) opens all
+    ((box : CostBox) (entry : Entry) → Keeps box → SoundAt forms box entry → AllByRecursion Keeps (subboxes box entry)) →
+    (places : List Place) (entries : List Entry) (left : List Place) → AllByRecursion Keeps (boxes_of places) →
+    Opens accepts top forms places entries left → AllByRecursion Keeps (boxes_of left)
+opens_all accepts top forms Keeps hands places [] left all opens = subst (λ (ps : List Place). AllByRecursion Keeps (boxes_of ps)) opens all
 opens_all accepts top forms Keeps hands [] (e ∷ entries) left all opens = absurd opens
 opens_all accepts top forms Keeps hands (p ∷ places) (e ∷ entries) left all opens =
     opens_all accepts top forms Keeps hands (subplaces p e ++ places) entries left
-    (subst (AllOf Keeps) (sym (same_boxes p e places)) (all_of_more Keeps (subboxes p.box e) (boxes_of places) (hands p.box e all.0 opens.0) all.1))
+    (subst (AllByRecursion Keeps) (sym (same_boxes p e places)) (each_append Keeps (subboxes p.box e) (boxes_of places) (hands p.box e all.0 opens.0) all.1))
     opens.2
 
 -- entries without an Undone are counted by their number

@@ -9,6 +9,7 @@ use Rattle.std.proofs.lemmas.List.{length-map}
 use Rattle.std.proofs.lemmas.List.Folds.{Any-from_list_any}
 use Rattle.std.proofs.lemmas.Bool.{ne_eqb, eqb-true}
 use Rattle.cost_base.specs.Lists.{Lacks, NoneTwice}
+use Rattle.cost_base.proofs.ListLemmas.{all_from_each}
 use Rattle.area_graph.specs.Area.{Area, FitsGraph, edge_at, no_edge}
 use Rattle.area_graph.proofs.Visits.{joined_known}
 use Rattle.area_graph.specs.Paths.{Joins, IsSimple, Ends, IsPathOf, visited}
@@ -25,29 +26,20 @@ unfolding IsDistinct
 distinct [] once = search rules
 distinct (x ∷ xs) once = IsDistinct-cons eqb x xs (apart x xs once.0) (distinct xs once.1)
 
--- each number of a list is below n
-abbrev pub Below : ℕ → List ℕ → Type 0
-Below n [] = Unit {0}
-Below n (v ∷ vs) = (v < n) × Below n vs
-
-below_at : (n : ℕ) (vs : List ℕ) (k d : ℕ) → Below n vs → k < length vs → get_or vs k d < n
-below_at n [] k d below k_in = absurd (omega arith)
-below_at n (v ∷ vs) zero d below k_in = below.0
-below_at n (v ∷ vs) (suc k) d below k_in = below_at n vs k d below.1 (omega arith)
-
-below_any : (n : ℕ) (vs : List ℕ) → Below n vs → (q : ℕ) → list_any (eqb q) vs ≡ true → q < n
+below_any : (n : ℕ) (vs : List ℕ) → AllByRecursion (λ v. v < n) vs → (q : ℕ) → list_any (eqb q) vs ≡ true → q < n
 below_any n vs below q any =
     let found = Any-from_list_any (eqb q) vs any in
-    let here = below_at n vs found.0 found.1 below found.2 in
+    let here = all_from_each (λ v. v < n) vs below found.0 found.1 found.2 in
     let same = eqb-true q found.1 found.4 in
     omega (arith, found.3)
 
 -- different numbers below n are at most n
-pub none_twice-le : (n : ℕ) (vs : List ℕ) → NoneTwice vs → Below n vs → length vs ≤ n
+pub none_twice-le : (n : ℕ) (vs : List ℕ) → NoneTwice vs → AllByRecursion (λ v. v < n) vs → length vs ≤ n
 none_twice-le n vs once below = length-le_from_distinct_below vs n (distinct vs once) (below_any n vs below)
 
 -- the vertices that a path visits are the graph's
-visited-below : (g : Area) (s : ℕ) (es : List ℕ) (t : ℕ) → FitsGraph g → s < length g.vertices → Joins g s es t → Below (length g.vertices) (visited g s es)
+visited-below : (g : Area) (s : ℕ) (es : List ℕ) (t : ℕ) → FitsGraph g → s < length g.vertices → Joins g s es t →
+    AllByRecursion (λ v. v < length g.vertices) (visited g s es)
 visited-below g s [] t fits start joins = (start, tt)
 visited-below g s (e ∷ es) t fits start joins =
     (start, visited-below g (edge_at g e).to es t fits (fits.edges e no_edge joins.0).to joins.2)

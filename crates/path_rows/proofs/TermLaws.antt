@@ -346,6 +346,10 @@ upper_by_terms cs low high counted_low counted_high =
 pub dot_by_terms : (cs : List ℤ) (xs : List ℕ) → length cs ≡ length xs → total (product_in xs) (terms_from 0 cs) ≡ dot cs xs
 dot_by_terms cs xs counted = total_is (product_in xs) (product_zero xs) 0 cs ∙ dot_from 0 cs xs (omega arith)
 
+-- behind the last term the sum is the whole one
+pub whole_at_end : (sum rest constant all : ℤ) → rest ≡ pos 0 → (sum +ℤ rest) ≡ (constant +ℤ all) → sum ≡ (constant +ℤ all)
+whole_at_end sum rest constant all none whole = omega (arith, ints)
+
 -- a small coefficient that code has read
 pub small_read : (z : ℤ) → nat_abs z ≤ 2 ^ 26 → to_z w64 (of_z w64 z) ≡ z
 small_read z small = to_z-of_z w64 z (fits z small)

@@ -9,6 +9,7 @@ use Rattle.std.proofs.lemmas.List.Elements.{All-contains}
 use Rattle.std.proofs.lemmas.List.Folds.{list_any_at}
 use Rattle.std.proofs.lemmas.List.Sums.{sum_by-append, sum_by-cons}
 use Rattle.cost_base.specs.Lists.{Lacks, NoneTwice}
+use Rattle.cost_base.proofs.ListLemmas.{each_append, each_left, each_right}
 use Rattle.area_graph.specs.declared.Point.{Point}
 use Rattle.area_graph.specs.Area.{Area, edge_at, no_edge, FitsGraph, FitsEdge, HasMetrics}
 use Rattle.area_graph.specs.Paths.{Ends, IsPathOf, Joins, Avoids, visited}
@@ -43,18 +44,6 @@ cut g s (e ∷ front) back t joins =
 join : (g : Area) (s : ℕ) (front back : List ℕ) (v t : ℕ) → Joins g s front v → Joins g v back t → Joins g s (front ++ back) t
 join g s [] back v t before behind = subst (λ (u : ℕ). Joins g u back t) (sym before) behind
 join g s (e ∷ front) back v t before behind = (before.0, before.1, join g (edge_at g e).to front back v t before.2 behind)
-
-avoids_front : (gone front back : List ℕ) → Avoids gone (front ++ back) → Avoids gone front
-avoids_front gone [] back kept = tt
-avoids_front gone (e ∷ front) back kept = (kept.0, avoids_front gone front back kept.1)
-
-avoids_back : (gone front back : List ℕ) → Avoids gone (front ++ back) → Avoids gone back
-avoids_back gone [] back kept = kept
-avoids_back gone (e ∷ front) back kept = avoids_back gone front back kept.1
-
-avoids_both : (gone front back : List ℕ) → Avoids gone front → Avoids gone back → Avoids gone (front ++ back)
-avoids_both gone [] back one two = two
-avoids_both gone (e ∷ front) back one two = (one.0, avoids_both gone front back one.1 two)
 
 -- the end of a walk is where its parts meet, so the part behind has no vertex twice either
 once_behind : (g : Area) (s : ℕ) (front back : List ℕ) (v : ℕ) → Joins g s front v → NoneTwice (visited g s (front ++ back)) → NoneTwice (visited g v back)
@@ -107,7 +96,7 @@ module _ (g : Area) (ends : Ends) (wanted : List (List ℕ)) (steps : List Step)
       subst (λ (v : ℕ). Joins g ends.start (prefix (suc i)) v) (sym last.behind.2) parts.before
 
   pub place_avoids : (k : ℕ) → k ≤ length steps → Avoids ends.gone (prefix k)
-  place_avoids k known = avoids_front ends.gone (prefix k) (tree.grown.begun k known).more (begun_path k known).kept
+  place_avoids k known = each_left (Lacks ends.gone) (prefix k) (tree.grown.begun k known).more (begun_path k known).kept
 
   pub place_short : FitsGraph g → (k : ℕ) → k ≤ length steps → length (prefix k) < length g.vertices
   place_short graph k known =
@@ -231,7 +220,7 @@ module _ (g : Area) (p : Point) (ends : Ends) (limit : ℕ) (room : Findings) (w
         let vertex = one_end g ends.start (place_prefix k) parts.at_vertex (vertex_of g ends steps k) parts.before
         (place_joins g ends wanted steps tree k known) in
         let once = once_behind g ends.start (place_prefix k) (e ∷ rest) parts.at_vertex parts.before path.simple.none_twice in
-        let kept = avoids_back ends.gone (place_prefix k) (e ∷ rest) path.kept in
+        let kept = each_right (Lacks ends.gone) (place_prefix k) (e ∷ rest) path.kept in
         let edge : FitsEdge g (edge_at g e) = graph.edges e no_edge parts.behind.0 in
         let split = ap (cost g p) same ∙ sum_by-append (λ i. price_at p (edge_at g i).price) (place_prefix k) (e ∷ rest) in
         let longer = sum_by-cons (λ i. price_at p (edge_at g i).price) e rest in
@@ -281,7 +270,8 @@ module _ (g : Area) (p : Point) (ends : Ends) (limit : ℕ) (room : Findings) (w
         let front = place_prefix place in
         let start = place_joins g ends wanted steps tree place departs.within in
         let joins = join g ends.start front (e ∷ rest) (vertex_of g ends steps place) ends.end start (departs.known, departs.from, path.simple.joins) in
-        let kept = avoids_both ends.gone front (e ∷ rest) (place_avoids g ends wanted steps tree place departs.within) (departs.onward.left, path.kept) in
+        let kept = each_append (Lacks ends.gone) front (e ∷ rest) (place_avoids g ends wanted steps tree place departs.within)
+        (departs.onward.left, path.kept) in
         let here = prefix_cost g ends wanted steps tree p costs (length steps) (omega arith) are place place (omega arith) departs.within in
         let split = sum_by-append (λ i. price_at p (edge_at g i).price) front (e ∷ rest) in
         let longer = sum_by-cons (λ i. price_at p (edge_at g i).price) e rest in

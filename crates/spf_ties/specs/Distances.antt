@@ -1,5 +1,6 @@
 -- Least costs over simple paths, and the edges on which they lie.
-use Rattle.std.specs.Prelude.{◌≡◌, ℕ, ◌+◌, ◌<◌, ◌≤◌, ◌==◌, nat_lt, List, [], ◌∷◌, length, slice_index_or, filter, Option, Some, None, Bool, true, false, cond}
+use Rattle.std.specs.Prelude.{◌≡◌, ℕ, ◌+◌, ◌<◌, ◌≤◌, ◌==◌, nat_lt, List, length, slice_index_or, filter, Option, Some, None, Bool, true, false, cond}
+use Rattle.std.specs.List.{AllByRecursion}
 use Rattle.area_graph.specs.declared.Point.{Point}
 use Rattle.area_graph.specs.Area.{Area, edge_at, edges_out}
 use Rattle.area_graph.specs.Paths.{Ends, IsPathOf}
@@ -56,5 +57,4 @@ tight_out g p room v = filter (is_tight g p room) (edges_out g v)
 
 -- each edge of a path is tight
 abbrev pub AreTight : Area → Point → Findings → List ℕ → Type 0
-AreTight g p room [] = Unit {0}
-AreTight g p room (e ∷ es) = (is_tight g p room e ≡ true) × AreTight g p room es
+AreTight g p room es = AllByRecursion (λ e. is_tight g p room e ≡ true) es

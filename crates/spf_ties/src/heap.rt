@@ -44,10 +44,8 @@ impl Heap {
     pub(crate) fn with_places(alloc: Global, places: usize) -> Result<Heap, OutOfMemory>
         ensures { IfOk result (λ heap. heap ≡ record { entries = []; places = places }) }
     {
-        match BinaryHeap::with_capacity(alloc, places) {
-            Ok(entries) => Ok(Heap { entries }),
-            Err(_) => Err(OutOfMemory),
-        }
+        let entries = BinaryHeap::with_capacity(alloc, places)?;
+        Ok(Heap { entries })
     }
 
     /// Takes every entry out.

@@ -2,7 +2,7 @@
 use Rattle.std.proofs.Common.{◌≡◌, ℕ, ◌+◌, sym, ◌∙◌, ap, subst, List, [], ◌∷◌, ◌++◌, length, true, Option, Some, None, append_assoc, append-nil, length-append, arith}
 use Rattle.cost_base.specs.Lists.{first_of}
 use Rattle.text_lines.specs.Lines.{lines}
-use Rattle.text_lines.specs.LineFaults.{FaultyLine, fault_at, fault_in_line, faults_at, line_faults}
+use Rattle.text_lines.specs.LineFaults.{FaultyLine, fault_in_line, faults_at, line_faults}
 use Rattle.text_lines.specs.TextLeft.{TextLeft}
 use Rattle.text_lines.specs.Reading.{IsLineRead}
 use Rattle.text_lines.specs.declared.line_reader.Line.{Line}

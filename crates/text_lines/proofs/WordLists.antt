@@ -1,6 +1,11 @@
 -- What words say, word by word.
-use Rattle.std.proofs.Common.{◌≡◌, ℕ, refl, sym, ◌∙◌, ap, List, [], ◌∷◌, ◌++◌, Option, Some, None, append_assoc, append-nil}
+use Rattle.std.proofs.Common.{◌≡◌, ℕ, ◌+◌, length, refl, sym, ◌∙◌, ap, List, [], ◌∷◌, ◌++◌, Option, Some, None, append_assoc, append-nil}
 use Rattle.text_lines.specs.WordLists.{with_first, all_said}
+
+-- what words take, each with a byte behind it
+abbrev pub room : List (List ℕ) → ℕ
+room [] = 0
+room (word ∷ words) = length word + 1 + room words
 
 -- some things before others, where those are there
 abbrev pub before_others : {X : Type 0} → List X → Option (List X) → Option (List X)

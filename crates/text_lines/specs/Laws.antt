@@ -1,5 +1,5 @@
 -- The laws of this crate, each the contract of a function of `laws`.
-use Rattle.std.specs.Prelude.{◌≡◌, ℕ, ◌≤◌, ◌<◌, ◌^◌, List, [], ◌∷◌, ◌++◌, length, Some, true, false, All}
+use Rattle.std.specs.Prelude.{◌≡◌, ℕ, ◌≤◌, ◌<◌, ◌^◌, List, ◌∷◌, ◌++◌, length, Some, true, false, All}
 use Rattle.std.specs.List.{join_with_byte}
 use Rattle.cost_base.specs.Words.{IsOneWord}
 use Rattle.cost_base.specs.Decimal.{decimal}

@@ -1,10 +1,11 @@
 use Rattle.std.proofs.Common.{ℕ, get_or, length, length-set, rules, ap, sym, subst, ◌∙◌, w64, SFits, to_z, of_z, List}
 use Rattle.std.specs.Int.{w128}
-use Rattle.std.specs.Prelude.{◌≤◌, ◌^◌, pos, nat_abs, ◌+ℤ◌, slice_set}
+use Rattle.std.specs.Prelude.{◌≤◌, ◌^◌, nat_abs, ◌+ℤ◌, slice_set}
 use Rattle.std.proofs.lemmas.Int.{to_z-of_z}
 use Rattle.path_rows.specs.Boxes.{upper, upper_sum}
 use Rattle.path_rows.proofs.GreatestSums.{small_term_read, summed_more, summed_all}
 use Rattle.path_rows.proofs.greatest.greatest_with.Goals as goal
+use Rattle.path_rows.specs.Forms.{no_term}
 
 pub greatest_term-requires : goal.greatest_term-requires
 greatest_term-requires c = small_term_read c.args.form.now c.terms-terms.result.now c.loop-term.term-index _
@@ -12,7 +13,7 @@ greatest_term-requires c = small_term_read c.args.form.now c.terms-terms.result.
 
 pub loop-term-preserved : goal.loop-term-preserved
 loop-term-preserved c =
-    let t = get_or c.terms-terms.result.now c.loop-term.term-index (record { var = 0; coefficient = pos 0 }) in
+    let t = get_or c.terms-terms.result.now c.loop-term.term-index no_term in
     let low : List ℕ = slice_set c.as_slice-low.result.now c.args.var c.args.low_end in
     let high : List ℕ = slice_set c.as_slice-high.result.now c.args.var c.args.high_end in
     let fits : SFits w64 c.greatest_term.result = search rules in
