@@ -2,7 +2,7 @@
 use Rattle.std.proofs.Common.{◌≡◌, ℕ, ◌+◌, List, [], ◌∷◌, map, codes, eqb, true, false, ℤ, pos, negsuc, refl, sym, subst}
 use Rattle.std.proofs.lemmas.Bool.{and_parts, not-true}
 use Rattle.std.proofs.lemmas.List.Elements.{All-nil, All-cons, All-append}
-use Rattle.std.specs.List.{list_all}
+use Rattle.std.specs.List.{list_all, AllByRecursion}
 use Rattle.std.specs.Prelude.{not}
 use Rattle.cost_base.specs.Decimal.{decimal}
 use Rattle.cost_base.specs.declared.Ratio.{Ratio}
@@ -37,8 +37,7 @@ written (c ∷ cs) h =
 
 -- words without an LF
 abbrev pub AreWhole : List (List ℕ) → Type 0
-AreWhole [] = Unit {0}
-AreWhole (w ∷ ws) = IsOneLine w × AreWhole ws
+AreWhole ws = AllByRecursion IsOneLine ws
 
 pub spaced-whole : (ws : List (List ℕ)) → AreWhole ws → IsOneLine (spaced ws)
 spaced-whole [] whole = All-nil IsNoLF

@@ -1,10 +1,12 @@
 -- Tree lines by their words.
-use Rattle.std.proofs.Common.{◌≡◌, ◌≢◌, ℕ, ◌+◌, List, [], ◌∷◌, All, codes, eqb, false, ℤ, pos, negsuc, MatchOption, Option, Some, None, refl, sym, ap, ◌∙◌}
-use Rattle.std.proofs.lemmas.List.Elements.{All-nil, All-cons, All-append}
+use Rattle.std.proofs.Common.{◌≡◌, ◌≢◌, ℕ, ◌+◌, List, [], ◌∷◌, codes, eqb, false, ℤ, pos, negsuc, MatchOption, Option, Some, None, refl, sym, ap, ◌∙◌}
+use Rattle.std.specs.List.{AllByRecursion}
+use Rattle.std.proofs.lemmas.List.Elements.{All-cons, All-append}
 use Rattle.cost_base.specs.Decimal.{decimal}
 use Rattle.cost_base.specs.declared.Ratio.{Ratio}
 use Rattle.cost_base.specs.declared.StepName.{StepName}
 use Rattle.cost_base.specs.declared.StepName.TheVariants.{Add, Sub, Mul, Div, Lcm, Scale}
+use Rattle.cost_base.proofs.ListLemmas.{all_from_each}
 use Rattle.path_rows.specs.declared.tree.Side.{Side}
 use Rattle.path_rows.specs.declared.tree.Side.TheVariants.{Low as LowSide, High as HighSide}
 use Rattle.path_rows.specs.declared.tree.Member.{Member}
@@ -41,12 +43,7 @@ ratio-spaceless q =
 
 -- each word is without spaces
 abbrev Plain : List (List ℕ) → Type 0
-Plain [] = Unit {0}
-Plain (w ∷ ws) = IsSpaceless w × Plain ws
-
-all-plain : (ws : List (List ℕ)) → Plain ws → All IsSpaceless ws
-all-plain [] plain = All-nil IsSpaceless
-all-plain (w ∷ ws) plain = All-cons IsSpaceless w ws plain.0 (all-plain ws plain.1)
+Plain ws = AllByRecursion IsSpaceless ws
 
 members-plain : (ms : List Member) → Plain (members_words ms)
 members-plain [] = tt
@@ -82,7 +79,7 @@ entry-plain Undone = (spaceless-from (codes "open") refl, tt)
 
 some_pieces : (ws : List (List ℕ)) → ws ≢ [] → Plain ws → split 32 (spaced ws) ≡ ws
 some_pieces [] some plain = absurd (some refl)
-some_pieces (w ∷ ws) some plain = split-spaced w ws (all-plain (w ∷ ws) plain)
+some_pieces (w ∷ ws) some plain = split-spaced w ws (all_from_each IsSpaceless (w ∷ ws) plain)
 
 entry-some : (entry : Entry) → entry_words entry ≢ []
 entry-some (Tighten v side b row) e = cc

@@ -1,6 +1,7 @@
 -- The ranges of numbers in jobs.
 use Rattle.std.proofs.Common.{◌≡◌, ◌∙◌, Result, Ok, Err, IfOk, ◌≤◌, ℕ, Bool, cond, true, false, List, [], ◌∷◌, Option, Some, None, IfSome, option_and_then, option_map, codes, refl, subst, arith}
 use Rattle.std.specs.Prelude.{find, nat_le}
+use Rattle.std.specs.List.{AllByRecursion}
 use Rattle.text_lines.specs.Numbers.{number, quad}
 use Rattle.text_lines.proofs.NumberLaws.{number_within-le}
 use Rattle.cost_base.specs.Lists.{same_bytes}
@@ -66,11 +67,7 @@ trial_in found =
 abbrev InRange : Form → Type 0
 InRange form = (found : Found) → IfSome (form.job found) IsInRange
 
-abbrev Each : {X : Type 0} → (X → Type 0) → List X → Type 0
-Each P [] = Unit {0}
-Each P (x ∷ xs) = P x × Each P xs
-
-rows_in : Each InRange table
+rows_in : AllByRecursion InRange table
 unfolding table
 rows_in = (
   (λ found. search_in (λ s. Design s.request s.limits s.configs) (search_of found) (λ s. tt)),
@@ -106,7 +103,7 @@ rows_in = (
   ),
 )
 
-found_holds : {X : Type 0} (p : X → Bool) (P : X → Type 0) (xs : List X) → Each P xs → IfSome (find p xs) P
+found_holds : {X : Type 0} (p : X → Bool) (P : X → Type 0) (xs : List X) → AllByRecursion P xs → IfSome (find p xs) P
 found_holds p P [] h = tt
 found_holds p P (x ∷ xs) h = go (p x) (found_holds p P xs h.1)
   where

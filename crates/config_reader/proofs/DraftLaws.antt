@@ -1,5 +1,5 @@
 -- Drafts are what the lines say of interfaces.
-use Rattle.std.proofs.Common.{◌≡◌, ℕ, List, [], ◌∷◌, ◌++◌, map, Bool, cond, true, false, ◌||◌, refl, sym, ap, ◌∙◌, Option, Some, None, append-nil, append_assoc}
+use Rattle.std.proofs.Common.{◌≡◌, ℕ, List, [], ◌∷◌, ◌++◌, Bool, cond, true, false, ◌||◌, refl, sym, ap, ◌∙◌, Option, Some, None, append-nil, append_assoc}
 use Rattle.std.specs.Prelude.{unwrap_or}
 use Rattle.std.specs.List.{filter, filter_map, list_any, cons_option}
 use Rattle.std.specs.Option.{option_or}
@@ -16,8 +16,8 @@ use Rattle.interface_model.specs.declared.Kind.{Kind}
 use Rattle.interface_model.specs.declared.Kind.TheVariants.{Broadcast}
 use Rattle.config_reader.specs.declared.drafts.Draft.{Draft}
 use Rattle.config_reader.specs.declared.networks.NetworkLine.{NetworkLine}
-use Rattle.config_reader.specs.Statements.{Statement, AddressIs, AreaIs, CostIs, KindIs, PriorityIs, PassiveIs, DownIs, RouterIdIs, NetworkIs, PassiveInterfaceIs, Refused, Unread, Network, Block, OfInterface, OfRouter, OfOther}
-use Rattle.config_reader.specs.Settings.{Said, about, about_router, is_of, is_of_router, setting, address_said, area_said, cost_said, kind_said, passive_said, down_said, priority_said, network_said, passive_name_said, address_part, length_part}
+use Rattle.config_reader.specs.Statements.{Statement, AddressIs, AreaIs, CostIs, KindIs, PriorityIs, PassiveIs, DownIs, RouterIdIs, NetworkIs, PassiveInterfaceIs, Refused, Unread, Block, OfInterface, OfRouter, OfOther}
+use Rattle.config_reader.specs.Settings.{Said, about, about_router, is_of, is_of_router, setting, address_said, area_said, cost_said, kind_said, passive_said, down_said, priority_said, passive_name_said, address_part, length_part}
 use Rattle.config_reader.specs.Hearing.{sets}
 use Rattle.config_reader.specs.Drafting.{new_draft, with_setting, with_address, touch, target, change, is_matched, covers, draft_with, draft_after}
 use Rattle.config_reader.proofs.SettingSteps.{about-push, about_router-push, said_where, Made, by_said, by_one_more, by_said-push}

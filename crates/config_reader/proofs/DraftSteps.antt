@@ -1,6 +1,7 @@
 -- One more line for drafts.
-use Rattle.std.proofs.Common.{◌≡◌, ◌≢◌, ℕ, zero, suc, ◌+◌, ◌<◌, ◌≤◌, List, [], ◌∷◌, ◌++◌, length, map, take, drop, drop-cons, set, get_or, Bool, cond, true, false, refl, sym, ap, ◌∙◌, arith, subst, append-nil, Option, Some, None}
-use Rattle.std.specs.Prelude.{position, is_some}
+use Rattle.std.proofs.Common.{◌≡◌, ℕ, zero, suc, ◌+◌, ◌<◌, ◌≤◌, List, [], ◌∷◌, ◌++◌, length, map, take, drop, drop-cons, set, get_or, Bool, cond, true, false, refl, sym, ap, ◌∙◌, arith, subst, append-nil, Option, Some, None}
+use Rattle.std.specs.Prelude.{position}
+use Rattle.std.proofs.Math.ListN.{get_or-map}
 use Rattle.std.specs.List.{list_any}
 use Rattle.std.proofs.lemmas.Bool.{false≢true, false_from_ne_true, or_parts}
 use Rattle.std.proofs.lemmas.List.{map-append, length-map, take_more}
@@ -46,11 +47,6 @@ pub unmatched : (name : List ℕ) (f : Draft → Draft) (ds : List Draft) (names
     false ≡ list_any (same_bytes name) names → ds ≡ map (touch (Some name) f) ds
 unmatched name f ds names named none = others name f ds (sym (none ∙ ap (list_any (same_bytes name)) named))
 
-get_name : (ds : List Draft) (i : ℕ) (d : Draft) → get_or (names_of ds) i d.interface.name ≡ (get_or ds i d).interface.name
-get_name [] i d = refl
-get_name (x ∷ ds) zero d = refl
-get_name (x ∷ ds) (suc i) d = get_name ds i d
-
 touched : (name : List ℕ) (f : Draft → Draft) (ds : List Draft) (i : ℕ) (d : Draft) → i < length ds →
     (get_or ds i d).interface.name ≡ name → NamesApart (names_of ds) →
     set ds i (f (get_or ds i d)) ≡ map (touch (Some name) f) ds
@@ -69,7 +65,7 @@ touched name f (x ∷ ds) (suc i) d within named apart =
     there : name ≡ x.interface.name → i < length ds → list_any (same_bytes x.interface.name) (names_of ds) ≡ true
     there same short =
         list_any_at (same_bytes x.interface.name) (names_of ds) i d.interface.name (omega (arith, short, length-map ds (λ (y : Draft). y.interface.name)))
-        (ap (same_bytes x.interface.name) (get_name ds i d ∙ named ∙ same) ∙ same_bytes-refl x.interface.name)
+        (ap (same_bytes x.interface.name) (get_or-map (λ (y : Draft). y.interface.name) ds i d ∙ named ∙ same) ∙ same_bytes-refl x.interface.name)
 
 -- a line about an interface changes its draft
 pub touched_at : (name : List ℕ) (f : Draft → Draft) (ds : List Draft) (names : List (List ℕ)) (i : ℕ) (d : Draft) →
@@ -80,7 +76,7 @@ touched_at name f ds names i d named apart at =
     let within : i < length ds = omega (arith, found.0, ap length named, length-map ds (λ (y : Draft). y.interface.name)) in
     touched name f ds i d within (sym
     (same_bytes-true name (get_or ds i d).interface.name
-    (ap (same_bytes name) (sym (get_name ds i d) ∙ ap (λ ns. get_or ns i d.interface.name) (sym named))
+    (ap (same_bytes name) (sym (get_or-map (λ (y : Draft). y.interface.name) ds i d) ∙ ap (λ ns. get_or ns i d.interface.name) (sym named))
     ∙ found.1))) (subst_apart named apart)
   where
     subst_apart : names ≡ names_of ds → NamesApart names → NamesApart (names_of ds)

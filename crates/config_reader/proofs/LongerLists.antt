@@ -2,7 +2,6 @@
 use Rattle.std.proofs.Common.{◌≡◌, ℕ, zero, suc, ◌+◌, ◌<◌, ◌≤◌, List, [], ◌∷◌, ◌++◌, Bool, cond, true, false, refl, sym, ap, ◌∙◌, arith, map, Option, Some, None, get_or, length, not, ltb, append-nil}
 use Rattle.std.specs.List.{filter, filter_map, cons_option, list_any, position_or_len}
 use Rattle.std.specs.Prelude.{slice_get, position}
-use Rattle.std.specs.Option.{option_map}
 use Rattle.std.proofs.lemmas.List.{map-append, length-map}
 use Rattle.std.proofs.lemmas.List.Recursion.{is_position_or_len}
 use Rattle.std.proofs.lemmas.List.Elements.{filter-append, filter_map-append}

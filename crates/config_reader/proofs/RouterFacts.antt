@@ -1,20 +1,21 @@
 -- What a configuration says keeps the facts of a router.
-use Rattle.std.proofs.Common.{◌≡◌, ◌≢◌, ℕ, zero, suc, ◌+◌, ◌<◌, ◌≤◌, List, [], ◌∷◌, ◌++◌, length, get_or, map, All, Bool, cond, true, false, ◌&&◌, not, refl, sym, ap, ◌∙◌, subst, arith, Option, Some, None, eqb}
+use Rattle.std.proofs.Common.{IfSome, ◌≡◌, ◌≢◌, ℕ, zero, suc, ◌+◌, ◌<◌, ◌≤◌, List, [], ◌∷◌, ◌++◌, length, get_or, map, All, Bool, cond, true, false, ◌&&◌, not, refl, sym, ap, ◌∙◌, subst, arith, Option, Some, None, eqb}
 use Rattle.std.specs.Prelude.{◌==◌, codes, AllPairs, nat_le}
-use Rattle.std.specs.List.{filter_map, list_any, list_all}
+use Rattle.std.specs.List.{filter_map, list_any, list_all, AllByRecursion}
 use Rattle.std.proofs.lemmas.Bool.{false≢true, and_parts, or_left, or_right, or_from, ne_eqb, leb-true, not-true, eqb-false}
 use Rattle.std.proofs.lemmas.List.Folds.{list_all-append}
 use Rattle.std.proofs.lemmas.List.Elements.{All-nil, All-cons}
 use Rattle.cost_base.specs.Lists.{numbers_from, first_of, last_of, same_bytes}
 use Rattle.cost_base.specs.Words.{is_blank, ends_a_word, IsOneWord, IsWord}
 use Rattle.cost_base.proofs.ByteLemmas.{same_bytes-refl}
+use Rattle.cost_base.proofs.ListLemmas.{each_append}
 use Rattle.text_lines.specs.Lines.{lines, words, ends_word, grow, kind_of, is_head}
 use Rattle.text_lines.specs.Numbers.{Prefix, prefix, prefix_of_pieces, joined_prefix, quad, number_within, split}
 use Rattle.text_lines.proofs.NumberLaws.{number_within-le}
 use Rattle.text_lines.specs.declared.LineKind.{LineKind}
 use Rattle.text_lines.specs.declared.LineKind.TheVariants.{Blank, Comment, Head, Indented}
 use Rattle.interface_model.specs.declared.Interface.{Interface}
-use Rattle.interface_model.specs.Records.{IsCost, IsInterface, IsRouter}
+use Rattle.interface_model.specs.Records.{IsInterface, IsRouter}
 use Rattle.config_reader.specs.Statements.{Statement, AddressIs, AreaIs, CostIs, KindIs, PriorityIs, PassiveIs, DownIs, RouterIdIs, NetworkIs, PassiveInterfaceIs, Refused, Unread, Block, OfInterface, OfRouter, OfOther, block_of, head_statement, interface_statement, router_statement, address_statement, area_statement, cost_statement, priority_statement, network_statement, router_id_statement, alone, begin_with}
 use Rattle.config_reader.specs.Settings.{Said, said, said_by, about, is_of, interface_of, address_said, cost_said, length_part}
 use Rattle.config_reader.specs.Configs.{config_of, first_heads, opened_at, with_line, name_opened}
@@ -145,12 +146,7 @@ said_fits Indented n OfOther ws = record { fact = tt }
 
 -- each of some statements fits
 abbrev pub EachFits : List Statement → Type 0
-EachFits [] = Unit {0}
-EachFits (s ∷ ss) = Fits s × EachFits ss
-
-each_append : (ss ts : List Statement) → EachFits ss → EachFits ts → EachFits (ss ++ ts)
-each_append [] ts f g = g
-each_append (s ∷ ss) ts f g = (f.0, each_append ss ts f.1 g)
+EachFits ss = AllByRecursion Fits ss
 
 each_where : (b : Bool) (s : Statement) → Fits s → EachFits (said_where b s)
 each_where true s f = (f, tt)
@@ -160,7 +156,7 @@ each_where false s f = tt
 pub about_fits : (file : List (List ℕ)) (name : List ℕ) → EachFits (about (said file) name)
 about_fits = by_lines (λ file. (name : List ℕ) → EachFits (about (said file) name)) (λ name. tt)
     (λ file line before name. subst EachFits (sym (ap (λ all. about all name) (said-push file line) ∙ about-push (said file) (said_after file line) name))
-    (each_append (about (said file) name) (said_where (is_of name (said_after file line).block) (said_after file line).statement) (before name)
+    (each_append Fits (about (said file) name) (said_where (is_of name (said_after file line).block) (said_after file line).statement) (before name)
     (each_where (is_of name (said_after file line).block) (said_after file line).statement
     (said_fits (kind_of line) (length file + 1) (open_block file) (words line)))))
 
@@ -181,11 +177,11 @@ first_length (Refused fault ∷ own) fits = first_length own fits.1
 first_length (Unread ∷ own) fits = first_length own fits.1
 
 -- the last cost of statements that fit
-last_positive : (own : List Statement) → EachFits own → IsCost (last_of (filter_map cost_said own))
+last_positive : (own : List Statement) → EachFits own → IfSome (last_of (filter_map cost_said own)) (λ cost. 0 < cost)
 last_positive [] fits = tt
 last_positive (CostIs n ∷ own) fits = behind (filter_map cost_said own) (last_positive own fits.1)
   where
-    behind : (ns : List ℕ) → IsCost (last_of ns) → IsCost (last_of (n ∷ ns))
+    behind : (ns : List ℕ) → IfSome (last_of ns) (λ cost. 0 < cost) → IfSome (last_of (n ∷ ns)) (λ cost. 0 < cost)
     behind [] h = fits.0.fact
     behind (m ∷ ns) h = h
 last_positive (AddressIs p ∷ own) fits = last_positive own fits.1
@@ -305,12 +301,7 @@ opened_word n line name m good = by_head (is_head line)
 
 -- the names of heads are words
 abbrev pub EachHead : List (List ℕ × ℕ) → Type 0
-EachHead [] = Unit {0}
-EachHead (h ∷ hs) = IsWord h.0 × EachHead hs
-
-heads_append : (hs gs : List (List ℕ × ℕ)) → EachHead hs → EachHead gs → EachHead (hs ++ gs)
-heads_append [] gs f g = g
-heads_append (h ∷ hs) gs f g = (f.0, heads_append hs gs f.1 g)
+EachHead hs = AllByRecursion (λ h. IsWord h.0) hs
 
 heads_words : (file : List (List ℕ)) → list_all is_good_line file ≡ true → EachHead (first_heads file)
 heads_words = by_lines (λ file. list_all is_good_line file ≡ true → EachHead (first_heads file)) (λ good. tt) step
@@ -324,7 +315,7 @@ heads_words = by_lines (λ file. list_all is_good_line file ≡ true → EachHea
 
         cases : (o : Option (List ℕ × ℕ)) → opened_from (length file) line ≡ o → EachHead (heads_with o (first_heads file))
         cases None e = before parts.0
-        cases (Some head) e = heads_append (first_heads file) (unless_known (is_headed head.0 (first_heads file)) head)
+        cases (Some head) e = each_append (λ (h : List ℕ × ℕ). IsWord h.0) (first_heads file) (unless_known (is_headed head.0 (first_heads file)) head)
             (before parts.0) (new (is_headed head.0 (first_heads file)))
           where
             new : (b : Bool) → EachHead (unless_known b head)

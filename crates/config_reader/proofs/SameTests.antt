@@ -1,10 +1,9 @@
 -- Files of which the tests of second addresses and of second areas say the same.
-use Rattle.std.proofs.Common.{◌≡◌, ℕ, List, [], ◌∷◌, map, Bool, cond, true, ◌&&◌, refl, sym, ap, ◌∙◌, subst, Option, Some, None, is_some}
+use Rattle.std.proofs.Common.{◌≡◌, ℕ, List, [], Bool, cond, true, ◌&&◌, refl, sym, ap, ◌∙◌, subst, Some, None, is_some}
 use Rattle.std.specs.Prelude.{◌||◌}
 use Rattle.std.specs.List.{filter_map, list_any}
 use Rattle.cost_base.specs.Lists.{first_of, last_of}
 use Rattle.text_lines.specs.Numbers.{Prefix}
-use Rattle.config_reader.specs.declared.stop.ConfigFault.{ConfigFault}
 use Rattle.config_reader.specs.declared.stop.ConfigFault.TheVariants.{SecondAddress, AreaTwice}
 use Rattle.config_reader.specs.Statements.{Statement, AddressIs, NetworkIs, Network, Block, OfInterface, OfRouter}
 use Rattle.config_reader.specs.Settings.{Said, said, about, about_router, setting, networks, network_said, address_said, area_said, address_of, matches}

@@ -1,36 +1,30 @@
 -- A configuration without a fault has none with a printed section after it.
-use Rattle.std.proofs.Common.{◌≡◌, ℕ, suc, ◌+◌, ◌≤◌, List, [], ◌∷◌, ◌++◌, length, map, All, Bool, cond, true, false, ◌&&◌, ◌||◌, refl, sym, ap, ◌∙◌, subst, arith, append-nil, append_assoc, Option, Some, None, Contains}
-use Rattle.std.specs.Prelude.{◌==◌, codes, nat_le}
-use Rattle.std.specs.List.{filter, filter_map, list_all, list_any}
+use Rattle.std.proofs.Common.{◌≡◌, ℕ, suc, ◌+◌, ◌≤◌, List, [], ◌∷◌, ◌++◌, length, map, All, Bool, cond, true, false, ◌&&◌, ◌||◌, refl, sym, ap, ◌∙◌, subst, arith, append-nil, Option, Some, None, Contains}
+use Rattle.std.specs.Prelude.{◌==◌, codes}
+use Rattle.std.specs.List.{filter_map, list_all}
 use Rattle.std.proofs.lemmas.Bool.{and_parts, le-leb, leb-true, false≢true, ne_eqb}
 use Rattle.std.proofs.lemmas.List.Elements.{All-head, All-tail, All-weaker, filter_map-append}
 use Rattle.std.proofs.lemmas.List.Folds.{list_all-append, list_any-append}
-use Rattle.cost_base.specs.Decimal.{decimal}
 use Rattle.cost_base.specs.Lists.{first_of, same_bytes}
-use Rattle.cost_base.specs.Words.{is_blank, IsOneWord}
+use Rattle.cost_base.specs.Words.{is_blank}
 use Rattle.cost_base.proofs.ByteLemmas.{same_bytes-true}
 use Rattle.text_lines.specs.Lines.{lines, words, ends_word, grow, is_head, ended, with_ends}
 use Rattle.text_lines.proofs.Digits.{length-decimal-le}
-use Rattle.config_reader.specs.declared.stop.ConfigFault.{ConfigFault}
-use Rattle.config_reader.specs.Statements.{Statement, CostIs, Network, Block, OfInterface, OfRouter, OfOther, block_of, begin_with, statement_in}
+use Rattle.text_lines.proofs.WordLists.{room}
+use Rattle.config_reader.specs.Statements.{Statement, CostIs, Block, OfInterface, OfRouter, OfOther, block_of, begin_with, statement_in}
 use Rattle.config_reader.specs.Settings.{said, networks, about, about_router, address_said, area_said, is_of, is_of_router}
 use Rattle.config_reader.specs.Configs.{first_heads, with_line, name_opened}
 use Rattle.config_reader.specs.Faults.{router_name, is_router_name}
 use Rattle.config_reader.specs.FaultList.{is_short, refused, second_address, area_twice, config_fault, faults}
 use Rattle.config_reader.specs.Sections.{section_lines, IsSectionCost, name_line, cost_line}
-use Rattle.config_reader.proofs.SaidSteps.{said_after, said-push, names_router, router_name-push, opened_from}
+use Rattle.config_reader.proofs.SaidSteps.{said_after, said-push, names_router, router_name-push}
 use Rattle.config_reader.proofs.SettingSteps.{about-push, about_router-push, said_where}
 use Rattle.config_reader.proofs.HeadSteps.{first_heads-push, heads_with, is_headed, is_headed-contains, unless_known}
 use Rattle.config_reader.proofs.BlockFacts.{by_lines}
 use Rattle.config_reader.proofs.FineLines.{LineFine, AllFine, all_push}
-use Rattle.config_reader.proofs.FaultlessFiles.{Faultless, faultless, no_faults, short_all}
+use Rattle.config_reader.proofs.FaultlessFiles.{faultless, no_faults, short_all}
 use Rattle.config_reader.proofs.SameTests.{SameTests, faultless_so}
 use Rattle.config_reader.proofs.SectionLaw.{block_behind, cost_said_there, after_name, after_cost, after_exit, after_one, section_lines-cons, three_more, lines-section}
-
--- words, and one byte behind each
-abbrev room : List (List ℕ) → ℕ
-room [] = 0
-room (w ∷ ws) = length w + 1 + room ws
 
 abbrev behind_end : Bool → ℕ
 behind_end true = 0

@@ -12,7 +12,7 @@ use Rattle.interface_model.specs.declared.Interface.{Interface}
 use Rattle.interface_model.specs.declared.Kind.{Kind}
 use Rattle.interface_model.specs.declared.Kind.TheVariants.{Broadcast}
 use Rattle.config_reader.specs.Statements.{Statement, CostIs, Network}
-use Rattle.config_reader.specs.Settings.{Said, about, about_router, is_of, is_of_router, setting, interface_of, address_of, networks, area_by_networks, address_said, area_said, cost_said, kind_said, passive_said, down_said, priority_said, network_said, passive_name_said, matches, or_if_none, address_part, length_part}
+use Rattle.config_reader.specs.Settings.{Said, about, about_router, is_of, is_of_router, setting, interface_of, address_of, networks, area_by_networks, address_said, area_said, cost_said, kind_said, passive_said, down_said, priority_said, network_said, passive_name_said, matches, address_part, length_part}
 
 -- a thing that is said where a test passes
 abbrev pub said_where : Bool → Statement → List Statement
@@ -57,8 +57,8 @@ first_said-push pick own s = ap first_of (filter_map-append pick own (s ∷ []))
 
 -- the area of an interface: of its own line, or of the `network` lines that match its address
 abbrev pub area_from : Option ℕ → Option Prefix → List Network → Option ℕ
-area_from own None networks = or_if_none own None
-area_from own (Some address) networks = or_if_none own (first_of (map (λ n. n.area) (filter (matches address) networks)))
+area_from own None networks = option_or own None
+area_from own (Some address) networks = option_or own (first_of (map (λ n. n.area) (filter (matches address) networks)))
 
 -- what is made of settings
 abbrev pub Made : Type 0 → Type 0
@@ -115,7 +115,7 @@ interface_of-from all name line =
     ap (λ (area : Option ℕ). record (interface_of all name line) { area = area })
     (same (setting area_said (about all name)) (address_of all name))
   where
-    same : (own : Option ℕ) (address : Option Prefix) → or_if_none own (area_by_networks all address) ≡ area_from own address (networks all)
+    same : (own : Option ℕ) (address : Option Prefix) → option_or own (area_by_networks all address) ≡ area_from own address (networks all)
     same own None = refl
     same own (Some p) = refl
 

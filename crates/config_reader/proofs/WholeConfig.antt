@@ -1,19 +1,17 @@
 -- What the code makes of a whole configuration.
-use Rattle.std.proofs.Common.{◌≡◌, ℕ, List, [], map, refl, sym, ap, ◌∙◌, subst, Option, Some, None}
+use Rattle.std.proofs.Common.{◌≡◌, ℕ, List, [], map, sym, ap, ◌∙◌, subst, Option, None}
 use Rattle.std.specs.Option.{option_map}
 use Rattle.text_lines.specs.Lines.{lines}
 use Rattle.interface_model.specs.declared.Interface.{Interface}
-use Rattle.interface_model.specs.Records.{Router, IsRouter}
+use Rattle.interface_model.specs.Records.{Router}
 use Rattle.config_reader.specs.declared.reader.Parts.{Parts}
 use Rattle.config_reader.specs.declared.reader.SaidLine.{SaidLine}
-use Rattle.config_reader.specs.declared.reader.NamedHead.{NamedHead}
 use Rattle.config_reader.specs.declared.drafts.Drafts.{Drafts}
-use Rattle.config_reader.specs.declared.drafts.Draft.{Draft}
 use Rattle.config_reader.specs.declared.networks.NetworkLine.{NetworkLine}
 use Rattle.config_reader.specs.Settings.{Said}
 use Rattle.config_reader.specs.Configs.{firsts}
 use Rattle.config_reader.specs.FaultList.{Fault, config_fault}
-use Rattle.config_reader.specs.Hearing.{Heard, heard}
+use Rattle.config_reader.specs.Hearing.{heard}
 use Rattle.config_reader.specs.Heards.{said_of, head_of, fault_of}
 use Rattle.config_reader.specs.Parts.{IsParts}
 use Rattle.config_reader.specs.Gathered.{IsGathered}

@@ -1,35 +1,22 @@
 -- The fault of a configuration and its records, from what the code gathers.
-use Rattle.std.proofs.Common.{◌≡◌, ℕ, zero, suc, ◌+◌, ◌<◌, ◌≤◌, List, [], ◌∷◌, ◌++◌, length, map, take, get_or, Bool, cond, true, false, ◌&&◌, ◌||◌, not, eqb, ltb, refl, sym, ap, ◌∙◌, subst, arith, Option, Some, None, append-nil, append_assoc, length-append}
-use Rattle.std.specs.Prelude.{position, is_some, ◌==◌, slice_get}
-use Rattle.std.specs.List.{filter, filter_map, list_any, list_all, cons_option, position_or_len}
+use Rattle.std.proofs.Common.{◌≡◌, ℕ, suc, ◌+◌, ◌<◌, List, [], ◌∷◌, ◌++◌, length, map, take, get_or, Bool, cond, true, false, ◌&&◌, ◌||◌, not, eqb, refl, sym, ap, ◌∙◌, subst, arith, Option, Some, None, append-nil, append_assoc, length-append}
+use Rattle.std.specs.Prelude.{position, ◌==◌}
+use Rattle.std.specs.List.{filter, filter_map, list_any, cons_option, position_or_len}
 use Rattle.std.specs.Option.{option_or}
 use Rattle.std.proofs.lemmas.Bool.{false≢true, false_from_ne_true, and_right, lt-ltb, ne_eqb, eqb-true, eq-eqb, or_left, or_right, or_parts}
 use Rattle.std.proofs.lemmas.List.Folds.{list_any-append}
-use Rattle.std.proofs.lemmas.List.{length-map, take_at, take-append-le, get_or_at, map-append}
+use Rattle.std.proofs.lemmas.List.{take_at, get_or_at, map-append}
 use Rattle.std.proofs.lemmas.List.Elements.{filter_map-append}
-use Rattle.std.proofs.lemmas.List.Quantifiers.{position-Some}
-use Rattle.cost_base.specs.Lists.{numbers_from, first_of, last_of, same_bytes}
-use Rattle.text_lines.specs.Lines.{lines, words, kind_of}
 use Rattle.text_lines.specs.Numbers.{Prefix}
-use Rattle.text_lines.specs.declared.LineKind.{LineKind}
-use Rattle.text_lines.specs.declared.LineKind.TheVariants.{Blank, Comment, Head, Indented}
-use Rattle.interface_model.specs.declared.Interface.{Interface}
 use Rattle.config_reader.specs.declared.stop.ConfigFault.{ConfigFault}
-use Rattle.config_reader.specs.declared.stop.ConfigFault.TheVariants.{SecondAddress, AreaTwice, BadName}
-use Rattle.config_reader.specs.declared.drafts.Draft.{Draft}
+use Rattle.config_reader.specs.declared.stop.ConfigFault.TheVariants.{AreaTwice}
 use Rattle.config_reader.specs.declared.networks.NetworkLine.{NetworkLine}
 use Rattle.config_reader.specs.Statements.{Statement, AddressIs, AreaIs, CostIs, KindIs, PriorityIs, PassiveIs, DownIs, RouterIdIs, NetworkIs, PassiveInterfaceIs, Refused, Unread, Network, Block, OfInterface, OfRouter, OfOther}
-use Rattle.config_reader.specs.Settings.{Said, said, said_at, said_by, block_by_head, about, about_router, setting, area_said, address_said, address_of, networks, network_said, matches, address_part, length_part, interface_of, area_by_networks, or_if_none, is_of_router}
-use Rattle.config_reader.specs.Configs.{first_heads, config_of}
-use Rattle.config_reader.specs.Faults.{router_name, name_and_line, last_hostname, is_router_name}
-use Rattle.config_reader.specs.FaultList.{Fault, at_line, long_line, refused, read_lines, takes_part, differs, second_address, address_by_networks, is_other_area, area_twice, bad_name, faults_at, faults, config_fault}
-use Rattle.config_reader.specs.Hearing.{Heard, heard, sets, own_fault, named_by}
-use Rattle.config_reader.specs.Drafting.{network_line, network_lines, covers, area_among, clash, whole_address, area_for, finished, at_place, find_draft, is_second, second_in, second_of, first_second, twice_at, clash_for, clash_of, earliest, first_clash, id_in, id_after, name_from, name_fault}
-use Rattle.config_reader.proofs.FirstFaults.{firsts_at, firsts_suc, bound, merge, agree, never, met_at, earliest_assoc, earliest_none, past_all, first_flat, first_five, first_front, first_filtered, filter_map-map}
-use Rattle.config_reader.proofs.DraftLaws.{draft_of, plain, plain_by, any_matched}
-use Rattle.config_reader.proofs.LongerLists.{any-map}
-use Rattle.config_reader.proofs.BlockFacts.{about-unheaded, head_names}
-use Rattle.config_reader.proofs.HeadSteps.{is_headed}
+use Rattle.config_reader.specs.Settings.{Said, about, setting, area_said, address_of, networks, network_said, matches, address_part, length_part, is_of_router}
+use Rattle.config_reader.specs.FaultList.{Fault, at_line, address_by_networks, is_other_area, area_twice}
+use Rattle.config_reader.specs.Drafting.{network_line, network_lines, clash, whole_address, twice_at, clash_for, clash_of, earliest, first_clash}
+use Rattle.config_reader.proofs.FirstFaults.{firsts_at, firsts_suc, merge, agree, never, earliest_assoc, earliest_none}
+use Rattle.config_reader.proofs.DraftLaws.{draft_of, plain, plain_by}
 
 -- `network` lines without their numbers
 abbrev pub net_of : NetworkLine → Network

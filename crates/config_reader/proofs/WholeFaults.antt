@@ -1,7 +1,8 @@
 -- The first fault of a configuration, from what the code gathers.
-use Rattle.std.proofs.Common.{◌≡◌, ℕ, zero, suc, ◌+◌, ◌<◌, ◌≤◌, List, [], ◌∷◌, ◌++◌, length, map, take, get_or, Bool, cond, true, false, ◌&&◌, ◌||◌, not, eqb, ltb, refl, sym, ap, ◌∙◌, subst, arith, Option, Some, None}
+use Rattle.std.proofs.Common.{◌≡◌, ℕ, zero, suc, ◌+◌, ◌<◌, ◌≤◌, List, [], ◌∷◌, length, map, take, get_or, Bool, cond, true, false, ◌&&◌, ◌||◌, not, refl, sym, ap, ◌∙◌, arith, Option, Some, None}
 use Rattle.std.specs.Prelude.{position, is_some, ◌==◌, slice_get}
-use Rattle.std.specs.List.{filter, filter_map, flat_map, list_any, cons_option}
+use Rattle.std.proofs.Math.ListN.{get_or-map}
+use Rattle.std.specs.List.{filter_map, flat_map, list_any}
 use Rattle.std.specs.Option.{option_or}
 use Rattle.std.proofs.lemmas.Bool.{false≢true, and_right, ne_eqb, eq-eqb}
 use Rattle.std.proofs.lemmas.List.{length-map}
@@ -14,17 +15,17 @@ use Rattle.text_lines.specs.Numbers.{Prefix}
 use Rattle.text_lines.specs.declared.LineKind.{LineKind}
 use Rattle.text_lines.specs.declared.LineKind.TheVariants.{Blank, Comment, Head, Indented}
 use Rattle.config_reader.specs.declared.stop.ConfigFault.{ConfigFault}
-use Rattle.config_reader.specs.declared.stop.ConfigFault.TheVariants.{SecondAddress, AreaTwice, BadName}
+use Rattle.config_reader.specs.declared.stop.ConfigFault.TheVariants.{SecondAddress, BadName}
 use Rattle.config_reader.specs.declared.drafts.Draft.{Draft}
 use Rattle.config_reader.specs.declared.networks.NetworkLine.{NetworkLine}
-use Rattle.config_reader.specs.Statements.{Statement, AddressIs, Block, OfInterface, OfOther, Unread}
+use Rattle.config_reader.specs.Statements.{Statement, AddressIs, Block, OfInterface}
 use Rattle.config_reader.specs.Settings.{Said, said, said_at, said_by, block_by_head, about, setting, area_said, address_said, address_of, networks, matches, address_part, length_part}
 use Rattle.config_reader.specs.Configs.{first_heads}
 use Rattle.config_reader.specs.Faults.{router_name, name_and_line, last_hostname, is_hostname_head, is_router_name}
 use Rattle.config_reader.specs.FaultList.{Fault, at_line, long_line, refused, read_lines, takes_part, differs, second_address, area_twice, bad_name, faults_at, faults}
-use Rattle.config_reader.specs.Hearing.{Heard, heard, sets, named_by}
-use Rattle.config_reader.specs.Drafting.{network_lines, covers, whole_address, at_place, find_draft, is_second, second_in, second_of, first_second, first_clash, earliest, name_from, name_fault}
-use Rattle.config_reader.proofs.FirstFaults.{firsts_at, bound, merge, agree, never, met_at, earliest_none, past_all, first_flat, first_five, first_front, first_filtered, filter_map-map}
+use Rattle.config_reader.specs.Hearing.{heard, sets, named_by}
+use Rattle.config_reader.specs.Drafting.{network_lines, covers, whole_address, at_place, find_draft, is_second, second_of, first_second, first_clash, earliest, name_from, name_fault}
+use Rattle.config_reader.proofs.FirstFaults.{firsts_at, bound, merge, agree, never, met_at, past_all, first_flat, first_five, first_front, first_filtered, filter_map-map}
 use Rattle.config_reader.proofs.DraftLaws.{draft_of, plain, plain_by, any_matched}
 use Rattle.config_reader.proofs.LongerLists.{any-map, last_passing-lt}
 use Rattle.config_reader.proofs.BlockFacts.{about-unheaded, head_names}
@@ -42,11 +43,6 @@ slice_get_map : {X Y : Type 0} (g : X → Y) (xs : List X) (i : ℕ) (d : X) →
 slice_get_map g [] i d within = absurd (omega arith)
 slice_get_map g (x ∷ xs) zero d within = refl
 slice_get_map g (x ∷ xs) (suc i) d within = slice_get_map g xs i d (omega arith)
-
-name_at : (heads : List (List ℕ × ℕ)) (i : ℕ) (d : List ℕ × ℕ) → get_or (head_names heads) i d.0 ≡ (get_or heads i d).0
-name_at [] i d = refl
-name_at (h ∷ hs) zero d = refl
-name_at (h ∷ hs) (suc i) d = name_at hs i d
 
 headed_names : (name : List ℕ) (heads : List (List ℕ × ℕ)) → is_headed name heads ≡ list_any (same_bytes name) (head_names heads)
 headed_names name heads = any-map (same_bytes name) (λ (h : List ℕ × ℕ). h.0) heads
@@ -88,7 +84,7 @@ module _ (all : List Said) (heads : List (List ℕ × ℕ)) (unheaded : (name : 
           let found = position-Some (same_bytes name) (head_names heads) i [] e in
           let within : i < length heads = omega (arith, found.0, length-map heads (λ (h : List ℕ × ℕ). h.0)) in
           let named : name ≡ (get_or heads i ([], 0)).0 =
-          same_bytes-true name (get_or heads i ([], 0)).0 (ap (same_bytes name) (sym (name_at heads i ([], 0)))
+          same_bytes-true name (get_or heads i ([], 0)).0 (ap (same_bytes name) (sym (get_or-map (λ (h : List ℕ × ℕ). h.0) heads i ([], 0)))
           ∙ found.1) in
           ap (is_second p) (slice_get_map (draft_of (network_lines all) all) heads i ([], 0) within)
           ∙ takes_law all (get_or heads i ([], 0)) p

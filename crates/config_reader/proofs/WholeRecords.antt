@@ -1,12 +1,12 @@
 -- The records of a configuration without a fault, from what the code gathers.
-use Rattle.std.proofs.Common.{◌≡◌, ℕ, zero, suc, ◌+◌, ◌<◌, List, [], ◌∷◌, ◌++◌, length, map, Bool, cond, true, false, ◌&&◌, ◌||◌, not, refl, sym, ap, ◌∙◌, subst, arith, Option, Some, None}
-use Rattle.std.specs.Prelude.{unwrap_or, nat_lt}
-use Rattle.std.specs.List.{filter, filter_map, list_any, list_all, cons_option}
+use Rattle.std.proofs.Common.{◌≡◌, ℕ, ◌+◌, List, [], ◌∷◌, ◌++◌, length, map, Bool, cond, true, false, ◌&&◌, refl, sym, ap, ◌∙◌, subst, Option, Some, None}
+use Rattle.std.specs.Prelude.{nat_lt}
+use Rattle.std.specs.List.{filter, filter_map, list_all, cons_option}
 use Rattle.std.specs.Option.{option_or}
 use Rattle.std.proofs.lemmas.Bool.{false≢true, and_parts}
 use Rattle.std.proofs.lemmas.List.Folds.{list_all-append}
 use Rattle.std.proofs.lemmas.Simd.{map-map}
-use Rattle.cost_base.specs.Lists.{first_of, last_of, same_bytes}
+use Rattle.cost_base.specs.Lists.{first_of, last_of}
 use Rattle.cost_base.proofs.ListLemmas.{map-agree, option_or-none}
 use Rattle.text_lines.specs.Lines.{lines}
 use Rattle.text_lines.specs.Numbers.{Prefix}
@@ -17,12 +17,12 @@ use Rattle.config_reader.specs.declared.stop.ConfigFault.TheVariants.{LongLine, 
 use Rattle.config_reader.specs.declared.drafts.Draft.{Draft}
 use Rattle.config_reader.specs.declared.networks.NetworkLine.{NetworkLine}
 use Rattle.config_reader.specs.Statements.{Statement, AddressIs, AreaIs, CostIs, KindIs, PriorityIs, PassiveIs, DownIs, RouterIdIs, NetworkIs, PassiveInterfaceIs, Refused, Unread, Network, Block, OfInterface, OfRouter, OfOther}
-use Rattle.config_reader.specs.Settings.{Said, said, about, about_router, setting, area_said, address_said, passive_said, passive_name_said, router_id_said, address_of, networks, matches, address_part, length_part, interface_of, area_by_networks, or_if_none, is_of_router}
+use Rattle.config_reader.specs.Settings.{Said, said, about, about_router, setting, area_said, router_id_said, address_of, matches, interface_of, area_by_networks}
 use Rattle.config_reader.specs.Configs.{first_heads, firsts, config_of}
 use Rattle.config_reader.specs.Faults.{router_name, is_router_name}
-use Rattle.config_reader.specs.FaultList.{Fault, at_line, long_line, refused, read_line, read_lines, is_short, faults, config_fault}
-use Rattle.config_reader.specs.Hearing.{Heard, heard, sets}
-use Rattle.config_reader.specs.Drafting.{network_line, network_lines, covers, area_among, whole_address, area_for, finished, new_draft, draft_after, first_second, first_clash, earliest, id_in, id_after, name_from, name_fault}
+use Rattle.config_reader.specs.FaultList.{Fault, at_line, long_line, refused, read_line, read_lines, is_short, config_fault}
+use Rattle.config_reader.specs.Hearing.{heard, sets}
+use Rattle.config_reader.specs.Drafting.{network_line, network_lines, covers, area_among, area_for, finished, new_draft, draft_after, first_second, first_clash, earliest, id_in, id_after, name_from, name_fault}
 use Rattle.config_reader.proofs.FirstFaults.{first_filtered}
 use Rattle.config_reader.proofs.DraftLaws.{draft_of, plain, plain_by, drafted}
 use Rattle.config_reader.proofs.BlockFacts.{by_lines}
@@ -55,7 +55,7 @@ area_law all (Some p) = among_law p (network_lines all) ∙ ap (λ ns. first_of 
 finish_law : (all : List Said) (head : List ℕ × ℕ) → finished (network_lines all) (draft_of (network_lines all) all head) ≡ interface_of all head.0 head.1
 unfolding plain plain_by
 finish_law all head =
-    ap (λ (a : Option ℕ). record (interface_of all head.0 head.1) { area = or_if_none (setting area_said (about all head.0)) a })
+    ap (λ (a : Option ℕ). record (interface_of all head.0 head.1) { area = option_or (setting area_said (about all head.0)) a })
     (ap (area_for (network_lines all)) (whole_parts (address_of all head.0)) ∙ area_law all (address_of all head.0))
 
 -- router ids

@@ -11,7 +11,7 @@ use Rattle.config_reader.specs.declared.stop.ConfigFault.TheVariants.{SecondAddr
 use Rattle.config_reader.specs.declared.networks.NetworkLine.{NetworkLine}
 use Rattle.config_reader.specs.declared.drafts.Draft.{Draft}
 use Rattle.config_reader.specs.Statements.{Statement, AddressIs, AreaIs, CostIs, KindIs, PriorityIs, PassiveIs, DownIs, RouterIdIs, NetworkIs, PassiveInterfaceIs, Block, OfInterface, OfRouter, OfOther}
-use Rattle.config_reader.specs.Settings.{Said, or_if_none}
+use Rattle.config_reader.specs.Settings.{Said}
 use Rattle.config_reader.specs.Faults.{before_first_dot, after_last_slash, is_router_name}
 use Rattle.config_reader.specs.FaultList.{Fault, differs}
 
@@ -100,7 +100,7 @@ area_for nets (Some p) = area_among p nets
 abbrev pub finished : List NetworkLine → Draft → Interface
 finished nets d =
     record d.interface {
-      area = or_if_none d.interface.area (area_for nets (whole_address d.interface.address d.interface.length));
+      area = option_or d.interface.area (area_for nets (whole_address d.interface.address d.interface.length));
       passive = d.interface.passive || d.listed;
     }
 

@@ -7,7 +7,6 @@ use Rattle.text_lines.specs.Lines.{words, kind_of}
 use Rattle.text_lines.specs.declared.LineKind.{LineKind}
 use Rattle.text_lines.specs.declared.LineKind.TheVariants.{Head, Indented}
 use Rattle.config_reader.specs.declared.stop.ConfigFault.{ConfigFault}
-use Rattle.config_reader.specs.declared.stop.ConfigFault.TheVariants.{LongLine}
 use Rattle.config_reader.specs.Statements.{Statement, Refused, Unread, Block, OfOther, block_of, statement_in, head_statement, begin_with, word_at}
 use Rattle.config_reader.specs.Settings.{Said, said, said_at}
 use Rattle.config_reader.specs.Configs.{opened_at, with_line, name_opened}

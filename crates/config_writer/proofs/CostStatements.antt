@@ -1,5 +1,5 @@
 -- What `ip ospf cost` lines say, and no other lines do.
-use Rattle.std.proofs.Common.{◌≡◌, ℕ, List, [], ◌∷◌, length, Bool, cond, true, false, ◌&&◌, eqb, refl, sym, ap, ◌∙◌, arith, Option, Some, None}
+use Rattle.std.proofs.Common.{◌≡◌, ℕ, List, [], ◌∷◌, length, Bool, cond, true, false, ◌&&◌, eqb, refl, sym, ap, ◌∙◌, Option, Some, None}
 use Rattle.std.specs.Prelude.{codes, nat_le}
 use Rattle.std.proofs.lemmas.Bool.{and_parts}
 use Rattle.cost_base.specs.Lists.{same_bytes}

@@ -7,7 +7,7 @@ use Rattle.text_lines.proofs.Digits.{length-decimal-le}
 use Rattle.config_reader.specs.declared.stop.ConfigFault.{ConfigFault}
 use Rattle.config_reader.specs.Statements.{Statement, CostIs, Network, Block, OfInterface, statement_in}
 use Rattle.config_reader.specs.Settings.{said, networks, network_said}
-use Rattle.config_reader.specs.FaultList.{is_short, refused}
+use Rattle.config_reader.specs.FaultList.{refused}
 use Rattle.config_reader.specs.Reading.{open_block}
 use Rattle.config_reader.specs.Sections.{cost_after, cost_line}
 use Rattle.config_writer.specs.Rewriting.{is_replaced, cost_behind}

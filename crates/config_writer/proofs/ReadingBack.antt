@@ -9,17 +9,14 @@ use Rattle.std.proofs.lemmas.List.Folds.{list_any-append}
 use Rattle.cost_base.specs.Lists.{first_of, last_of, same_bytes}
 use Rattle.cost_base.proofs.ByteLemmas.{same_bytes-refl}
 use Rattle.text_lines.specs.Lines.{lines, words, is_head}
-use Rattle.text_lines.specs.Numbers.{Prefix}
 use Rattle.interface_model.specs.declared.Interface.{Interface}
 use Rattle.config_reader.specs.declared.stop.ConfigFault.{ConfigFault}
-use Rattle.config_reader.specs.declared.stop.ConfigFault.TheVariants.{SecondAddress, AreaTwice}
-use Rattle.config_reader.specs.Statements.{Statement, AddressIs, CostIs, NetworkIs, Network, Block, OfInterface, OfRouter, OfOther, block_of}
-use Rattle.config_reader.specs.Settings.{Said, said, about, about_router, setting, networks, network_said, address_said, area_said, cost_said, kind_said, passive_said, down_said, priority_said, address_of, router_id_said, interface_of, matches}
+use Rattle.config_reader.specs.Statements.{Statement, CostIs, Network, Block, OfInterface, OfRouter, OfOther, block_of}
+use Rattle.config_reader.specs.Settings.{Said, said, about, about_router, setting, address_said, area_said, cost_said, kind_said, passive_said, down_said, priority_said, router_id_said, interface_of}
 use Rattle.config_reader.specs.Configs.{first_heads}
 use Rattle.config_reader.specs.Faults.{router_name, is_router_name}
-use Rattle.config_reader.specs.FaultList.{takes_part, differs, second_address, area_twice, is_other_area, address_by_networks, config_fault, faults}
+use Rattle.config_reader.specs.FaultList.{second_address, area_twice, config_fault, faults}
 use Rattle.config_reader.specs.Sections.{cost_after, with_cost, with_costs}
-use Rattle.config_reader.proofs.LongerLists.{any-map}
 use Rattle.config_reader.proofs.SettingSteps.{interface_by, interface_from, interface_of-from}
 use Rattle.config_reader.proofs.FirstFaults.{first_filtered}
 use Rattle.config_writer.specs.Rewriting.{new_cost, headed, is_first_block, cost_behind, rewritten, unnumbered, without_numbers, ReadsBack}

@@ -6,10 +6,9 @@ use Rattle.std.proofs.lemmas.List.{get_or_at, get_or_append_left}
 use Rattle.cost_base.specs.Lists.{numbers_from, last_of}
 use Rattle.cost_base.proofs.ListLemmas.{last_of-push, length-push}
 use Rattle.text_lines.specs.Lines.{words, kind_of, is_head, is_head_kind}
-use Rattle.text_lines.specs.declared.LineKind.{LineKind}
-use Rattle.text_lines.specs.declared.LineKind.TheVariants.{Blank, Comment, Head, Indented}
-use Rattle.config_reader.specs.Statements.{Statement, Unread, Block, OfInterface, OfOther, block_of, begin_with, statement_in, head_statement, word_at}
-use Rattle.config_reader.specs.Settings.{said, said_by, about, about_router, is_of, is_of_router}
+use Rattle.text_lines.specs.declared.LineKind.TheVariants.{Indented}
+use Rattle.config_reader.specs.Statements.{OfInterface, block_of, begin_with, statement_in, word_at}
+use Rattle.config_reader.specs.Settings.{said, about, about_router, is_of, is_of_router}
 use Rattle.config_reader.specs.Faults.{is_hostname_head, last_hostname, name_and_line, router_name}
 use Rattle.config_reader.specs.Reading.{open_block}
 use Rattle.config_reader.proofs.LongerLists.{filter-numbers_more}

@@ -9,7 +9,7 @@ use Rattle.request_reader.specs.Asked.{Asked, IsAsked as IsLawful}
 use Rattle.input_files.specs.declared.problem.View.{View}
 use Rattle.input_files.specs.declared.network.Network.{Network}
 use Rattle.input_files.specs.Inputs.{InputFiles}
-use Rattle.input_files.specs.Readings.{Reading, Take, Refused, Ready, ◌>>=◌, End, Says, EndsAs, Gave}
+use Rattle.input_files.specs.Readings.{Reading, Take, Refused, Ready, Says, EndsAs, Gave}
 use Rattle.input_files.specs.Outcomes.{ConfigFile, Input, request_read, configs_read, routers_of, if_faultless, topology_read, problem_read, outcome}
 use Rattle.input_files.specs.Networks.{IsNetworkOf}
 use Rattle.input_files.specs.Stops.{IsReady}

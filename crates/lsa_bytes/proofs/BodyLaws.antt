@@ -1,5 +1,5 @@
 -- Bodies of LSAs: links read one after the other, and what each body keeps.
-use Rattle.std.proofs.Common.{◌≡◌, ℕ, zero, suc, ◌+◌, ◌-◌, ◌*◌, ◌/◌, ◌%◌, ◌<◌, ◌≤◌, ◌&&◌, ◌||◌, not, Bool, true, false, cond, nat_lt, nat_eq, List, [], ◌∷◌, ◌++◌, length, drop, map, get_or, Option, None, Some, refl, sym, ap, subst, ◌∙◌, append_assoc, arith}
+use Rattle.std.proofs.Common.{◌≡◌, ℕ, zero, suc, ◌+◌, ◌-◌, ◌*◌, ◌/◌, ◌%◌, ◌<◌, ◌≤◌, ◌||◌, not, Bool, true, false, cond, nat_lt, nat_eq, List, [], ◌∷◌, ◌++◌, length, drop, map, get_or, Option, None, Some, refl, sym, ap, subst, ◌∙◌, append_assoc, arith}
 use Rattle.std.specs.Prelude.{MatchOption, nat_le, sum_by}
 use Rattle.std.specs.Option.{option_map}
 use Rattle.std.specs.List.{list_all}
@@ -13,7 +13,7 @@ use Rattle.lsa_bytes.specs.declared.Body.{Body}
 use Rattle.lsa_bytes.specs.declared.Body.TheVariants.{Links, Attached}
 use Rattle.lsa_bytes.specs.declared.Lsa.{Lsa}
 use Rattle.lsa_bytes.specs.Fields.{number_16, number_32}
-use Rattle.lsa_bytes.specs.Grammar.{age_of, type_of, link_at, link_length, is_link_type, starts_link, links_of, links_in, attached_in, body_at, body_of, with_body, said_by}
+use Rattle.lsa_bytes.specs.Grammar.{age_of, type_of, link_at, link_length, is_link_type, starts_link, links_of, links_in, attached_in, body_of, with_body, said_by}
 use Rattle.lsa_bytes.specs.Databases.{has_link_types, size_of_body, size_of}
 
 -- Links: some that were read, and those that are still to be read.

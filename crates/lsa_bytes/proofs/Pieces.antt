@@ -1,13 +1,13 @@
 -- Bytes fall into LSAs in one way.
-use Rattle.std.proofs.Common.{◌≡◌, ℕ, ◌+◌, ◌<◌, ◌≤◌, List, [], ◌∷◌, ◌++◌, length, Option, None, Some, Result, Ok, Err, refl, sym, ap, subst, ◌∙◌, append_assoc, arith}
+use Rattle.std.proofs.Common.{◌≡◌, ℕ, List, [], ◌∷◌, ◌++◌, length, None, Some, Result, Ok, Err, refl, sym, ap, subst, ◌∙◌, append_assoc, arith}
 use Rattle.std.specs.List.{concat}
 use Rattle.std.proofs.lemmas.List.{append-nil}
 use Rattle.lsa_bytes.specs.declared.stop.LsaFault.{LsaFault}
 use Rattle.lsa_bytes.specs.declared.Lsa.{Lsa}
 use Rattle.lsa_bytes.specs.Grammar.{length_of, said_by}
-use Rattle.lsa_bytes.specs.Faults.{length_fault, fault_of, fault_at}
-use Rattle.lsa_bytes.specs.Files.{AreFaultless, Say, HaveFault, ComesTo, said_by_all}
-use Rattle.lsa_bytes.proofs.Lengths.{IsWhole, is_whole, fault_in_front, same_front, option_or-none}
+use Rattle.lsa_bytes.specs.Faults.{fault_at}
+use Rattle.lsa_bytes.specs.Files.{AreFaultless, ComesTo, said_by_all}
+use Rattle.lsa_bytes.proofs.Lengths.{IsWhole, is_whole, fault_in_front, same_front}
 
 -- no whole LSA without a fault begins the bytes
 abbrev Stops : List Lsa → List ℕ → Type 0

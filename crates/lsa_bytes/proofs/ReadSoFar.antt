@@ -1,9 +1,9 @@
 -- A file of LSAs that is read as far as some bytes that are left.
-use Rattle.std.proofs.Common.{◌≡◌, ℕ, ◌+◌, ◌-◌, ◌*◌, ◌^◌, ◌<◌, ◌≤◌, List, [], ◌∷◌, ◌++◌, length, take, drop, Option, None, Some, refl, sym, ap, subst, ◌∙◌, append_assoc, arith}
-use Rattle.std.specs.Prelude.{sum_by, flat_map}
+use Rattle.std.proofs.Common.{◌≡◌, ℕ, ◌+◌, ◌-◌, ◌*◌, ◌^◌, ◌<◌, ◌≤◌, List, [], ◌∷◌, ◌++◌, length, take, drop, Option, None, refl, sym, ap, subst, ◌∙◌, append_assoc, arith}
+use Rattle.std.specs.Prelude.{sum_by}
 use Rattle.std.specs.List.{concat}
 use Rattle.std.specs.Option.{option_or}
-use Rattle.std.proofs.lemmas.List.{append-nil, length-append, take-append-drop, length-take, length-drop}
+use Rattle.std.proofs.lemmas.List.{append-nil, length-append, take-append-drop, length-take}
 use Rattle.std.proofs.lemmas.List.Folds.{concat-append}
 use Rattle.std.proofs.lemmas.List.Sums.{sum_by-append}
 use Rattle.std.proofs.lemmas.Grind.{flat_map-append}
@@ -16,7 +16,7 @@ use Rattle.lsa_bytes.specs.Databases.{HaveNoFault, IsDatabase, size_of}
 use Rattle.lsa_bytes.specs.Faults.{Tells, length_fault, fault_of, fault_at}
 use Rattle.lsa_bytes.specs.Files.{AreFaultless, Say, Refuses, said_by_all}
 use Rattle.lsa_bytes.proofs.BodyLaws.{said_small}
-use Rattle.lsa_bytes.proofs.Lengths.{BeginsWhole, begins_whole, no_length_fault, length_of-append, IsWhole, fault_in_front}
+use Rattle.lsa_bytes.proofs.Lengths.{BeginsWhole, length_of-append, IsWhole, fault_in_front}
 
 -- LSAs without a fault stand before the bytes that are left, and these are those that aren't passed over
 pub record IsUnderway (bytes rest : List ℕ) (lsas : List Lsa) : Type 0 where

@@ -1,9 +1,9 @@
 -- LSAs that were written are read again.
-use Rattle.std.proofs.Common.{◌≡◌, ℕ, zero, suc, ◌+◌, ◌-◌, ◌*◌, ◌/◌, ◌%◌, ◌^◌, ◌<◌, ◌≤◌, ◌&&◌, ◌||◌, not, Bool, true, false, cond, nat_eq, nat_lt, List, [], ◌∷◌, ◌++◌, length, drop, map, get_or, Option, None, Some, All, refl, sym, ap, subst, ◌∙◌, append_assoc, arith}
+use Rattle.std.proofs.Common.{◌≡◌, ℕ, ◌+◌, ◌-◌, ◌*◌, ◌/◌, ◌%◌, ◌^◌, ◌<◌, ◌&&◌, ◌||◌, not, Bool, true, false, cond, nat_eq, nat_lt, List, [], ◌∷◌, ◌++◌, length, drop, map, get_or, Option, None, Some, All, refl, sym, ap, subst, ◌∙◌, append_assoc, arith}
 use Rattle.std.specs.Prelude.{flat_map, nat_le, is_some, count_by}
 use Rattle.std.specs.List.{list_any, concat}
 use Rattle.std.specs.Option.{option_map}
-use Rattle.std.specs.Int.{w16, w32, to_be_bytes, from_be_bytes}
+use Rattle.std.specs.Int.{w16, w32, to_be_bytes}
 use Rattle.std.specs.Cmp.Derive.{both_true}
 use Rattle.std.proofs.lemmas.Bool.{false_from_ne_true, leb-true, le-leb, le-ltb, or_from, eq-eqb}
 use Rattle.std.proofs.lemmas.Nat.{from_be_bytes-to_be_bytes_2, from_be_bytes-to_be_bytes_4}
@@ -13,14 +13,13 @@ use Rattle.std.proofs.lemmas.List.Sums.{sum_by-append, sum_by-cons}
 use Rattle.std.proofs.Math.Seq.{get_or-append_seam}
 use Rattle.std.proofs.lemmas.List.Elements.{All-head, All-tail}
 use Rattle.cost_base.specs.Lists.{numbers_from}
-use Rattle.lsa_bytes.specs.declared.stop.LsaFault.{LsaFault}
 use Rattle.lsa_bytes.specs.declared.stop.LsaFault.TheVariants.{BadBody, LsaTwice, ZeroMetric, TooManyRouters}
 use Rattle.lsa_bytes.specs.declared.LsaLink.{LsaLink}
 use Rattle.lsa_bytes.specs.declared.Body.{Body}
 use Rattle.lsa_bytes.specs.declared.Body.TheVariants.{Links, Attached}
 use Rattle.lsa_bytes.specs.declared.Lsa.{Lsa}
 use Rattle.lsa_bytes.specs.Fields.{number_16, number_32}
-use Rattle.lsa_bytes.specs.Grammar.{age_of, type_of, length_of, link_at, link_length, is_link_type, starts_link, links_of, links_in, body_of, with_body, is_read, said_by}
+use Rattle.lsa_bytes.specs.Grammar.{age_of, type_of, length_of, link_at, starts_link, links_of, body_of, with_body, is_read, said_by}
 use Rattle.lsa_bytes.specs.Databases.{HaveNoFault, is_router, is_same, has_zero_metric}
 use Rattle.lsa_bytes.specs.Faults.{body_fault, fault_behind, fault_at}
 use Rattle.lsa_bytes.specs.Files.{AreFaultless, Say, said_by_all}

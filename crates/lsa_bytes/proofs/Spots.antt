@@ -1,7 +1,7 @@
 -- Where LSAs stand, and the vertices that lead back.
-use Rattle.std.proofs.Common.{◌≡◌, ℕ, zero, suc, ◌+◌, ◌-◌, ◌<◌, ◌≤◌, ◌&&◌, not, Bool, true, false, cond, nat_eq, List, [], ◌∷◌, ◌++◌, length, take, get_or, filter, Option, None, Some, refl, sym, ap, subst, ◌∙◌, arith, add-zero}
+use Rattle.std.proofs.Common.{◌≡◌, ℕ, suc, ◌+◌, ◌-◌, ◌<◌, ◌≤◌, ◌&&◌, not, Bool, true, false, cond, nat_eq, List, [], ◌∷◌, ◌++◌, length, get_or, filter, Option, None, Some, refl, sym, ap, subst, ◌∙◌, arith, add-zero}
 use Rattle.std.specs.Prelude.{MatchOption, count_by, is_some}
-use Rattle.std.specs.Option.{option_or}
+use Rattle.std.specs.Option.{option_eq, option_or}
 use Rattle.std.specs.Ordering.{nat_cmp}
 use Rattle.std.specs.BTreeMap.{get}
 use Rattle.std.proofs.lemmas.Bool.{false≢true}
@@ -14,11 +14,11 @@ use Rattle.lsa_bytes.specs.declared.vertices.Spot.{Spot}
 use Rattle.lsa_bytes.specs.declared.vertices.Found.{Found}
 use Rattle.lsa_bytes.specs.Databases.{is_router, is_network, is_router_of, is_network_of}
 use Rattle.lsa_bytes.specs.AreaGraphs.{routers, networks, vertex_back, router_back, network_back}
-use Rattle.lsa_bytes.specs.Vertices.{Adds, HasFound, is_kind, is_named, name_as, spot_if, spot_from}
+use Rattle.lsa_bytes.specs.Vertices.{Adds, HasFound, is_kind, name_as, spot_if, spot_from}
 
 -- whether the ID names an LSA of a kind
 abbrev named : Kind → ℕ → Lsa → Bool
-named kind id lsa = is_named (name_as kind lsa) id
+named kind id lsa = option_eq nat_eq (name_as kind lsa) (Some id)
 
 has_name : (kind : Kind) (lsa : Lsa) → is_some (name_as kind lsa) ≡ is_kind kind lsa
 has_name Router lsa = by_kind (is_router lsa)
@@ -35,21 +35,21 @@ has_name Network lsa = by_kind (is_router lsa)
 named_of_kind : (kind : Kind) (id : ℕ) (lsa : Lsa) → named kind id lsa ≡ true → is_kind kind lsa ≡ true
 named_of_kind kind id lsa named = sym (has_name kind lsa) ∙ some_named (name_as kind lsa) named
   where
-    some_named : (name : Option ℕ) → is_named name id ≡ true → is_some name ≡ true
+    some_named : (name : Option ℕ) → option_eq nat_eq name (Some id) ≡ true → is_some name ≡ true
     some_named None is = absurd (false≢true is)
     some_named (Some name) is = refl
 
 named_router : (id : ℕ) (lsa : Lsa) → named Router id lsa ≡ is_router_of id lsa
 named_router id lsa = by_kind (is_router lsa)
   where
-    by_kind : (b : Bool) → is_named (cond b (Some lsa.router) None) id ≡ (b && nat_eq lsa.router id)
+    by_kind : (b : Bool) → option_eq nat_eq (cond b (Some lsa.router) None) (Some id) ≡ (b && nat_eq lsa.router id)
     by_kind true = refl
     by_kind false = refl
 
 named_network : (id : ℕ) (lsa : Lsa) → named Network id lsa ≡ is_network_of id lsa
 named_network id lsa = by_kind (is_router lsa)
   where
-    by_kind : (b : Bool) → is_named (cond b None (Some lsa.id)) id ≡ (not b && nat_eq lsa.id id)
+    by_kind : (b : Bool) → option_eq nat_eq (cond b None (Some lsa.id)) (Some id) ≡ (not b && nat_eq lsa.id id)
     by_kind true = refl
     by_kind false = refl
 

@@ -1,5 +1,5 @@
 -- Files of LSAs, one after the other.
-use Rattle.std.specs.Prelude.{◌≡◌, ℕ, ◌<◌, List, [], ◌∷◌, ◌++◌, length, flat_map, Option, Some, None, Result, Ok, Err}
+use Rattle.std.specs.Prelude.{◌≡◌, ℕ, ◌<◌, List, [], ◌∷◌, ◌++◌, length, flat_map, Some, None, Result, Ok, Err}
 use Rattle.std.specs.List.{concat}
 use Rattle.lsa_bytes.specs.declared.stop.LsaFault.{LsaFault}
 use Rattle.lsa_bytes.specs.declared.stop.LsaStop.{LsaStop}

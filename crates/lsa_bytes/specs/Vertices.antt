@@ -1,6 +1,6 @@
 -- Where LSAs stand, found by what names them.
-use Rattle.std.specs.Prelude.{◌≡◌, ℕ, ◌+◌, ◌==◌, List, [], ◌∷◌, count_by, is_some, Bool, false, Option, Some, None, if◌then◌else◌}
-use Rattle.std.specs.Option.{option_or}
+use Rattle.std.specs.Prelude.{◌≡◌, ℕ, ◌+◌, List, [], ◌∷◌, count_by, is_some, nat_eq, Bool, Option, Some, None, if◌then◌else◌}
+use Rattle.std.specs.Option.{option_eq, option_or}
 use Rattle.std.specs.Ordering.{nat_cmp}
 use Rattle.std.specs.BTreeMap.{get}
 use Rattle.lsa_bytes.specs.declared.Lsa.{Lsa}
@@ -19,10 +19,6 @@ abbrev pub name_as : Kind → Lsa → Option ℕ
 name_as Router lsa = if is_router lsa then Some lsa.router else None
 name_as Network lsa = if is_router lsa then None else Some lsa.id
 
-abbrev pub is_named : Option ℕ → ℕ → Bool
-is_named None id = false
-is_named (Some name) id = name == id
-
 -- a spot, if it is the one sought
 abbrev pub spot_if : Bool → ℕ → ℕ → Option Spot
 spot_if sought number place = if sought then Some (record { number = number; place = place }) else None
@@ -31,12 +27,12 @@ spot_if sought number place = if sought then Some (record { number = number; pla
 abbrev pub spot_from : Kind → ℕ → ℕ → ℕ → List Lsa → Option Spot
 spot_from kind id number place [] = None
 spot_from kind id number place (lsa ∷ more) =
-    option_or (spot_if (is_named (name_as kind lsa) id) number place)
+    option_or (spot_if (option_eq nat_eq (name_as kind lsa) (Some id)) number place)
     (spot_from kind id (number + (if is_kind kind lsa then 1 else 0)) (place + 1) more)
 
 -- one LSA more, which may have a name
 pub record Adds (old new : Found) (name : Option ℕ) (place : ℕ) : Type 0 where
-  pub spots : (id : ℕ) → get nat_cmp new.by_name id ≡ option_or (get nat_cmp old.by_name id) (spot_if (is_named name id) old.count place)
+  pub spots : (id : ℕ) → get nat_cmp new.by_name id ≡ option_or (get nat_cmp old.by_name id) (spot_if (option_eq nat_eq name (Some id)) old.count place)
   pub count : new.count ≡ old.count + (if is_some name then 1 else 0)
 
 -- the LSAs of a kind are found by what names them

@@ -5,7 +5,7 @@ ghost use Rattle.std.specs.Option.{option_or};
 ghost use Rattle.std.specs.Ordering.{nat_cmp};
 ghost use Rattle.std.specs.BTreeMap.{get};
 ghost use Rattle.lsa_bytes.specs.AreaGraphs.{attaches, has_link, network_back, networks, router_back, routers};
-ghost use Rattle.lsa_bytes.specs.Vertices.{Adds, HasFound, is_kind, is_named, name_as, spot_if};
+ghost use Rattle.lsa_bytes.specs.Vertices.{Adds, HasFound, is_kind, name_as, spot_if};
 
 use crate::reader::is_router;
 use crate::{Body, Lsa, LsaLink};
@@ -58,7 +58,7 @@ fn name_as(kind: Kind, lsa: &Lsa) -> Option<u32>
 
 /// Keeps a spot by a name, unless the name has one.
 fn keep(spots: &mut BTreeMap<u32, Spot>, name: u32, spot: Spot) -> Result<(), OutOfMemory>
-    ensures { OnOk result ((id : ℕ) → get nat_cmp spots.new id ≡ option_or (get nat_cmp spots.old id) (if is_named (Some name) id then Some spot else None)) }
+    ensures { OnOk result ((id : ℕ) → get nat_cmp spots.new id ≡ option_or (get nat_cmp spots.old id) (if name == id then Some spot else None)) }
 {
     spots.entry(name)?.or_insert(spot);
     Ok(())

@@ -7,7 +7,7 @@ ghost use Rattle.lsa_commands.specs.Quads.{quad_text};
 ghost use Rattle.lsa_commands.specs.Routes.{spaced_quads};
 
 use crate::quads::push_quad;
-use area_graph::{Graph, Point};
+use area_graph::{Graph, Point, far_end};
 use cost_base::OutOfMemory;
 use spf_ties::Room;
 use text_lines::push_bytes;
@@ -17,16 +17,6 @@ fn id_at(ids: &[u32], vertex: u32) -> u32
     ensures { result ≡ slice_index_or ids.now vertex 0 }
 {
     ids.get(vertex as usize).copied().unwrap_or(0)
-}
-
-/// The vertex to which an edge leads.
-fn end_of(graph: &Graph, edge: u32) -> u32
-    ensures { result ≡ (edge_at graph.now edge).to }
-{
-    match graph.edges().get(edge as usize) {
-        Some(edge) => edge.to,
-        None => 0,
-    }
 }
 
 /// Adds an ID behind a space.
@@ -54,7 +44,7 @@ pub fn push_hops(
         ++ spaced_quads (map (λ e. slice_index_or ids.now (edge_at graph.now e).to 0) (tight_out graph.now point.now room.now vertex))) }
 {
     for edge in room.next_hops(graph, point, vertex) {
-        push_hop(line, id_at(ids, end_of(graph, edge)))?;
+        push_hop(line, id_at(ids, far_end(graph, edge)))?;
     }
     Ok(())
 }

@@ -1,5 +1,5 @@
 -- The ends of the links of an area's database are its active interfaces.
-use Rattle.std.proofs.Common.{◌≡◌, ℕ, zero, suc, ◌+◌, inl, inr, sym, ◌∙◌, ap, List, [], ◌∷◌, length, Bool, true, false, cond, Option, Some, None, slice_get}
+use Rattle.std.proofs.Common.{◌≡◌, ℕ, zero, suc, ◌+◌, inl, inr, sym, ◌∙◌, ap, List, [], ◌∷◌, length, true, false, cond, Option, Some, None, slice_get}
 use Rattle.std.specs.Prelude.{All, AllPairs, ◌==◌, unwrap_or}
 use Rattle.std.proofs.lemmas.Bool.{cases_Bool, cases_order, false≢true, eq-eqb}
 use Rattle.std.proofs.lemmas.Option.{none-some, same_Some}

@@ -1,6 +1,7 @@
 -- One step of the calls that write LSAs.
 use Rattle.std.proofs.Common.{◌≡◌, inl, inr, ℕ, suc, ◌+◌, ◌-◌, ◌*◌, ◌<◌, ◌≤◌, refl, sym, ◌∙◌, ap, subst, List, [], ◌∷◌, ◌++◌, length, map, filter, take, drop, get_or, arith, Bool, true, false, cond, Option, Some, None, slice_get, append_assoc, append-nil}
 use Rattle.std.specs.Prelude.{All, AllPairs, flat_map, nat_le, ◌==◌, MatchOption}
+use Rattle.std.specs.Option.{option_and_then}
 use Rattle.std.specs.Int.{w16, w32, to_be_bytes}
 use Rattle.std.proofs.lemmas.Bool.{false_from_ne_true, cases_Bool, false≢true, eqb-true, eqb-false, ne_eqb, leb-true, le-leb}
 use Rattle.std.proofs.lemmas.Option.{none-some, same_Some, slice_get-get_or, get_or_from_slice_get}
@@ -15,14 +16,13 @@ use Rattle.interface_model.specs.Records.{Router}
 use Rattle.lsdb_build.proofs.Pairs.{all_at, at_map, pairs_head, pairs_tail}
 use Rattle.lsdb_build.proofs.PortFacts.{differ}
 use Rattle.lsdb_build.proofs.GraphLaws.{numbers_step}
-use Rattle.lsa_bytes.specs.declared.LsaLink.{LsaLink}
 use Rattle.lsa_bytes.specs.declared.Body.TheVariants.{Links, Attached}
 use Rattle.lsa_bytes.specs.Written.{header, link_bytes, body_bytes, lsa_bytes, bytes_of_all}
 use Rattle.lsa_bytes.proofs.RoundTrip.{links_length, routers_length}
 use Rattle.lsa_writer.specs.declared.ends.LinkEnd.{LinkEnd}
 use Rattle.lsa_writer.specs.declared.said.OwnedLink.{OwnedLink}
 use Rattle.lsa_writer.specs.Ends.{id_of, interface_named, no_end, end_at, designated, member_ends, designated_ends}
-use Rattle.lsa_writer.specs.Places.{at_place, own_count}
+use Rattle.lsa_writer.specs.Places.{own_count}
 use Rattle.lsa_writer.specs.WrittenLsas.{links_in, own_links, own_lsa, router_lsa, network_lsa, subnet_lsa, routers_in, mask_of}
 use Rattle.lsa_writer.proofs.ListPlaces.{in_front}
 use Rattle.lsa_writer.proofs.LinkGroups.{AreInOrder, IsBehind}
@@ -88,8 +88,8 @@ abbrev pub IsWithin : List Interface → Option ℕ → Type 0
 IsWithin interfaces o = MatchOption o (Unit {0}) (λ place. place < length interfaces)
 
 pub found_before : (name : List ℕ) (whole before behind : List Interface) (o : Option ℕ) → whole ≡ before ++ behind →
-    None ≡ interface_named name behind → IsWithin before o → at_place before o ≡ interface_named name before
-    → at_place whole o ≡ interface_named name whole
+    None ≡ interface_named name behind → IsWithin before o → option_and_then (slice_get before) o ≡ interface_named name before
+    → option_and_then (slice_get whole) o ≡ interface_named name whole
 found_before name whole before behind None is none within found =
     found ∙ sym (none_behind name before behind (sym none)) ∙ ap (interface_named name) (sym is)
 found_before name whole [] behind (Some k) is none within found = absurd (omega (arith, within))

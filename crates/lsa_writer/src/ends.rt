@@ -2,7 +2,7 @@
 ghost use Rattle.std.specs.Prelude.{◌≡◌, ◌≢◌, ◌<◌, AllPairs, IfOk, MatchOption, length, option_copied, slice_get};
 ghost use Rattle.cost_base.specs.Lists.{same_bytes};
 ghost use Rattle.lsa_writer.specs.Ends.{end_at, end_of, end_with, ends_of, id_of, interface_named, interfaces_in};
-ghost use Rattle.lsa_writer.specs.Places.{at_place};
+ghost use Rattle.std.specs.Option.{option_and_then};
 
 use cost_base::OutOfMemory;
 use interface_model::{Interface, RouterConfig};
@@ -60,7 +60,7 @@ fn has_name(interface: &Interface, name: &[u8]) -> bool
 
 /// The place of the interface of a name.
 fn place_of(interfaces: &[Interface], name: &[u8]) -> Option<usize>
-    ensures found { at_place interfaces.now result ≡ interface_named name.now interfaces.now }
+    ensures found { option_and_then (slice_get interfaces.now) result ≡ interface_named name.now interfaces.now }
     ensures within { MatchOption result (Unit {0}) (λ place. place < length interfaces.now) }
 {
     for (place, interface) in interfaces.iter().enumerate() {
@@ -75,7 +75,7 @@ fn place_of(interfaces: &[Interface], name: &[u8]) -> Option<usize>
 /// where names are looked up in the order of the interfaces.
 fn place_from(interfaces: &[Interface], name: &[u8], from: usize) -> Option<usize>
     requires { AllPairs (λ a b. a.name ≢ b.name) interfaces.now }
-    ensures { at_place interfaces.now result ≡ interface_named name.now interfaces.now }
+    ensures { option_and_then (slice_get interfaces.now) result ≡ interface_named name.now interfaces.now }
 {
     let (before, behind) = interfaces.split_at(from.min(interfaces.len()));
     match place_of(behind, name) {
@@ -104,7 +104,7 @@ fn end_with(id: u32, interface: Option<&Interface>) -> LinkEnd
 
 /// The interface at a place, if one was found.
 fn interface_at(interfaces: &[Interface], place: Option<usize>) -> Option<&Interface>
-    ensures { option_copied result ≡ at_place interfaces.now place }
+    ensures { option_copied result ≡ option_and_then (slice_get interfaces.now) place }
 {
     match place {
         Some(place) => interfaces.get(place),

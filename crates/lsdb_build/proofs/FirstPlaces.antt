@@ -1,5 +1,5 @@
 -- The first place that a check meets, one step of a loop on.
-use Rattle.std.proofs.Common.{append-nil, ◌≡◌, ℕ, ◌+◌, ◌<◌, ◌≤◌, ◌++◌, Bool, true, false, filter, cond, ◌&&◌, not, List, [], ◌∷◌, None, Some, length, get_or, take, drop, reverse, count_by, refl, sym, ap, ◌∙◌, map}
+use Rattle.std.proofs.Common.{append-nil, ◌≡◌, ℕ, ◌+◌, ◌<◌, ◌≤◌, ◌++◌, Bool, true, false, filter, cond, ◌&&◌, not, List, [], ◌∷◌, None, Some, length, get_or, take, drop, reverse, count_by, sym, ap, ◌∙◌, map}
 use Rattle.std.specs.List.{list_any}
 use Rattle.std.proofs.lemmas.List.{at_drop_all, at_drop_more, take_more, reverse-append, map-append}
 use Rattle.std.proofs.Math.Bool.{not-not}

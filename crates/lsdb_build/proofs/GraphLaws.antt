@@ -1,6 +1,5 @@
 -- The graph of a database at prices of its links is a graph.
-use Rattle.std.proofs.Common.{◌≡◌, ℕ, suc, ◌+◌, ◌-◌, ◌*◌, ◌<◌, ◌≤◌, ◌++◌, Bool, true, false, List, [], ◌∷◌, None, length, get_or, drop, map, sym, ap, ◌∙◌, subst, arith, slice_get, slice_index_or, All}
-use Rattle.std.specs.List.{filter}
+use Rattle.std.proofs.Common.{◌≡◌, ℕ, suc, ◌+◌, ◌-◌, ◌*◌, ◌<◌, ◌≤◌, ◌++◌, List, [], ◌∷◌, None, length, get_or, drop, map, sym, ap, ◌∙◌, subst, arith, slice_get, slice_index_or, All}
 use Rattle.std.proofs.lemmas.List.{length-map, length-append, get_or-map, get_or_default, at_drop_more}
 use Rattle.std.proofs.lemmas.List.Elements.{All-nil, All-cons, All-head, All-tail, All-append, All-map, All-weaker}
 use Rattle.std.proofs.lemmas.List.Sums.{length-filter, count_by-le-length}

@@ -1,6 +1,6 @@
 -- The topology of an area doesn't depend on the interfaces' costs: with other costs the database has other costs, and nothing else changes.
 use Rattle.std.proofs.Common.{◌≡◌, ℕ, zero, suc, ◌+◌, refl, sym, ◌∙◌, ap, List, [], ◌∷◌, ◌++◌, length, map, Bool, true, false, cond, Option, Some, None}
-use Rattle.std.specs.Prelude.{filter, unwrap_or, not, ◌&&◌, ◌||◌, nat_le}
+use Rattle.std.specs.Prelude.{filter, unwrap_or, not, ◌&&◌, nat_le}
 use Rattle.std.specs.List.{list_any}
 use Rattle.std.proofs.lemmas.List.{map-append}
 use Rattle.std.proofs.lemmas.Simd.{map-map}

@@ -1,5 +1,5 @@
 -- The parts that are made of requests are the parts of their problem.
-use Rattle.std.proofs.Common.{◌≡◌, ℕ, ◌+◌, ◌<◌, sym, ◌∙◌, ap, List, [], ◌∷◌, map, Option, Some, None}
+use Rattle.std.proofs.Common.{◌≡◌, ℕ, ◌+◌, ◌<◌, sym, ◌∙◌, ap, List, [], ◌∷◌, map, Option, Some, None, IfSome}
 use Rattle.std.specs.Prelude.{All, unwrap_or, if◌then◌else◌}
 use Rattle.std.specs.List.{filter_map}
 use Rattle.std.proofs.lemmas.List.Elements.{All-nil, All-cons, All-head, All-tail}
@@ -10,13 +10,12 @@ use Rattle.lsdb_build.specs.Graphs.{Database, IsLink, IsLinkPrice, graph_at}
 use Rattle.path_rows.specs.declared.problem.VarName.{VarName}
 use Rattle.path_rows.specs.declared.problem.Request.{Request}
 use Rattle.path_rows.specs.Problems.{DesignProblem}
-use Rattle.request_reader.specs.Asked.{Asked, IsAsked, IsDefault}
+use Rattle.request_reader.specs.Asked.{Asked, IsAsked}
 use Rattle.path_requests.specs.Meaning.{Range, Within, AsItIs, range_of, low_of, high_of, ranges, price_of, prices_from, names_from, problem_of}
 use Rattle.wanted_paths.specs.Paths.{request_of}
 use Rattle.path_requests.specs.Resolving.{lacks_cost, cost_faults}
 use Rattle.wanted_paths.specs.Paths.{outline}
 use Rattle.cost_base.proofs.ListLemmas.{append-none}
-use Rattle.interface_model.specs.Records.{IsCost}
 use Rattle.wanted_paths.proofs.Outline.{as_outline, requests_same}
 use Rattle.path_requests.proofs.ProblemLaws.{same_whole_problem}
 use Rattle.wanted_paths.specs.declared.stop.ResolutionFault.TheVariants.{NoCost}
@@ -34,7 +33,7 @@ prices_link a d l (link ∷ links) asked each none =
     clash : (NoCost l ∷ []) ≡ [] → ⊥
     clash h = cc
 
-    by_cost : (cost default : Option ℕ) → IsCost cost → IsDefault default →
+    by_cost : (cost default : Option ℕ) → IfSome cost (λ c. 0 < c) → IfSome default (λ c. 0 < c) →
         (if lacks_cost (record a { default_cost = default }) (record link { cost = cost }) AsItIs then
         NoCost l ∷ [] else []) ≡ [] → 0 < unwrap_or cost (unwrap_or default 0)
     by_cost (Some c) default here other none = here

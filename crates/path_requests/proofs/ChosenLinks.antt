@@ -1,12 +1,12 @@
 -- What a line that names a link writes at the link's number.
 use Rattle.std.proofs.Common.{◌≡◌, ℕ, ◌+◌, ◌<◌, refl, sym, ◌∙◌, ap, List, [], ◌∷◌, length, set, map, take, get_or, arith, Bool, true, false, Option, Some, None}
-use Rattle.std.specs.Prelude.{slice_get, is_some, if◌then◌else◌, ◌||◌, ◌&&◌}
+use Rattle.std.specs.Prelude.{is_some, if◌then◌else◌, ◌||◌, ◌&&◌}
 use Rattle.std.specs.Option.{option_or}
 use Rattle.std.specs.List.{list_any}
 use Rattle.std.proofs.Math.Bool.{or_assoc, or-false, or-true}
 use Rattle.std.proofs.lemmas.List.{length-map, length-set, get_or-map, get_or-set_other, same_lists}
 use Rattle.std.proofs.lemmas.Grind.{get_or-set_at}
-use Rattle.std.proofs.lemmas.List.Folds.{Any-from_list_any, list_any_more}
+use Rattle.std.proofs.lemmas.List.Folds.{list_any_more}
 use Rattle.std.proofs.lemmas.Option.{slice_get-get_or, slice_get_within, get_or_from_slice_get}
 use Rattle.std.proofs.lemmas.Bool.{or_parts, false_from_ne_true}
 use native.Mathlib.Decide.{ℕ_discrete}
@@ -19,8 +19,8 @@ use Rattle.wanted_paths.specs.Paths.{is_named, link_number}
 use Rattle.path_requests.specs.Meaning.{says_symmetric}
 use Rattle.wanted_paths.specs.Resolution.{knows_link}
 use Rattle.path_requests.specs.Chosen.{ties_all, ties_one}
-use Rattle.wanted_paths.proofs.LookUps.{link_number_is}
-use Rattle.wanted_paths.proofs.LookUps.{no_link}
+use Rattle.wanted_paths.proofs.LookUps.{link_number_is, no_link}
+use Rattle.wanted_paths.proofs.RouteLaws.{IsKnownLink, link_known}
 
 -- functions that agree where no element passes a test make the same list
 pub map_agree : {X Y : Type 0} (p : X → Bool) (f g : X → Y) (xs : List X) → list_any p xs ≡ false → ((x : X) → p x ≡ false → f x ≡ g x) → map f xs ≡ map g xs
@@ -29,22 +29,9 @@ map_agree {Y} p f g (x ∷ xs) none same =
     let parts = or_parts (p x) (list_any p xs) none in
     ap (λ (y : Y). y ∷ map f xs) (same x parts.0) ∙ ap (λ (ys : List Y). g x ∷ ys) (map_agree p f g xs parts.1 same)
 
--- the link of an interface, at its number
-pub record IsThere (d : Database) (router interface : List ℕ) : Type 0 where
-  pub link : Linked
-  pub there : slice_get d.links (link_number d router interface) ≡ Some link
-  pub named : is_named d router interface link ≡ true
-
-pub known_there : (d : Database) (router interface : List ℕ) → IsDatabase d → knows_link d router interface ≡ true → IsThere d router interface
-known_there d router interface base known =
-    let any = Any-from_list_any (is_named d router interface) d.links known in
-    let at : slice_get d.links any.0 ≡ Some any.1 = slice_get-get_or d.links any.0 any.1 any.2 ∙ ap (λ (link : Linked). Some link) any.3 in
-    let is = link_number_is d any.0 any.1 router interface base at any.4 in
-    record { link = any.1; there = ap (slice_get d.links) is ∙ at; named = any.4 }
-
 -- another value at that number is another value for the one link that is named
 pub set_named : {X : Type 0} (d : Database) (router interface : List ℕ) (f g : Linked → X) (x : X) → IsDatabase d →
-    (is : IsThere d router interface) → x ≡ g is.link →
+    (is : IsKnownLink d router interface) → x ≡ g is.link →
     ((link : Linked) → is_named d router interface link ≡ false → f link ≡ g link) →
     set (map f d.links) (link_number d router interface) x ≡ map g d.links
 set_named {X} d router interface f g x base is here other =
@@ -83,7 +70,7 @@ pub decided_named : {X : Type 0} (d : Database) (router interface : List ℕ) (f
     (option_or (get_or (map f d.links) (link_number d router interface) y) (Some range))
     ≡ map (λ link. option_or (f link) (if is_named d router interface link then Some range else None)) d.links
 decided_named {X} d router interface f range y base known =
-    let is = known_there d router interface base known in
+    let is = link_known d router interface known in
     let l = link_number d router interface in
     let stands = get_or-map f d.links l no_link y (slice_get_within d.links l is.link is.there)
     ∙ ap f (get_or_from_slice_get d.links l is.link no_link is.there) in
@@ -105,7 +92,7 @@ decided_unknown d router interface f range unknown =
 pub number_within : (d : Database) (router interface : List ℕ) → IsDatabase d → knows_link d router interface ≡ true →
     link_number d router interface < length d.links
 number_within d router interface base known =
-    let is = known_there d router interface base known in
+    let is = link_known d router interface known in
     slice_get_within d.links (link_number d router interface) is.link is.there
 
 -- the place that was found is one of what is kept for the links
@@ -119,7 +106,7 @@ pub marked_named : (d : Database) (router interface : List ℕ) (f : Linked → 
     knows_link d router interface ≡ true → set (map f d.links) (link_number d router interface) true
     ≡ map (λ link. f link || is_named d router interface link) d.links
 marked_named d router interface f base known =
-    let is = known_there d router interface base known in
+    let is = link_known d router interface known in
     set_named d router interface f (λ link. f link || is_named d router interface link) true base is
     (sym (or-true (f is.link)) ∙ ap (λ b. f is.link || b) (sym is.named))
     (λ link unnamed. sym (or-false (f link)) ∙ ap (λ b. f link || b) (sym unnamed))

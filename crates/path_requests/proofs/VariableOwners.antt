@@ -1,6 +1,7 @@
 -- Where ends don't differ, each free link's variable belongs to a free link.
-use Rattle.std.proofs.Common.{inl, inr, ◌≡◌, ℕ, ◌+◌, ◌<◌, ◌≤◌, refl, sym, ◌∙◌, ap, subst, List, [], ◌∷◌, length, arith, Bool, true, false, Option, Some, None}
+use Rattle.std.proofs.Common.{inl, inr, ◌≡◌, ℕ, ◌+◌, ◌<◌, ◌≤◌, refl, sym, ◌∙◌, ap, subst, List, [], ◌∷◌, length, arith, true, false, Option, Some, None}
 use Rattle.std.specs.Prelude.{slice_get, count_by, not, nat_lt, if◌then◌else◌, ◌&&◌, ◌==◌}
+use Rattle.std.specs.Option.{option_and_then}
 use Rattle.std.specs.List.{list_any}
 use Rattle.std.proofs.lemmas.Option.{slice_get_within, get_or_from_slice_get}
 use Rattle.std.proofs.lemmas.Bool.{not-true, not-false, and_from, and_parts, and_right, eq-eqb, ltb-true, le-ltb, false≢true, cases_Bool}
@@ -13,7 +14,7 @@ use Rattle.request_reader.specs.declared.Wish.{Wish}
 use Rattle.request_reader.specs.declared.Wish.TheVariants.{FreeAll, Free, Fix, Path, SymmetricAll, Symmetric}
 use Rattle.request_reader.specs.declared.Item.{Item}
 use Rattle.request_reader.specs.Asked.{Asked}
-use Rattle.path_requests.specs.Meaning.{Range, Within, AsItIs, range_of, is_free, is_free_at, says_symmetric, any_symmetric, is_symmetric, option_at, owner_by_mate, owner_at, owner, own, owners, variable_of}
+use Rattle.path_requests.specs.Meaning.{Range, Within, AsItIs, range_of, is_free, is_free_at, says_symmetric, any_symmetric, is_symmetric, owner_by_mate, owner_at, owner, own, owners, variable_of}
 use Rattle.wanted_paths.specs.LineFaults.{fault_unless}
 use Rattle.path_requests.specs.Resolving.{same_range, ends_differ, ends_differ_at, ties_different, ends_faults}
 use Rattle.wanted_paths.proofs.Walks.{well_from}
@@ -84,7 +85,7 @@ tied_free a d l m link other base none there at mate back tied =
           (not-false (same_range (range_of a d link) (range_of a d other)) (sym (ends_are a d link other m mate at)
           ∙ said_same a d a.items l link base there here none))
       | inr far ↦
-          let said : any_symmetric a d (option_at d.links link.mate) ≡ true = rw far at tied in
+          let said : any_symmetric a d (option_and_then (slice_get d.links) link.mate) ≡ true = rw far at tied in
           let here : any_symmetric a d (Some other) ≡ true = rw (mate, at) at said in
           sym (same_free (range_of a d other) (range_of a d link)
           (not-false (same_range (range_of a d other) (range_of a d link)) (sym (ends_are a d other link l back there)

@@ -1,9 +1,10 @@
 //! What requests choose for each link of an area.
 ghost use Rattle.std.specs.Prelude.{◌≡◌, Some, slice_get, IfOk};
+ghost use Rattle.std.specs.Option.{option_and_then};
 ghost use Rattle.lsdb_build.specs.declared.Linked.{Linked as LinkValue};
 ghost use Rattle.lsdb_build.specs.Graphs.{IsDatabase};
 ghost use Rattle.request_reader.specs.Asked.{IsAsked};
-ghost use Rattle.path_requests.specs.Meaning.{any_symmetric, is_symmetric, option_at, range_at, range_of};
+ghost use Rattle.path_requests.specs.Meaning.{any_symmetric, is_symmetric, range_at, range_of};
 
 use crate::ranges::{Range, ranges_by};
 use crate::symmetric::symmetric_by;
@@ -106,7 +107,7 @@ impl<'a> Choices<'a> {
 
     /// Whether lines make the link of a number symmetric.
     fn any_symmetric(&self, number: Option<u32>) -> bool
-        ensures { result ≡ any_symmetric self.now.asked self.now.database (option_at self.now.database.links number) }
+        ensures { result ≡ any_symmetric self.now.asked self.now.database (option_and_then (slice_get self.now.database.links) number) }
     {
         match number {
             Some(number) => self

@@ -1,7 +1,7 @@
 -- Request files, read and refused.
-use Rattle.std.proofs.Common.{◌≡◌, ℕ, refl, List, [], ◌∷◌, ◌++◌}
-use Rattle.std.specs.Prelude.{Option, Some, None, codes, map}
-use Rattle.std.specs.List.{concat}
+use Rattle.std.proofs.Common.{◌≡◌, ℕ, refl, List, [], ◌∷◌}
+use Rattle.std.specs.Prelude.{Option, Some, None, codes}
+use Rattle.text_lines.specs.Lines.{with_ends}
 use Rattle.text_lines.specs.LineFaults.{FaultyLine}
 use Rattle.request_reader.specs.declared.Part.TheVariants.{Router, Interface}
 use Rattle.request_reader.specs.declared.Wish.TheVariants.{FreeAll, Free, Fix, Path, SymmetricAll, Symmetric}
@@ -10,19 +10,15 @@ use Rattle.request_reader.specs.declared.stop.RequestFault.TheVariants.{BadReque
 use Rattle.request_reader.specs.declared.reading.statement.Statement.TheVariants.{Passed, Ask, Refused}
 use Rattle.request_reader.specs.Reading.{asked_by, request_fault, said_by}
 
--- a text of lines
-abbrev text : List (List ℕ) → List ℕ
-text ls = concat (map (λ line. line ++ 10 ∷ []) ls)
-
 abbrev with_head : List (List ℕ) → List ℕ
-with_head ls = text (codes "ospfcost request 1" ∷ codes "area 0" ∷ ls)
+with_head ls = with_ends (codes "ospfcost request 1" ∷ codes "area 0" ∷ ls)
 
 abbrev refused : RequestFault → ℕ → Option (FaultyLine RequestFault)
 refused fault line = Some (record { fault = fault; line = line })
 
 -- one line of each kind
 abbrev each_kind : List ℕ
-each_kind = text (
+each_kind = with_ends (
     codes "# costs" ∷ [] ∷ codes "ospfcost request 1" ∷ codes " default-cost 010" ∷ codes "area 0.0.0.7" ∷ codes "free all 1 9"
     ∷ codes "free R eth0:1 2 3" ∷ codes "fix R eth1" ∷ codes "! both ends" ∷ codes "symmetric all" ∷ codes "symmetric R eth0"
     ∷ codes "path R:eth0:1 S" ∷ codes "path R without S T:eth0" ∷ [])
@@ -47,10 +43,10 @@ each_kind_lawful = refl
 empty_refused : request_fault [] ≡ refused BadRequestLine 1
 empty_refused = refl
 
-header_alone : request_fault (text (codes "ospfcost request 1" ∷ [])) ≡ refused BadRequestLine 2
+header_alone : request_fault (with_ends (codes "ospfcost request 1" ∷ [])) ≡ refused BadRequestLine 2
 header_alone = refl
 
-other_header : request_fault (text (codes "" ∷ codes "area 0" ∷ [])) ≡ refused BadRequestLine 2
+other_header : request_fault (with_ends (codes "" ∷ codes "area 0" ∷ [])) ≡ refused BadRequestLine 2
 other_header = refl
 
 -- a second area, and a second header

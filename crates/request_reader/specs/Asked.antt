@@ -1,5 +1,5 @@
 -- What a request file asks for, as contracts see it.
-use Rattle.std.specs.Prelude.{ℕ, ◌<◌, ◌≤◌, List, Bool, true, false, Option, Some, None, All, count_by}
+use Rattle.std.specs.Prelude.{ℕ, ◌<◌, ◌≤◌, List, Bool, true, false, Option, IfSome, All, count_by}
 use Rattle.request_reader.specs.declared.Wish.{Wish}
 use Rattle.request_reader.specs.declared.Wish.TheVariants.{FreeAll, Free, Path}
 use Rattle.request_reader.specs.declared.Item.{Item}
@@ -21,11 +21,7 @@ is_path_wish _ = false
 abbrev pub is_path : Item → Bool
 is_path item = is_path_wish item.what
 
-abbrev pub IsDefault : Option ℕ → Type 0
-IsDefault None = Unit {0}
-IsDefault (Some cost) = 0 < cost
-
 pub record IsAsked (a : Asked) : Type 0 where
   pub bounds : All (λ item. KeepsBounds item.what) a.items
-  pub default : IsDefault a.default_cost
+  pub default : IfSome a.default_cost (λ cost. 0 < cost)
   pub paths : count_by is_path a.items ≤ 10000

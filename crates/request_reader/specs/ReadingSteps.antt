@@ -1,10 +1,9 @@
 -- What the reader of a request file keeps while it goes over the lines.
-use Rattle.std.specs.Prelude.{◌≡◌, ℕ, ◌≤◌, List, [], ◌∷◌, ◌++◌, true, Option, Some, None, All, count_by}
+use Rattle.std.specs.Prelude.{◌≡◌, ℕ, ◌≤◌, List, [], ◌∷◌, ◌++◌, true, Option, Some, IfSome, All, count_by, ◌<◌}
 use Rattle.request_reader.specs.declared.Item.{Item}
-use Rattle.request_reader.specs.declared.stop.RequestFault.{RequestFault}
 use Rattle.request_reader.specs.declared.reading.statement.Statement.{Statement}
 use Rattle.request_reader.specs.declared.reading.statement.Statement.TheVariants.{Passed, Header, Area, DefaultCost, Ask, Refused}
-use Rattle.request_reader.specs.Asked.{KeepsBounds, IsDefault, is_path}
+use Rattle.request_reader.specs.Asked.{KeepsBounds, is_path}
 use Rattle.request_reader.specs.Reading.{Told}
 
 -- what is said together with one line more, of number n, that has no fault
@@ -19,12 +18,12 @@ told_with told n (Refused fault) = told
 -- what a line says keeps the rules of requests
 abbrev pub KeepsRules : Statement → Type 0
 KeepsRules (Ask wish) = KeepsBounds wish
-KeepsRules (DefaultCost cost) = IsDefault (Some cost)
+KeepsRules (DefaultCost cost) = 0 < cost
 KeepsRules _ = Unit {0}
 
 -- items and a default cost keep the rules of requests, and there are so many paths
 pub record KeepsTold (default_cost : Option ℕ) (paths : ℕ) (items : List Item) : Type 0 where
   pub bounds : All (λ item. KeepsBounds item.what) items
-  pub default : IsDefault default_cost
+  pub default : IfSome default_cost (λ cost. 0 < cost)
   pub counted : count_by is_path items ≡ paths
   pub few : paths ≤ 10000

@@ -4,7 +4,6 @@ use Rattle.std.specs.List.{concat}
 use Rattle.area_graph.specs.Distances.{AreMarks}
 use Rattle.path_rows.specs.declared.problem.Request.{Request}
 use Rattle.path_rows.specs.Problems.{DesignProblem, request_at}
-use Rattle.set_reader.specs.declared.stop.SetFault.{SetFault}
 use Rattle.set_reader.specs.declared.reading.statement.Statement.{Statement}
 use Rattle.set_reader.specs.declared.reading.statement.Statement.TheVariants.{Numbers}
 use Rattle.set_reader.specs.SetLines.{speaks, numbers_in}

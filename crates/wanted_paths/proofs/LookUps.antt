@@ -1,9 +1,9 @@
 -- The places of names in sets are the numbers of routers and links.
 use Rattle.std.proofs.Common.{inl, inr, ◌≡◌, ◌≢◌, ℕ, zero, suc, ◌+◌, ◌<◌, ◌≤◌, refl, sym, ◌∙◌, ap, List, [], ◌∷◌, ◌++◌, length, take, map, get_or, arith, Bool, true, false, cond, Option, Some, None}
-use Rattle.std.specs.Prelude.{All, AllPairs, filter, position, slice_get, slice_index_or, unwrap_or, MatchOption, if◌then◌else◌, ◌&&◌, ◌||◌, ◌==◌}
+use Rattle.std.specs.Prelude.{AllPairs, filter, position, slice_get, slice_index_or, unwrap_or, MatchOption, if◌then◌else◌, ◌&&◌, ◌==◌}
 use Rattle.std.specs.List.{list_any}
 use Rattle.std.proofs.lemmas.List.{length-map, get_or-map, map-append, take_more, length-take-le, get_or-take}
-use Rattle.std.proofs.lemmas.List.Elements.{All-head, All-tail, All-weaker}
+use Rattle.std.proofs.lemmas.List.Elements.{All-weaker}
 use Rattle.std.proofs.lemmas.List.Folds.{Any-from_list_any, list_any_none}
 use Rattle.std.proofs.lemmas.List.Quantifiers.{position-Some}
 use Rattle.std.proofs.lemmas.Option.{slice_get-get_or, slice_get_within}

@@ -3,7 +3,7 @@ use Rattle.std.proofs.Common.{◌≡◌, ◌↔◌, ℕ, ◌+◌, refl, List, []
 use Rattle.std.specs.Prelude.{IsTrue, not, ◌&&◌, ◌==◌, if◌then◌else◌}
 use Rattle.std.specs.List.{list_any}
 use Rattle.std.proofs.lemmas.List.{length-map}
-use Rattle.std.proofs.lemmas.Bool.{and_from, or_from, ne_eqb, not_from_false}
+use Rattle.std.proofs.lemmas.Bool.{and_from, not_from_false}
 use Rattle.cost_base.specs.Lists.{first_of, NoneTwice}
 use Rattle.cost_base.proofs.ListLemmas.{append-none, same_test}
 use Rattle.area_graph.specs.declared.Price.{Price}
@@ -20,7 +20,7 @@ use Rattle.wanted_paths.specs.LineFaults.{fault_unless, router_faults, interface
 use Rattle.wanted_paths.specs.Paths.{outline}
 use Rattle.wanted_paths.specs.Walks.{IsWalk}
 use Rattle.wanted_paths.proofs.RouteLaws.{route_simple, lacks_test}
-use Rattle.wanted_paths.specs.declared.stop.ResolutionFault.TheVariants.{UnknownRouter, UnknownInterface, LoopPath, BrokenPath, NoCost}
+use Rattle.wanted_paths.specs.declared.stop.ResolutionFault.TheVariants.{UnknownRouter, UnknownInterface, LoopPath, BrokenPath}
 use Rattle.wanted_paths.specs.declared.stop.ResolutionStop.{ResolutionStop}
 use Rattle.wanted_paths.specs.declared.stop.ResolutionStop.TheVariants.{Refused, OutOfMemory}
 

@@ -1,7 +1,7 @@
 //! What the lines of a request file say together.
 ghost use Rattle.std.specs.Prelude.{◌≡◌, ◌+◌, ◌-◌, ◌^◌, ◌<◌, ◌++◌, ◌∷◌, [], Some, None, true, false, IfOk, IfErr, OnOk, OnErr, is_some};
 ghost use Rattle.text_lines.specs.LineFaults.{fault_at, fault_in_line};
-ghost use Rattle.request_reader.specs.Asked.{KeepsBounds, IsDefault, is_path};
+ghost use Rattle.request_reader.specs.Asked.{KeepsBounds, is_path};
 ghost use Rattle.request_reader.specs.Reading.{told_by, fault_said, fault_behind_header, asked_of, TellsReading};
 ghost use Rattle.request_reader.specs.ReadingSteps.{told_with, KeepsRules};
 ghost use Rattle.request_reader.specs.declared.stop.RequestFault.TheVariants.{BadRequestLine};
@@ -88,7 +88,7 @@ impl Reader {
 
     /// Takes the default cost of a line behind the header, unless it is the second.
     fn take_default_cost(&mut self, line: u32, cost: u16) -> Result<(), RequestStop>
-        requires { IsDefault (Some cost) }
+        requires { 0 < cost }
         ensures taken { OnOk result (fault_behind_header self.old (DefaultCostSaid cost) ≡ None) }
         ensures told { OnOk result (self.new ≡ told_with self.old line (DefaultCostSaid cost)) }
         ensures refused { IfErr result (TellsReading (fault_in_line line (fault_behind_header self.old (DefaultCostSaid cost)))) }
@@ -160,10 +160,8 @@ fn add_item(items: &mut Vec<Item>, item: Item) -> Result<(), OutOfMemory>
     ensures added { OnOk result (items.new.items ≡ items.old.items ++ item ∷ []) }
     ensures kept { OnErr result (items.new.items ≡ items.old.items) }
 {
-    match items.push(item) {
-        Ok(()) => Ok(()),
-        Err(_) => Err(OutOfMemory),
-    }
+    items.push(item)?;
+    Ok(())
 }
 
 /// The refusal of a line.

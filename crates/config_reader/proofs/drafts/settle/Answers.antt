@@ -1,4 +1,4 @@
-use Rattle.std.proofs.Common.{◌≡◌, ◌∙◌, sym, ap, set, map}
+use Rattle.std.proofs.Common.{◌∙◌, sym, ap, set, map}
 use Rattle.config_reader.specs.Drafting as drafting
 use Rattle.config_reader.specs.Spoken.{block_spoken, statement_of}
 use Rattle.config_reader.proofs.DraftSteps.{untouched, unmatched, touched_at}

@@ -1,5 +1,5 @@
 use Rattle.std.proofs.Common.{[]}
-use Rattle.std.proofs.Common.{◌∙◌, sym}
+use Rattle.std.proofs.Common.{sym}
 use Rattle.text_lines.specs.Lines.{words}
 use Rattle.config_reader.proofs.LongerLists.{absent}
 use Rattle.config_reader.proofs.statements.word.Goals as goal

@@ -1,8 +1,7 @@
-use Rattle.std.proofs.Common.{List, ℕ, ◌++◌, subst, sym, ◌∙◌, ap, take, drop}
+use Rattle.std.proofs.Common.{List, ℕ, subst, sym, ◌∙◌, ap, take, drop}
 use Rattle.lsa_bytes.specs.declared.Lsa.{Lsa}
-use Rattle.lsa_bytes.specs.Grammar.{said_by}
 use Rattle.lsa_bytes.proofs.Lengths.{begins_whole}
-use Rattle.lsa_bytes.proofs.ReadSoFar.{IsUnderway, next, all_said, is_database, length_refused, lsa_refused}
+use Rattle.lsa_bytes.proofs.ReadSoFar.{IsUnderway, next}
 use Rattle.lsa_bytes.proofs.reading.read_lsas.Goals as goal
 
 pub loop-rest-preserved : goal.loop-rest-preserved

@@ -1,5 +1,5 @@
 use Rattle.std.proofs.Common.{refl, ◌∙◌, map}
-use Rattle.config_reader.specs.Heards.{head_of, said_of}
+use Rattle.config_reader.specs.Heards.{head_of}
 use Rattle.config_reader.proofs.DraftSteps.{opened_names, gathered_more, gathered_names, gathered_all}
 use Rattle.config_reader.proofs.drafts.Drafts.gather.Goals as goal
 

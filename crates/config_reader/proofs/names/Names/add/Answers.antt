@@ -1,5 +1,4 @@
-use Rattle.std.proofs.Common.{◌≡◌, ◌∙◌, sym, ap, map, Bor, List, ℕ, not, [], ◌∷◌, ◌++◌, cond}
-use Rattle.std.specs.Prelude.{position}
+use Rattle.std.proofs.Common.{◌∙◌, ap, map, Bor, List, ℕ, not, [], ◌∷◌, ◌++◌, cond}
 use Rattle.std.specs.List.{list_any}
 use Rattle.cost_base.specs.Lists.{same_bytes}
 use Rattle.config_reader.proofs.LongerLists.{any-map, map-unless}

@@ -1,4 +1,4 @@
-use Rattle.std.proofs.Common.{◌≡◌, ◌∙◌, sym, ap, map, Bor, List, ℕ}
+use Rattle.std.proofs.Common.{◌∙◌, ap, Bor, List, ℕ}
 use Rattle.std.specs.Prelude.{position}
 use Rattle.std.specs.List.{list_any}
 use Rattle.cost_base.specs.Lists.{same_bytes}
