@@ -1,6 +1,6 @@
 -- A tree that is gone through line by line, with the box of the next line and those that wait behind it.
 use Rattle.std.proofs.Common.{◌≡◌, ℕ, suc, ◌+◌, refl, sym, ◌∙◌, ap, subst, List, [], ◌∷◌, ◌++◌, length, drop, get_or, add-one, drop-cons, ◌<◌, length-set, arith, inl, inr}
-use Rattle.std.specs.Prelude.{Bool, false, Result, IfErr, All}
+use Rattle.std.specs.Prelude.{false, Result, IfErr, All}
 use Rattle.std.proofs.lemmas.List.Elements.{All-nil, All-cons, All-head, All-tail, All-append, All-same}
 use Rattle.path_rows.specs.declared.tree.Side.TheVariants.{Low, High}
 use Rattle.path_rows.specs.Boxes.{with_low, with_high}

@@ -1,5 +1,5 @@
 -- What a tableau's table keeps, in each of its two representations.
-use Rattle.std.proofs.Common.{◌≡◌, ℕ, refl, sym, ◌∙◌, ap, subst, List, [], length, true, false, Bool, arith}
+use Rattle.std.proofs.Common.{◌≡◌, ℕ, refl, sym, ◌∙◌, subst, List, [], length, true, false, Bool, arith}
 use Rattle.std.specs.declared.result.Result.TheVariants.{Ok, Err}
 use Rattle.std.specs.Prelude.{Result, IfOk, OnErr, OnOk, ◌^◌, ◌<◌, ◌≤◌, pos, ◌≤ℤ◌, All}
 use Rattle.std.proofs.lemmas.List.{get_or_default}
@@ -30,8 +30,8 @@ use Rattle.table_kernel.specs.Kernels.{IsKernel, lines_of, stated}
 use Rattle.table_kernel.specs.declared.kernel.OutOfRange.{OutOfRange}
 use Rattle.table_kernel.specs.Turnings.{IsHeldUp}
 use Rattle.table_kernel.specs.Turns.{HoldsNumbers}
-use Rattle.table_kernel.proofs.AtBasis.{stated_lines}
-use Rattle.table_kernel.proofs.Restated.{lines_many}
+use Rattle.table_kernel.proofs.AtBasis.{kernel_moves, stated_lines}
+use Rattle.table_kernel.proofs.StatedLines.{stated_many}
 use Rattle.table_kernel.proofs.SameKernels.{kernel_same, lines_same}
 use Rattle.fraction_table.specs.RowLines.{HoldsSame}
 use Rattle.fraction_table.proofs.RowAdds.{room_same}
@@ -77,16 +77,12 @@ kernel_shown true k solved is kernel shown =
     subst (λ (lines : List (List Fraction)). IsShown k.table.basis.items lines (Ended solved)) (sym (stated_lines k kernel.shaped)) shown
 kernel_shown false k solved is kernel shown = absurd (clash is)
 
--- the table that a kernel stands for has a line for each constant
-lines_there : (k : Kernel) → IsKernel k → length (stated k).lines.items ≡ length k.constants.items
-lines_there k kernel = ap length (stated_lines k kernel.shaped) ∙ lines_many k kernel.shaped
-
 -- the constants of a kernel that stands for a table without negative constants
 pub kernel_high : (b : Bool) (k : Kernel) → b ≡ true → IsKernel k → AreHigh (table_in b k) → All (λ z. pos 0 ≤ℤ z) k.constants.items
 kernel_high true k is kernel high place d place_in =
     let t = stated k in
     let w = kernel.whole in
-    let line_in : place < length t.lines.items = omega (arith, lines_there k kernel, place_in) in
+    let line_in : place < length t.lines.items = omega (arith, stated_many k (kernel_moves k kernel), place_in) in
     let l = whole_line t w place line_in in
     let first = number_there t.top (line_at t place) 0 l.numbers (omega (arith, line_long t w place line_in)) in
     let stands = stand_at w.unboxed.common (line_at t place) (line_numbers t w place) 0 l.stand
@@ -103,7 +99,7 @@ kernel_high false k is kernel high place d place_in = absurd (clash is)
 
 -- how many lines there are
 pub kernel_many : (b : Bool) (k : Kernel) (line : ℕ) → b ≡ true → IsKernel k → line < length (table_in b k).lines.items → line < length k.constants.items
-kernel_many true k line is kernel line_in = omega (arith, lines_there k kernel, line_in)
+kernel_many true k line is kernel line_in = omega (arith, stated_many k (kernel_moves k kernel), line_in)
 kernel_many false k line is kernel line_in = absurd (clash is)
 
 -- an active table has a basis, in either representation

@@ -3,6 +3,7 @@ use Rattle.std.proofs.Common.{◌≡◌, ◌≢◌, ℕ, zero, suc, ◌+◌, ◌
 use Rattle.std.specs.Prelude.{pos, ◌==◌}
 use Rattle.std.proofs.lemmas.Bool.{cases_lt}
 use Rattle.std.proofs.lemmas.Bool.Decides.{nat_tests}
+use Rattle.cost_base.proofs.ListLemmas.{each_append}
 use Rattle.whole_numbers.specs.Fractions.{Fraction, IsLowest}
 use Rattle.fraction_rows.specs.TableRows.{IsNumber, Rises, fraction_at, nothing}
 use Rattle.fraction_rows.specs.Entries.{AllNumbers, IsPut, head_column, head_fraction, after_column, replaced}
@@ -158,15 +159,11 @@ put_other c k q old new other put =
       | inr some ↦ ap (λ (es : List (ℕ × Fraction)). fraction_at es k) some.1 ∙ push_other c k q old other
     ]
 
-push_numbers : (top c : ℕ) (q : Fraction) (es : List (ℕ × Fraction)) → AllNumbers top es → IsNumber top q → AllNumbers top (es ++ (c, q) ∷ [])
-push_numbers top c q [] numbers q_is = (q_is, tt)
-push_numbers top c q (e ∷ es) numbers q_is = (numbers.0, push_numbers top c q es numbers.1 q_is)
-
 pub put_numbers : (top c : ℕ) (q : Fraction) (old new : List (ℕ × Fraction)) → AllNumbers top old → IsNumber top q → IsPut old c q new → AllNumbers top new
 put_numbers top c q old new numbers q_is put =
     elim put [
       | inl none ↦ subst (AllNumbers top) (sym none.1) numbers
-      | inr some ↦ subst (AllNumbers top) (sym some.1) (push_numbers top c q old numbers q_is)
+      | inr some ↦ subst (AllNumbers top) (sym some.1) (each_append (λ (e : ℕ × Fraction). IsNumber top e.1) old ((c, q) ∷ []) numbers (q_is, tt))
     ]
 
 -- each column of a list from some place on is at least the list's least

@@ -4,7 +4,7 @@ use Rattle.std.specs.Prelude.{◌==◌, slice_set, Result, Ok, Err, IfErr, OnOk}
 use Rattle.std.proofs.lemmas.Bool.Decides.{nat_tests}
 use Rattle.cost_base.specs.Lists.{numbers_from}
 use Rattle.cost_base.specs.declared.StepName.TheVariants.{Sub, Mul, Div}
-use Rattle.cost_base.proofs.ListLemmas.{length-map-numbers_from, map-numbers_from-agree, get_or-map-numbers_from}
+use Rattle.cost_base.proofs.ListLemmas.{length-map-numbers_from, map-numbers_from-agree, get_or-map-numbers_from, each_mapped}
 use Rattle.whole_numbers.specs.Fractions.{Fraction, minus, times, divided}
 use Rattle.wide_fraction.specs.declared.steps.Wide.{Wide}
 use Rattle.path_rows.specs.Basis.{entry}
@@ -84,10 +84,6 @@ row_divided left_out divisor c w es new made =
     (map-numbers_from-agree (fraction_at new) (λ k. divided_at left_out divisor k (fraction_at es k) nothing) 0 w (λ k from k_in. made k (omega arith))
     ∙ divided_mapped left_out divisor (fraction_at es) 0 w)
 
-pub numbers_mapped : (top : ℕ) (f : ℕ → Fraction) (ks : List ℕ) → ((k : ℕ) → IsNumber top (f k)) → AreNumbers top (map f ks)
-numbers_mapped top f [] each = tt
-numbers_mapped top f (k ∷ ks) each = (each k, numbers_mapped top f ks each)
-
 mapped_number : (top : ℕ) (f : ℕ → Fraction) (a n k : ℕ) → AreNumbers top (map f (numbers_from a n)) → k < n → IsNumber top (f (a + k))
 mapped_number top f a zero k numbers k_in = absurd (omega arith)
 mapped_number top f a (suc n) zero numbers k_in = subst (λ (m : ℕ). IsNumber top (f m)) (sym (add-zero a)) numbers.0
@@ -113,7 +109,7 @@ each_at top low high (e ∷ es) rises each = (
 -- the fractions of a row are numbers of the table where its constant and its entries are
 pub row_numbers : (top : ℕ) (c : Fraction) (w : ℕ) (es : List (ℕ × Fraction)) → IsNumber top c → AllNumbers top es → AreNumbers top (c ∷ filled w es)
 row_numbers top c w es c_is numbers =
-    (c_is, numbers_mapped top (fraction_at es) (numbers_from 0 w) (λ k. all_at top es k (nothing_number top c c_is) numbers))
+    (c_is, each_mapped (IsNumber top) (fraction_at es) (numbers_from 0 w) (λ k. all_at top es k (nothing_number top c c_is) numbers))
 
 pub entry_numbers : (top : ℕ) (c : Fraction) (w : ℕ) (es : List (ℕ × Fraction)) → Rises 0 w es → AreNumbers top (c ∷ filled w es) → AllNumbers top es
 entry_numbers top c w es rises numbers =

@@ -1,31 +1,26 @@
 -- A product with 0, or a difference with 0, makes no whole number that passes the top.
-use Rattle.std.proofs.Common.{◌≡◌, ℕ, zero, suc, ◌*◌, ◌/◌, ◌<◌, ◌≤◌, refl, ◌∙◌, ap, List, [], ◌∷◌, length, arith}
-use Rattle.std.specs.Prelude.{ℤ, pos, ◌+ℤ◌, ◌*ℤ◌, nat_abs, slice_index_or, Any}
+use Rattle.std.proofs.Common.{◌≡◌, ℕ, zero, suc, ◌*◌, ◌/◌, ◌<◌, ◌≤◌, refl, ◌∙◌, ap, List, [], ◌∷◌, arith}
+use Rattle.std.specs.Prelude.{ℤ, pos, ◌+ℤ◌, ◌*ℤ◌, nat_abs, Any}
+use Rattle.std.specs.List.{AllByRecursion}
 use native.Mathlib.Nat.{div-one, mul-one, mul-zero, zero-div, zero-mod}
 use Rattle.std.proofs.Math.Nat.{div_self}
 use Rattle.cost_base.specs.declared.StepName.TheVariants.{Mul, Sub}
+use Rattle.cost_base.proofs.ListLemmas.{all_from_each}
 use Rattle.whole_numbers.specs.Fractions.{Fraction, gcd, gcd_within, listed}
 use Rattle.whole_numbers.proofs.Divisors.{gcd-one}
 use Rattle.whole_numbers.proofs.Ring.{var, num, ◌⊗◌, ring}
 use Rattle.fraction_rows.specs.TableRows.{IsNumber, nothing}
 
-abbrev AllMost : ℕ → List ℕ → Type 0
-AllMost top [] = Unit {0}
-AllMost top (n ∷ ns) = (n ≤ top) × AllMost top ns
-
-most_pass : (top : ℕ) (ns : List ℕ) (k x : ℕ) → AllMost top ns → k < length ns → slice_index_or ns k x ≡ x → top < x → ⊥
-most_pass top [] k x most k_in at passes = omega arith
-most_pass top (n ∷ ns) zero x most k_in at passes = omega (arith, most.0, at, passes)
-most_pass top (n ∷ ns) (suc k) x most k_in at passes = most_pass top ns k x most.1 (omega arith) at passes
-
-none_passes : (top : ℕ) (ns : List ℕ) → AllMost top ns → Any (λ n. top < n) ns → ⊥
-none_passes top ns most any = most_pass top ns any.0 any.1 most any.2 any.3 any.4
+none_passes : (top : ℕ) (ns : List ℕ) → AllByRecursion (λ n. n ≤ top) ns → Any (λ n. top < n) ns → ⊥
+none_passes top ns most any =
+    let here = all_from_each (λ (n : ℕ). n ≤ top) ns most any.0 any.1 any.2 in
+    omega (arith, here, any.3, any.4)
 
 zero-gcd : (d : ℕ) → gcd 0 d ≡ d
 zero-gcd zero = refl
 zero-gcd (suc d) = ap (λ r. gcd_within (suc d) (suc d) r) (zero-mod (suc d))
 
-product_most : (top x d g h : ℕ) → g ≡ 1 → h ≡ d → 0 < d → 1 ≤ top → AllMost top (((x / g) * (0 / h)) ∷ ((d / h) * (1 / g)) ∷ [])
+product_most : (top x d g h : ℕ) → g ≡ 1 → h ≡ d → 0 < d → 1 ≤ top → AllByRecursion (λ n. n ≤ top) (((x / g) * (0 / h)) ∷ ((d / h) * (1 / g)) ∷ [])
 product_most top x d g h g_is h_is positive one_in =
     let first : (x / g) * (0 / h) ≡ 0 = ap (λ n. (x / g) * n) (zero-div h) ∙ mul-zero (x / g) in
     let second : (d / h) * (1 / g) ≡ 1 = ap (λ k. (d / k) * (1 / g)) h_is ∙ ap (λ k. (d / d) * (1 / k)) g_is ∙ ap (λ n. n * (1 / 1)) (div_self positive) in
@@ -40,7 +35,7 @@ no_product top p is any =
     any
 
 sum_most : (top d g : ℕ) (a : ℤ) → g ≡ 1 → nat_abs a ≤ top → d ≤ top →
-    AllMost top (nat_abs (a *ℤ pos (1 / g)) ∷ nat_abs (pos 0 *ℤ pos (d / g))
+    AllByRecursion (λ n. n ≤ top) (nat_abs (a *ℤ pos (1 / g)) ∷ nat_abs (pos 0 *ℤ pos (d / g))
     ∷ nat_abs ((a *ℤ pos (1 / g)) +ℤ (pos 0 *ℤ pos (d / g)))
     ∷ ((d / g) * (1 / gcd (nat_abs ((a *ℤ pos (1 / g)) +ℤ (pos 0 *ℤ pos (d / g)))) g)) ∷ [])
 sum_most top d g a g_is a_in d_in =

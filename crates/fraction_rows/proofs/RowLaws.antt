@@ -5,6 +5,7 @@ use Rattle.whole_numbers.specs.Fractions.{Fraction, IsLowest, gcd, minus, negate
 use Rattle.whole_numbers.proofs.Ring.{var, num, ◌⊗◌, neg, ring_by, nothing as no_more, using}
 use Rattle.std.proofs.Math.Nat.{zero-div}
 use Rattle.std.proofs.Math.IntN.{neg_ℤ-neg_ℤ}
+use Rattle.cost_base.proofs.ListLemmas.{all_from_each}
 use Rattle.whole_numbers.proofs.Laws.{neg-mul}
 use Rattle.whole_numbers.proofs.FractionLaws.{cancel, product_positive, times_stands}
 use Rattle.whole_numbers.proofs.Sizes.{negated_size}
@@ -18,9 +19,7 @@ use Rattle.fraction_rows.proofs.ZeroFractions.{times_lowest, crossed_nothing}
 use Rattle.fraction_rows.proofs.SmallNumbers.{whole_number}
 
 pub number_at : (top : ℕ) (qs : List Fraction) (k : ℕ) → AreNumbers top qs → k < length qs → IsNumber top (entry qs k)
-number_at top [] k numbers k_in = absurd (omega arith)
-number_at top (q ∷ qs) zero numbers k_in = numbers.0
-number_at top (q ∷ qs) (suc k) numbers k_in = number_at top qs k numbers.1 (omega arith)
+number_at top qs k numbers k_in = all_from_each (IsNumber top) qs numbers k nothing k_in
 
 pub written_numbers : (top : ℕ) (qs : List Fraction) (k : ℕ) (q : Fraction) → AreNumbers top qs → IsNumber top q → AreNumbers top (slice_set qs k q)
 written_numbers top [] k q numbers q_is = tt

@@ -10,17 +10,13 @@ use Rattle.whole_numbers.specs.Fractions.{Fraction, plus, times, whole}
 use Rattle.wide_fraction.specs.declared.steps.Wide.{Wide}
 use Rattle.path_rows.specs.declared.form.Term.{Term}
 use Rattle.path_rows.specs.Basis.{entry}
-use Rattle.path_rows.specs.Forms.{terms_from}
+use Rattle.path_rows.specs.Forms.{terms_from, no_term}
 use Rattle.path_rows.specs.Steps.{terms}
 use Rattle.path_rows.proofs.TermLaws.{each_term, moved}
 use Rattle.fraction_rows.specs.TableRows.{AreNumbers}
 use Rattle.fraction_rows.specs.Turns.{AreRows}
 use Rattle.fraction_rows.specs.Sums.{IsSumStep, IsTermSum, product, sum, sum_from}
 use Rattle.fraction_rows.proofs.RowLaws.{rows_at}
-
--- what is read past the end of a list of terms
-abbrev pub no_term : Term
-no_term = record { var = 0; coefficient = pos 0 }
 
 abbrev pub term_in : List Term → ℕ → Term
 term_in ts index = slice_index_or ts index no_term

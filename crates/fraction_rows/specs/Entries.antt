@@ -1,5 +1,6 @@
 -- Words on lists of columns that the work on a row goes along.
 use Rattle.std.specs.Prelude.{◌≡◌, ◌≢◌, ◌⊎◌, ℕ, ◌==◌, ◌<◌, ◌≤◌, List, [], ◌∷◌, ◌++◌, length, pos, if◌then◌else◌, All, Any}
+use Rattle.std.specs.List.{AllByRecursion}
 use Rattle.cost_base.specs.declared.StepName.TheVariants.{Sub, Mul, Div}
 use Rattle.whole_numbers.specs.Fractions.{Fraction, minus, times, divided, listed}
 use Rattle.wide_fraction.specs.declared.steps.Wide.{Wide}
@@ -36,8 +37,7 @@ IsQuotientStep value divisor wide = wide ≡ record { step = Div; left = value; 
 
 -- each fraction is a number of the table
 abbrev pub AllNumbers : ℕ → List (ℕ × Fraction) → Type 0
-AllNumbers top [] = Unit {0}
-AllNumbers top (e ∷ es) = IsNumber top e.1 × AllNumbers top es
+AllNumbers top es = AllByRecursion (λ e. IsNumber top e.1) es
 
 -- the new list has at each column what the target makes of the fractions that the two have there
 abbrev pub IsMade : ℕ → (ℕ → Fraction → Fraction → Fraction) → List (ℕ × Fraction) → List (ℕ × Fraction) → List (ℕ × Fraction) → Type 0

@@ -1,5 +1,6 @@
 -- A row of the table: its constant at place 0, and at each place after it the entry of a column.
 use Rattle.std.specs.Prelude.{◌≢◌, ℕ, suc, ◌<◌, ◌≤◌, ◌==◌, List, [], ◌∷◌, pos, map, length, if◌then◌else◌, Any}
+use Rattle.std.specs.List.{AllByRecursion}
 use Rattle.cost_base.specs.Lists.{numbers_from}
 use Rattle.cost_base.specs.declared.StepName.{StepName}
 use Rattle.cost_base.specs.declared.StepName.TheVariants.{Sub, Mul, Div}
@@ -17,8 +18,7 @@ pub record IsNumber (top : ℕ) (q : Fraction) : Type 0 where
 
 -- each fraction of a row is
 abbrev pub AreNumbers : ℕ → List Fraction → Type 0
-AreNumbers top [] = Unit {0}
-AreNumbers top (q ∷ qs) = IsNumber top q × AreNumbers top qs
+AreNumbers top qs = AllByRecursion (IsNumber top) qs
 
 -- the fraction that a list of pairs gives a column, and 0 where it gives none
 abbrev pub fraction_at : List (ℕ × Fraction) → ℕ → Fraction

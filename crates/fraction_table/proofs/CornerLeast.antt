@@ -1,5 +1,5 @@
 -- The corner of a table on which no constant is negative is the least point of the box that meets the rows.
-use Rattle.std.proofs.Common.{◌≡◌, ℕ, suc, ◌+◌, ◌*◌, ◌<◌, refl, sym, ◌∙◌, ap, subst, List, [], ◌∷◌, length, arith, zero-add}
+use Rattle.std.proofs.Common.{◌≡◌, ℕ, suc, ◌+◌, ◌*◌, ◌<◌, refl, sym, ◌∙◌, ap, subst, List, [], ◌∷◌, length, arith, zero-add, drop}
 use Rattle.std.specs.Prelude.{ℤ, pos, negsuc, ◌+ℤ◌, ◌-ℤ◌, ◌*ℤ◌, ◌≤ℤ◌, nat_abs, slice_index}
 use Rattle.std.proofs.lemmas.Int.{ints}
 use Rattle.std.proofs.lemmas.List.Elements.{All-tail}
@@ -16,7 +16,7 @@ use Rattle.fraction_table.specs.declared.table.Table.{Table}
 use Rattle.fraction_table.specs.Wholes.{AreMixtures, IsWholeTable, low_forms}
 use Rattle.fraction_table.specs.Pivots.{AreHigh}
 use Rattle.fraction_table.proofs.theory.Points.{equation_at, mixed_at}
-use Rattle.fraction_table.proofs.theory.Corner.{one_value, rest_of, row_sum}
+use Rattle.fraction_table.proofs.theory.Corner.{one_value, row_sum}
 use Rattle.fraction_table.proofs.theory.Tables.{Resolves, corner_least}
 use Rattle.fraction_table.proofs.Solutions.{at_corner, basis_met, corner_fits, corner_point, low_value_at}
 
@@ -41,7 +41,7 @@ met_sum (t ∷ ts) (f ∷ fs) p met =
     ∙ ap (λ z. z +ℤ row_sum ts (values_of fs p)) (turned t (value_at f p) (met 0 f (omega arith)))
 
 mixed_sum : (ts : List ℤ) (basis : List Form) (p : Point) → AreMet basis p →
-    mixed_at ts (one_form ∷ basis) p ≡ ((number_at ts 0 *ℤ pos p.scale) +ℤ row_sum (rest_of ts) (values_of basis p))
+    mixed_at ts (one_form ∷ basis) p ≡ ((number_at ts 0 *ℤ pos p.scale) +ℤ row_sum (drop 1 ts) (values_of basis p))
 mixed_sum [] basis p met = ring (pos p.scale ∷ []) (num (pos 0)) (num (pos 0) ⊗ var 0 ⊕ num (pos 0)) refl
 mixed_sum (t ∷ ts) basis p met =
     ap (λ z. (t *ℤ value_at one_form p) +ℤ z) (met_sum ts basis p met)

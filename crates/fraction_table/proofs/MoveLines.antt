@@ -1,6 +1,6 @@
 -- Lines whose constants are put anew.
 use Rattle.std.proofs.Common.{◌≡◌, ℕ, suc, ◌*◌, ◌<◌, refl, sym, ◌∙◌, ap, subst, List, [], ◌∷◌, length, arith}
-use Rattle.std.specs.Prelude.{ℤ, pos, ◌+ℤ◌, ◌*ℤ◌, Option, None, Some, IfSome, slice_index_or, slice_set}
+use Rattle.std.specs.Prelude.{pos, ◌*ℤ◌, Option, None, Some, IfSome, slice_index_or, slice_set}
 use Rattle.std.proofs.lemmas.List.{length-set}
 use lib.IntN.{+ℤ_idr}
 use Rattle.whole_numbers.specs.Fractions.{Fraction, IsLowest, StandsFor, plus, times}

@@ -1,10 +1,12 @@
 -- The multipliers of a line, column by column: their rows, their sizes, and what they are made to.
 use Rattle.std.proofs.Common.{◌≡◌, ℕ, zero, suc, ◌+◌, ◌*◌, ◌/◌, ◌<◌, refl, sym, ◌∙◌, ap, subst, List, [], ◌∷◌, ◌++◌, map, length, take, drop, arith}
 use Rattle.std.specs.Prelude.{ℤ, pos, negsuc, ◌*ℤ◌, neg_ℤ, nat_abs, ◌<ℤ◌, ◌≤ℤ◌, fold, slice_index_or, All}
+use Rattle.std.specs.List.{AllByRecursion}
 use Rattle.std.proofs.lemmas.Int.{ints}
 use Rattle.std.proofs.lemmas.List.{append-nil, append_assoc, map-append}
 use Prim.Native.Nat.{◌∣◌}
 use native.Mathlib.Nat.{dvd_trans, mul_comm, div-mul_cancel, div-one, dvd_refl, one-dvd}
+use Rattle.cost_base.proofs.ListLemmas.{each_append, each_left, each_right, each_weaker}
 use Rattle.whole_numbers.specs.Fractions.{Fraction, IsLowest, StandsFor, gcd, lcm, negated, times, whole}
 use Rattle.whole_numbers.proofs.Ring.{var, num, ◌⊗◌, neg, ring, ring_by, nothing as no_more, using}
 use Rattle.whole_numbers.proofs.Divisors.{gcd-one, quotient_positive}
@@ -23,7 +25,7 @@ use Rattle.path_rows.specs.Steps.{column_part, column_parts, denominators, made_
 use Rattle.fraction_rows.specs.Entries.{AllNumbers}
 use Rattle.fraction_rows.specs.TableRows.{AreNumbers, IsNumber}
 use Rattle.fraction_table.specs.Wholes.{Stand}
-use Rattle.fraction_table.specs.Multipliers.{Each, IsPart, columns_numbered, common_of, fractions, fractions_of, numbered, whole_part, whole_parts, wholes}
+use Rattle.fraction_table.specs.Multipliers.{IsPart, columns_numbered, common_of, fractions, fractions_of, numbered, whole_part, whole_parts, wholes}
 use Rattle.fraction_rows.proofs.ZeroFractions.{times_lowest}
 use Rattle.fraction_table.proofs.Solutions.{low_number}
 use Rattle.fraction_table.proofs.MultiplierSums.{AreMade, IsEntry}
@@ -99,28 +101,6 @@ fractions_next basis r es k n member q olds news k_in k_there long olds_are memb
     one_more : (j : ℕ) → suc j ≡ j + 1
     one_more j = omega arith
 
--- what holds of each part of two lists
-pub each_append : {X : Type 0} (P : X → Type 0) (xs ys : List X) → Each P xs → Each P ys → Each P (xs ++ ys)
-each_append P [] ys first rest = rest
-each_append P (x ∷ xs) ys first rest = (first.0, each_append P xs ys first.1 rest)
-
-pub each_left : {X : Type 0} (P : X → Type 0) (xs ys : List X) → Each P (xs ++ ys) → Each P xs
-each_left P [] ys all = tt
-each_left P (x ∷ xs) ys all = (all.0, each_left P xs ys all.1)
-
-pub each_right : {X : Type 0} (P : X → Type 0) (xs ys : List X) → Each P (xs ++ ys) → Each P ys
-each_right P [] ys all = all
-each_right P (x ∷ xs) ys all = each_right P xs ys all.1
-
-pub each_weaker : {X : Type 0} (P Q : X → Type 0) (xs : List X) → ((x : X) → P x → Q x) → Each P xs → Each Q xs
-each_weaker P Q [] step all = tt
-each_weaker P Q (x ∷ xs) step all = (step x all.0, each_weaker P Q xs step all.1)
-
-pub all_from_each : {X : Type 0} (P : X → Type 0) (xs : List X) → Each P xs → All P xs
-all_from_each P [] all k d k_in = absurd (omega arith)
-all_from_each P (x ∷ xs) all zero d k_in = all.0
-all_from_each P (x ∷ xs) all (suc k) d k_in = all_from_each P xs all.1 k d (omega arith)
-
 pub one_number : (top : ℕ) → IsWithin top (whole (pos 1)) → IsNumber top (whole (pos 1))
 one_number top within = record { lowest = record { positive = omega arith; lowest = gcd-one 1 }; within = within }
 
@@ -132,7 +112,7 @@ negated_number top q is =
     }
 
 column_is : (top count row : ℕ) (z : ℤ) (q : Fraction) → z ≡ q.numerator → row < count → IsNumber top q →
-    q.numerator ≤ℤ pos 0 → Each (IsPart top count) (numbered (Row row) (unless_zero z q))
+    q.numerator ≤ℤ pos 0 → AllByRecursion (IsPart top count) (numbered (Row row) (unless_zero z q))
 column_is top count row (pos zero) q z_is row_in is low = tt
 column_is top count row (pos (suc n)) q z_is row_in is low = absurd (omega (arith, ints))
 column_is top count row (negsuc n) q z_is row_in is low =
@@ -140,18 +120,17 @@ column_is top count row (negsuc n) q z_is row_in is low =
 
 numbered_are : (top : ℕ) (costs : CostBox) (rows : List Form) (member : Member) (q : Fraction) →
     IsFormOf costs rows member → IsNumber top q → q.numerator ≤ℤ pos 0 →
-    Each (IsPart top (length rows)) (numbered member (unless_zero q.numerator q))
+    AllByRecursion (IsPart top (length rows)) (numbered member (unless_zero q.numerator q))
 numbered_are top costs rows (Low v bound) q is number low = tt
 numbered_are top costs rows (High v bound) q is number low = tt
 numbered_are top costs rows (Row row) q is number low = column_is top (length rows) row q.numerator q refl is number low
 
 abbrev pub AreLow : List Fraction → Type 0
-AreLow [] = Unit {0}
-AreLow (q ∷ qs) = (q.numerator ≤ℤ pos 0) × AreLow qs
+AreLow qs = AllByRecursion (λ q. q.numerator ≤ℤ pos 0) qs
 
 pub columns_are : (top : ℕ) (costs : CostBox) (rows : List Form) (members : List Member) (qs : List Fraction) →
     All (IsFormOf costs rows) members → AreNumbers top qs → AreLow qs →
-    Each (IsPart top (length rows)) (columns_numbered members qs)
+    AllByRecursion (IsPart top (length rows)) (columns_numbered members qs)
 columns_are top costs rows [] qs forms numbers low = tt
 columns_are top costs rows (member ∷ members) [] forms numbers low = tt
 columns_are top costs rows (member ∷ members) (q ∷ qs) forms numbers low =
@@ -160,12 +139,12 @@ columns_are top costs rows (member ∷ members) (q ∷ qs) forms numbers low =
     (columns_are top costs rows members qs (λ k d k_in. forms (suc k) d (omega arith)) numbers.1 low.1)
 
 pub own_is : (top : ℕ) (costs : CostBox) (rows : List Form) (r : Member) → IsFormOf costs rows r →
-    IsNumber top (whole (pos 1)) → Each (IsPart top (length rows)) (numbered r (whole (pos 1) ∷ []))
+    IsNumber top (whole (pos 1)) → AllByRecursion (IsPart top (length rows)) (numbered r (whole (pos 1) ∷ []))
 own_is top costs rows (Low v bound) is one = tt
 own_is top costs rows (High v bound) is one = tt
 own_is top costs rows (Row row) is one = (record { row = is; number = one; positive = omega (arith, ints) }, tt)
 
-pub numbers_of_parts : (top count : ℕ) (parts : List (ℕ × Fraction)) → Each (IsPart top count) parts → AllNumbers top parts
+pub numbers_of_parts : (top count : ℕ) (parts : List (ℕ × Fraction)) → AllByRecursion (IsPart top count) parts → AllNumbers top parts
 numbers_of_parts top count [] are = tt
 numbers_of_parts top count (part ∷ parts) are = (are.0.number, numbers_of_parts top count parts are.1)
 
@@ -174,7 +153,7 @@ pub fold_divides : (a : ℕ) (ds : List ℕ) → a ∣ fold lcm a ds
 fold_divides a [] = dvd_refl a
 fold_divides a (d ∷ ds) = dvd_trans a (left_divides_lcm a d) (fold_divides (lcm a d) ds)
 
-folded_divide : (a : ℕ) (parts : List (ℕ × Fraction)) → Each (λ part. part.1.denominator ∣ fold lcm a (denominators (fractions parts))) parts
+folded_divide : (a : ℕ) (parts : List (ℕ × Fraction)) → AllByRecursion (λ part. part.1.denominator ∣ fold lcm a (denominators (fractions parts))) parts
 folded_divide a [] = tt
 folded_divide a (part ∷ parts) =
     let rest = denominators (fractions parts) in (
@@ -183,14 +162,15 @@ folded_divide a (part ∷ parts) =
       folded_divide (lcm a part.1.denominator) parts,
     )
 
-pub common_divides : (parts : List (ℕ × Fraction)) → Each (λ part. part.1.denominator ∣ common_of parts) parts
+pub common_divides : (parts : List (ℕ × Fraction)) → AllByRecursion (λ part. part.1.denominator ∣ common_of parts) parts
 common_divides parts = folded_divide 1 parts
 
-fold_positive : (a : ℕ) (parts : List (ℕ × Fraction)) → 0 < a → Each (λ part. 0 < part.1.denominator) parts → 0 < fold lcm a (denominators (fractions parts))
+fold_positive : (a : ℕ) (parts : List (ℕ × Fraction)) → 0 < a → AllByRecursion (λ part. 0 < part.1.denominator) parts →
+    0 < fold lcm a (denominators (fractions parts))
 fold_positive a [] positive all = positive
 fold_positive a (part ∷ parts) positive all = fold_positive (lcm a part.1.denominator) parts (lcm_positive a part.1.denominator positive all.0) all.1
 
-pub common_positive : (top count : ℕ) (parts : List (ℕ × Fraction)) → Each (IsPart top count) parts → 0 < common_of parts
+pub common_positive : (top count : ℕ) (parts : List (ℕ × Fraction)) → AllByRecursion (IsPart top count) parts → 0 < common_of parts
 common_positive top count parts are =
     fold_positive 1 parts (omega arith) (each_weaker (IsPart top count) (λ part. 0 < part.1.denominator) parts (λ part is. is.number.lowest.positive) are)
 
@@ -242,8 +222,8 @@ made_column D L K d z m p stands whole_is p_is =
 -- a column's part, D-fold
 row_made : (D L row : ℕ) (z : ℤ) (q : Fraction) (m : ℤ) → z ≡ q.numerator → 0 < q.denominator → 0 < L →
     q.numerator ≤ℤ pos 0 → StandsFor q m D →
-    Each (λ part. part.1.denominator ∣ L) (numbered (Row row) (unless_zero z q)) →
-    Each (λ part. (pos D *ℤ pos (whole_part L part).1) ≡ neg_ℤ (m *ℤ pos L)) (numbered (Row row) (unless_zero z q))
+    AllByRecursion (λ part. part.1.denominator ∣ L) (numbered (Row row) (unless_zero z q)) →
+    AllByRecursion (λ part. (pos D *ℤ pos (whole_part L part).1) ≡ neg_ℤ (m *ℤ pos L)) (numbered (Row row) (unless_zero z q))
 row_made D L row (pos zero) q m z_is q_positive L_positive low stands divides = tt
 row_made D L row (pos (suc n)) q m z_is q_positive L_positive low stands divides = absurd (omega (arith, ints))
 row_made D L row (negsuc n) q m z_is q_positive L_positive low stands divides =
@@ -255,7 +235,7 @@ row_made D L row (negsuc n) q m z_is q_positive L_positive low stands divides =
 
 entry_is : (D L : ℕ) (member : Member) (q : Fraction) (m : ℤ) → 0 < q.denominator → 0 < D → 0 < L →
     q.numerator ≤ℤ pos 0 → StandsFor q m D →
-    Each (λ part. part.1.denominator ∣ L) (numbered member (unless_zero q.numerator q)) → IsEntry D L member q m
+    AllByRecursion (λ part. part.1.denominator ∣ L) (numbered member (unless_zero q.numerator q)) → IsEntry D L member q m
 entry_is D L (Low v bound) q m q_positive D_positive L_positive low stands divides =
     record {
       none = (zero_stands q m D q_positive D_positive stands).0;
@@ -277,7 +257,7 @@ entry_is D L (Row row) q m q_positive D_positive L_positive low stands divides =
 
 pub are_made : (top D L : ℕ) (members : List Member) (qs : List Fraction) (ms : List ℤ) → length members ≡ length qs →
     0 < D → 0 < L → AreNumbers top qs → AreLow qs → Stand D qs ms →
-    Each (λ part. part.1.denominator ∣ L) (columns_numbered members qs) → AreMade D L members qs ms
+    AllByRecursion (λ part. part.1.denominator ∣ L) (columns_numbered members qs) → AreMade D L members qs ms
 are_made top D L [] qs ms same D_positive L_positive numbers low stand divides = tt
 are_made top D L (member ∷ members) [] ms same D_positive L_positive numbers low stand divides = absurd (omega arith)
 are_made top D L (member ∷ members) (q ∷ qs) [] same D_positive L_positive numbers low stand divides = absurd stand
@@ -289,7 +269,7 @@ are_made top D L (member ∷ members) (q ∷ qs) (m ∷ ms) same D_positive L_po
 )
 
 -- the line's own part
-pub own_made : (L : ℕ) (r : Member) → 0 < L → Each (λ part. pos (whole_part L part).1 ≡ pos L) (numbered r (whole (pos 1) ∷ []))
+pub own_made : (L : ℕ) (r : Member) → 0 < L → AllByRecursion (λ part. pos (whole_part L part).1 ≡ pos L) (numbered r (whole (pos 1) ∷ []))
 own_made L (Low v bound) L_positive = tt
 own_made L (High v bound) L_positive = tt
 own_made L (Row row) L_positive =
@@ -299,9 +279,9 @@ own_made L (Row row) L_positive =
     one_times n = ring (pos (n / 1) ∷ []) (num (pos 1) ⊗ var 0) (var 0) refl ∙ ap pos (div-one n)
 
 -- all parts are whole and positive
-pub parts_whole : (top count L : ℕ) (parts : List (ℕ × Fraction)) → 0 < L → Each (IsPart top count) parts →
-    Each (λ part. part.1.denominator ∣ L) parts →
-    Each (λ part. (part.0 < count) × (0 < part.1)) (map (whole_part L) parts)
+pub parts_whole : (top count L : ℕ) (parts : List (ℕ × Fraction)) → 0 < L → AllByRecursion (IsPart top count) parts →
+    AllByRecursion (λ part. part.1.denominator ∣ L) parts →
+    AllByRecursion (λ part. (part.0 < count) × (0 < part.1)) (map (whole_part L) parts)
 parts_whole top count L [] L_positive are divide = tt
 parts_whole top count L (part ∷ parts) L_positive are divide = (
   (are.0.row, (made_natural part.1 L are.0.number.lowest.positive L_positive divide.0 are.0.positive).1),
@@ -309,12 +289,13 @@ parts_whole top count L (part ∷ parts) L_positive are divide = (
 )
 
 -- as fractions they are the multipliers, made whole
-wholes_of : (top count L : ℕ) (parts : List (ℕ × Fraction)) → 0 < L → Each (IsPart top count) parts →
-    Each (λ part. part.1.denominator ∣ L) parts → map (λ q. times q (whole (pos L))) (fractions parts)
+wholes_of : (top count L : ℕ) (parts : List (ℕ × Fraction)) → 0 < L → AllByRecursion (IsPart top count) parts →
+    AllByRecursion (λ part. part.1.denominator ∣ L) parts → map (λ q. times q (whole (pos L))) (fractions parts)
     ≡ wholes (map (whole_part L) parts)
 wholes_of top count L [] L_positive are divide = refl
 wholes_of top count L (part ∷ parts) L_positive are divide =
     cc ((made_natural part.1 L are.0.number.lowest.positive L_positive divide.0 are.0.positive).0, wholes_of top count L parts L_positive are.1 divide.1)
 
-pub wholes_are : (top count : ℕ) (parts : List (ℕ × Fraction)) → Each (IsPart top count) parts → made_whole (fractions parts) ≡ wholes (whole_parts parts)
+pub wholes_are : (top count : ℕ) (parts : List (ℕ × Fraction)) → AllByRecursion (IsPart top count) parts →
+    made_whole (fractions parts) ≡ wholes (whole_parts parts)
 wholes_are top count parts are = wholes_of top count (common_of parts) parts (common_positive top count parts are) are (common_divides parts)

@@ -1,12 +1,13 @@
 -- The rows of a line's multipliers are different, and sorted they rise; sums over them don't depend on the order.
 use Rattle.std.proofs.Common.{◌≡◌, ◌≢◌, ℕ, zero, suc, ◌+◌, ◌*◌, ◌<◌, ◌≤◌, cond, refl, sym, ◌∙◌, ap, subst, List, [], ◌∷◌, ◌++◌, map, length, arith, inl, inr}
 use Rattle.std.specs.Prelude.{ℤ, pos, negsuc, ◌+ℤ◌, ◌-ℤ◌, ◌*ℤ◌, ◌==◌, slice_index_or, sum_by}
-use Rattle.std.specs.List.{AllPairs}
+use Rattle.std.specs.List.{AllPairs, AllByRecursion}
 use Rattle.std.specs.List.Sorted.{IsNonDecreasingBy, IsPermutation}
 use Rattle.std.proofs.lemmas.Int.{ints}
 use Rattle.std.proofs.lemmas.Bool.{cases_eq}
 use Rattle.std.proofs.lemmas.List.Sorted.{sum_by-IsPermutation}
 use Rattle.std.proofs.lemmas.List.Sums.{sum_by-cons}
+use Rattle.cost_base.proofs.ListLemmas.{each_append}
 use borrow.Author.Differences.{up, down}
 use Rattle.whole_numbers.specs.Fractions.{Fraction}
 use Rattle.path_rows.specs.declared.form.Form.{Form}
@@ -15,9 +16,8 @@ use Rattle.path_rows.specs.declared.tree.Member.TheVariants.{Low, High, Row}
 use Rattle.path_rows.specs.Forms.{form_at, value, weighted}
 use Rattle.path_rows.specs.Steps.{unless_zero}
 use Rattle.path_rows.proofs.Weighted.{value-weighted}
-use Rattle.fraction_table.specs.Multipliers.{Different, Each, columns_numbered, numbered, whole_part}
+use Rattle.fraction_table.specs.Multipliers.{Different, columns_numbered, numbered, whole_part}
 use Rattle.fraction_rows.proofs.Columns.{other_test, same_test}
-use Rattle.fraction_table.proofs.MultiplierColumns.{each_append}
 
 -- no member is the other
 abbrev pub IsApart : Member → List Member → Type 0
@@ -27,16 +27,17 @@ IsApart member members = (k : ℕ) → k < length members → slice_index_or mem
 abbrev pub AreApart : List Member → Type 0
 AreApart members = (j k : ℕ) → j < k → k < length members → slice_index_or members k (Low 0 0) ≡ slice_index_or members j (Low 0 0) → ⊥
 
-row_other : (row other : ℕ) (qs : List Fraction) → other ≢ row → Each (λ p. p.0 ≢ row) (numbered (Row other) qs)
+row_other : (row other : ℕ) (qs : List Fraction) → other ≢ row → AllByRecursion (λ p. p.0 ≢ row) (numbered (Row other) qs)
 row_other row other [] apart = tt
 row_other row other (q ∷ qs) apart = (apart, row_other row other qs apart)
 
-member_other : (row : ℕ) (member : Member) (qs : List Fraction) → (member ≡ Row row → ⊥) → Each (λ p. p.0 ≢ row) (numbered member qs)
+member_other : (row : ℕ) (member : Member) (qs : List Fraction) → (member ≡ Row row → ⊥) → AllByRecursion (λ p. p.0 ≢ row) (numbered member qs)
 member_other row (Low v bound) qs apart = tt
 member_other row (High v bound) qs apart = tt
 member_other row (Row other) qs apart = row_other row other qs (λ same. apart (ap (λ (n : ℕ). Row n) same))
 
-pub columns_other : (row : ℕ) (members : List Member) (qs : List Fraction) → IsApart (Row row) members → Each (λ p. p.0 ≢ row) (columns_numbered members qs)
+pub columns_other : (row : ℕ) (members : List Member) (qs : List Fraction) → IsApart (Row row) members →
+    AllByRecursion (λ p. p.0 ≢ row) (columns_numbered members qs)
 columns_other row [] qs apart = tt
 columns_other row (member ∷ members) [] apart = tt
 columns_other row (member ∷ members) (q ∷ qs) apart =
@@ -46,7 +47,7 @@ columns_other row (member ∷ members) (q ∷ qs) apart =
 
 -- one member more
 member_first : (member : Member) (z : ℤ) (q : Fraction) (rest : List (ℕ × Fraction)) →
-    ((row : ℕ) → member ≡ Row row → Each (λ p. p.0 ≢ row) rest) → Different rest →
+    ((row : ℕ) → member ≡ Row row → AllByRecursion (λ p. p.0 ≢ row) rest) → Different rest →
     Different (numbered member (unless_zero z q) ++ rest)
 member_first (Low v bound) z q rest other different = different
 member_first (High v bound) z q rest other different = different
@@ -63,7 +64,7 @@ columns_different (member ∷ members) (q ∷ qs) apart =
     (columns_different members qs (λ j k before k_in. apart (suc j) (suc k) (omega arith) (omega arith)))
 
 own_first : (r : Member) (q : Fraction) (rest : List (ℕ × Fraction)) →
-    ((row : ℕ) → r ≡ Row row → Each (λ p. p.0 ≢ row) rest) → Different rest → Different (numbered r (q ∷ []) ++ rest)
+    ((row : ℕ) → r ≡ Row row → AllByRecursion (λ p. p.0 ≢ row) rest) → Different rest → Different (numbered r (q ∷ []) ++ rest)
 own_first (Low v bound) q rest other different = different
 own_first (High v bound) q rest other different = different
 own_first (Row row) q rest other different = (other row refl, different)
@@ -75,7 +76,7 @@ parts_different r q members qs own apart =
     (λ row is. columns_other row members qs (λ k k_in same. own k k_in (same ∙ sym is)))
     (columns_different members qs apart)
 
-whole_other : (L row : ℕ) (parts : List (ℕ × Fraction)) → Each (λ p. p.0 ≢ row) parts → Each (λ p. p.0 ≢ row) (map (whole_part L) parts)
+whole_other : (L row : ℕ) (parts : List (ℕ × Fraction)) → AllByRecursion (λ p. p.0 ≢ row) parts → AllByRecursion (λ p. p.0 ≢ row) (map (whole_part L) parts)
 whole_other L row [] other = tt
 whole_other L row (part ∷ parts) other = (other.0, whole_other L row parts other.1)
 
@@ -87,7 +88,7 @@ whole_different L (part ∷ parts) different = (whole_other L part.0 parts diffe
 abbrev pub one_of : ℕ → (ℕ × ℕ) → ℕ
 one_of row p = cond (p.0 == row) 1 0
 
-count_none : (row : ℕ) (ps : List (ℕ × ℕ)) → Each (λ p. p.0 ≢ row) ps → sum_by (one_of row) ps ≡ 0
+count_none : (row : ℕ) (ps : List (ℕ × ℕ)) → AllByRecursion (λ p. p.0 ≢ row) ps → sum_by (one_of row) ps ≡ 0
 count_none row [] other = refl
 count_none row (p ∷ ps) other =
     let none : one_of row p ≡ 0 = ap (λ b. cond b 1 0) (other_test p.0 row other.0) in
@@ -98,7 +99,7 @@ count_most row [] different = omega arith
 count_most row (p ∷ ps) different =
     elim (cases_eq p.0 row) [
       | inl same ↦
-          let none = count_none row ps (subst (λ (n : ℕ). Each (λ q. q.0 ≢ n) ps) same different.0) in
+          let none = count_none row ps (subst (λ (n : ℕ). AllByRecursion (λ q. q.0 ≢ n) ps) same different.0) in
           let one : one_of row p ≡ 1 = ap (λ b. cond b 1 0) (same_test p.0 row same) in
           omega (arith, sum_by-cons (one_of row) p ps, none, one)
       | inr other ↦

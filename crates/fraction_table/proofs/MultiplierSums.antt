@@ -1,6 +1,7 @@
 -- The rows of a stuck form, each times its multiplier, have a negative sum over the box.
 use Rattle.std.proofs.Common.{◌≡◌, ℕ, zero, suc, ◌<◌, refl, sym, ◌∙◌, ap, subst, List, [], ◌∷◌, ◌++◌, map, arith}
 use Rattle.std.specs.Prelude.{ℤ, pos, negsuc, ◌+ℤ◌, ◌*ℤ◌, neg_ℤ, ◌<ℤ◌, ◌≤ℤ◌}
+use Rattle.std.specs.List.{AllByRecursion}
 use Rattle.std.proofs.lemmas.Int.{ints}
 use Rattle.std.proofs.lemmas.List.{map-append}
 use Rattle.whole_numbers.specs.Fractions.{Fraction, negated, whole}
@@ -13,7 +14,7 @@ use Rattle.path_rows.specs.Forms.{form_at, value, weighted}
 use Rattle.path_rows.specs.Basis.{member_form}
 use Rattle.path_rows.specs.Steps.{unless_zero}
 use Rattle.path_rows.proofs.Weighted.{value-weighted}
-use Rattle.fraction_table.specs.Multipliers.{Each, columns_numbered, numbered, whole_part}
+use Rattle.fraction_table.specs.Multipliers.{columns_numbered, numbered, whole_part}
 use Rattle.fraction_table.proofs.theory.Corner.{sum_low, sum_negative}
 
 -- the values of members' forms at costs, each times its number
@@ -29,14 +30,13 @@ IsHigh n w (High v bound) = pos 0 ≤ℤ value (member_form n [] (High v bound))
 IsHigh n w (Row row) = Unit {0}
 
 abbrev pub AllHigh : ℕ → List ℕ → List Member → Type 0
-AllHigh n w [] = Unit {0}
-AllHigh n w (member ∷ members) = IsHigh n w member × AllHigh n w members
+AllHigh n w members = AllByRecursion (IsHigh n w) members
 
 -- What a column's entry q, which stands for m over D, is made to: a number whose D-fold is -m times the multiple.
 pub record IsEntry (D multiple : ℕ) (member : Member) (q : Fraction) (m : ℤ) : Type 0 where
   pub none : q.numerator ≡ pos 0 → m ≡ pos 0
   pub low : m ≤ℤ pos 0
-  pub made : Each (λ part. (pos D *ℤ pos (whole_part multiple part).1) ≡ neg_ℤ (m *ℤ pos multiple)) (numbered member (unless_zero q.numerator q))
+  pub made : AllByRecursion (λ part. (pos D *ℤ pos (whole_part multiple part).1) ≡ neg_ℤ (m *ℤ pos multiple)) (numbered member (unless_zero q.numerator q))
 
 abbrev pub AreMade : ℕ → ℕ → List Member → List Fraction → List ℤ → Type 0
 AreMade D multiple [] qs ms = Unit {0}
@@ -76,7 +76,7 @@ zero_more D L s m v r none rest =
 
 -- a row's column, by the numerator of its entry
 row_column : (D L row : ℕ) (rows : List Form) (w : List ℕ) (z : ℤ) (q : Fraction) (m : ℤ) (rest : List (ℕ × ℕ)) (r : ℤ) → (z ≡ pos 0 → m ≡ pos 0) →
-    Each (λ part. (pos D *ℤ pos (whole_part L part).1) ≡ neg_ℤ (m *ℤ pos L)) (numbered (Row row) (unless_zero z q)) →
+    AllByRecursion (λ part. (pos D *ℤ pos (whole_part L part).1) ≡ neg_ℤ (m *ℤ pos L)) (numbered (Row row) (unless_zero z q)) →
     ((pos D *ℤ value (weighted rows rest) w) +ℤ (pos L *ℤ r)) ≤ℤ pos 0 →
     ((pos D *ℤ value (weighted rows (map (whole_part L) (numbered (Row row) (unless_zero z q)) ++ rest)) w)
     +ℤ (pos L *ℤ ((m *ℤ value (form_at rows row) w) +ℤ r))) ≤ℤ pos 0
@@ -141,7 +141,7 @@ bound_negative D L v s m r L_positive below high equation rest =
 -- All parts of a stuck form have a negative sum, whether it is a row or a bound.
 pub parts_negative : (D L n : ℕ) (rows : List Form) (w : List ℕ) (r : Member) (basis : List Member) (qs : List Fraction)
     (m : ℤ) (ms : List ℤ) → 0 < L → m <ℤ pos 0 → IsHigh n w r → AllHigh n w basis → AreMade D L basis qs ms →
-    Each (λ part. pos (whole_part L part).1 ≡ pos L) (numbered r (whole (pos 1) ∷ [])) →
+    AllByRecursion (λ part. pos (whole_part L part).1 ≡ pos L) (numbered r (whole (pos 1) ∷ [])) →
     (pos D *ℤ value (member_form n rows r) w) ≡ (m +ℤ member_sum n rows w ms basis) →
     value (weighted rows (map (whole_part L) (numbered r (whole (pos 1) ∷ []) ++ columns_numbered basis qs))) w <ℤ pos 0
 parts_negative D L n rows w (Low v bound) basis qs m ms L_positive below high all_high made own equation =

@@ -1,6 +1,7 @@
 -- The constants rise at a pivot, and so does the table's rank.
 use Rattle.std.proofs.Common.{◌≡◌, ℕ, zero, suc, ◌+◌, ◌-◌, ◌*◌, ◌^◌, ◌<◌, ◌≤◌, refl, sym, ◌∙◌, ap, subst, List, [], ◌∷◌, map, length, arith, inl, inr}
 use Rattle.std.specs.Prelude.{ℤ, pos, negsuc, ◌+ℤ◌, ◌-ℤ◌, ◌*ℤ◌, ◌<ℤ◌, ◌≤ℤ◌, nat_abs, take, slice_index_or, slice_set}
+use Rattle.std.specs.List.{AllByRecursion}
 use Rattle.std.proofs.lemmas.Int.{ints}
 use Rattle.std.proofs.lemmas.List.{get_or-map, length-map, length-take-le}
 use native.Mathlib.Nat.{div-le_self, mul-le-mul_right}
@@ -18,7 +19,7 @@ use Rattle.fraction_rows.specs.Turns.{AreRows}
 use Rattle.fraction_table.specs.Wholes.{AllLong, IsWholeTable}
 use Rattle.fraction_table.specs.Pivots.{IsLeastIn, KeepsForms, line_at, line_numbers, member_at, numbers_in, turned_column}
 use Rattle.fraction_table.specs.Ranks.{digits_number, heights, past_heights, raised_height, rank}
-use Rattle.fraction_table.proofs.theory.Height.{AllBelow, digits_number-lt, digits_rise, height_rises}
+use Rattle.fraction_table.proofs.theory.Height.{digits_number-lt, digits_rise, height_rises}
 use Rattle.fraction_rows.proofs.RowLaws.{number_at as number_there, rows_at}
 use Rattle.fraction_table.proofs.theory.Turns.{turned_rows}
 use Rattle.fraction_table.proofs.theory.TurnedNumbers.{numbers_long}
@@ -157,7 +158,7 @@ height_small top q q_is =
 
 heights_small : (top n : ℕ) (lines : List (List Fraction)) →
     ((v : ℕ) → v < n → v < length lines → IsNumber top (entry (slice_index_or lines v []) 0)) →
-    AllBelow (past_heights top) (heights top n lines)
+    AllByRecursion (λ x. x < past_heights top) (heights top n lines)
 heights_small top zero lines each = tt
 heights_small top (suc n) [] each = tt
 heights_small top (suc n) (line ∷ lines) each = (

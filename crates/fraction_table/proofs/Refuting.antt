@@ -1,12 +1,14 @@
 -- The whole multipliers of a line that is stuck refute the box.
 use Rattle.std.proofs.Common.{◌≡◌, ℕ, zero, suc, ◌^◌, ◌<◌, ◌≤◌, refl, sym, ◌∙◌, ap, subst, List, [], ◌∷◌, map, take, length, drop, arith}
 use Rattle.std.specs.Prelude.{ℤ, pos, negsuc, ◌+ℤ◌, ◌*ℤ◌, ◌<ℤ◌, ◌≤ℤ◌, Result, Ok, Err, IfErr, IfOk, slice_index_or, sum_by, All}
+use Rattle.std.specs.List.{AllByRecursion}
 use Rattle.std.specs.List.Sorted.{IsPermutation}
 use Rattle.std.proofs.lemmas.Int.{ints}
 use Rattle.std.proofs.lemmas.List.{get_or-map, length-append, length-map}
 use Rattle.std.proofs.lemmas.List.Sorted.{All-permutation, length_permutation}
 use Prim.Native.Nat.{◌∣◌}
 use Rattle.cost_base.specs.Lists.{numbers_from}
+use Rattle.cost_base.proofs.ListLemmas.{each_from_places, each_append, each_right, each_weaker, all_from_each}
 use Rattle.whole_numbers.specs.Fractions.{Fraction, whole}
 use Rattle.whole_numbers.proofs.Ring.{var, num, ◌⊕◌, ◌⊗◌, ring}
 use Rattle.wide_fraction.specs.declared.steps.Wide.{Wide}
@@ -26,7 +28,7 @@ use Rattle.fraction_table.specs.declared.table.Table.{Table}
 use Rattle.fraction_table.specs.declared.stage.SimplexStop.{SimplexStop}
 use Rattle.fraction_table.specs.declared.stage.SimplexStop.TheVariants.{TooWide, OutOfMemory}
 use Rattle.fraction_rows.specs.Entries.{IsPassing}
-use Rattle.fraction_table.specs.Multipliers.{AreParts, Different, Each, IsMultiplierStep, IsPart, IsTallyStep, IsToldOf, IsWideMultiplier, columns_numbered, common_of, fractions, fractions_of, numbered, whole_part, whole_parts}
+use Rattle.fraction_table.specs.Multipliers.{AreParts, Different, IsMultiplierStep, IsPart, IsTallyStep, IsToldOf, IsWideMultiplier, columns_numbered, common_of, fractions, fractions_of, numbered, whole_part, whole_parts}
 use Rattle.fraction_table.specs.Multipliers.IsMultiplierStep.{multiple, product, tally}
 use Rattle.fraction_table.specs.Multipliers.IsTallyStep.{sum, scale}
 use Rattle.fraction_rows.specs.TableRows.{AreNumbers}
@@ -41,7 +43,7 @@ use Rattle.fraction_rows.proofs.RowLaws.{number_at as number_there, one_within}
 use Rattle.fraction_table.proofs.Solutions.{member_met, stuck_first}
 use Rattle.fraction_table.proofs.WholeTurns.{coefficients_long}
 use Rattle.fraction_table.proofs.MultiplierSums.{AllHigh, IsHigh, member_sum, parts_negative}
-use Rattle.fraction_table.proofs.MultiplierColumns.{AreLow, all_from_each, one_number, are_made, columns_are, common_divides, common_positive, each_append, each_right, each_weaker, fractions_are, own_is, own_made}
+use Rattle.fraction_table.proofs.MultiplierColumns.{AreLow, one_number, are_made, columns_are, common_divides, common_positive, fractions_are, own_is, own_made}
 use Rattle.fraction_table.proofs.WholeParts.{each_whole}
 use Rattle.fraction_table.proofs.MultiplierRows.{AreApart, IsApart, parts_different, value_moved}
 
@@ -80,13 +82,11 @@ all_high costs rows w (member ∷ members) inside are =
     (bound_high costs rows w member inside (are 0 member (omega arith)), all_high costs rows w members inside (λ k d k_in. are (suc k) d (omega arith)))
 
 -- the entries behind the constant
-low_entries : (qs : List Fraction) → ((k : ℕ) → k < length qs → (entry qs k).numerator ≤ℤ pos 0) → AreLow qs
-low_entries [] low = tt
-low_entries (q ∷ qs) low = (low 0 (omega arith), low_entries qs (λ k k_in. low (suc k) (omega arith)))
-
 rest_low : (count : ℕ) (es : List Fraction) → length es ≡ suc count → ((k : ℕ) → 1 ≤ k → k ≤ count → (entry es k).numerator ≤ℤ pos 0) → AreLow (drop 1 es)
 rest_low count [] counted low = tt
-rest_low count (e ∷ es) counted low = low_entries es (λ k k_in. low (suc k) (omega arith) (omega (arith, counted, k_in)))
+rest_low count (e ∷ es) counted low =
+    each_from_places (λ (q : Fraction). q.numerator ≤ℤ pos 0) es (whole (pos 0))
+    (λ k k_in. low (suc k) (omega arith) (omega (arith, counted, k_in)))
 
 rest_stand : (D : ℕ) (es : List Fraction) (m : ℤ) (ms : List ℤ) → Stand D es (m ∷ ms) → Stand D (drop 1 es) ms
 rest_stand D [] m ms stand = absurd stand
@@ -122,7 +122,7 @@ constant_low t line s =
     w.unboxed.positive l.numbers l.stand s.stuck.below
 
 -- each part is of a row, and positive
-pub parts_are : (t : Table) (line : ℕ) → IsStuckLine t line → Each (IsPart t.top (length t.rows.items)) (parts_at t line)
+pub parts_are : (t : Table) (line : ℕ) → IsStuckLine t line → AllByRecursion (IsPart t.top (length t.rows.items)) (parts_at t line)
 parts_are t line s =
     let w = s.whole in
     let es = line_at t line in
@@ -258,7 +258,8 @@ sum_negative t line s w inside =
     (all_high t.costs t.rows.items w t.basis.items inside whole_is.unboxed.members)
     made (own_made L r L_positive) (equation_is t line s w)
 
-pub whole_are : (t : Table) (line : ℕ) → IsStuckLine t line → Each (λ part. (part.0 < length t.rows.items) × (0 < part.1)) (whole_parts (parts_at t line))
+pub whole_are : (t : Table) (line : ℕ) → IsStuckLine t line →
+    AllByRecursion (λ part. (part.0 < length t.rows.items) × (0 < part.1)) (whole_parts (parts_at t line))
 whole_are t line s = each_whole t.top (length t.rows.items) (parts_at t line) (parts_are t line s)
 
 -- so there is a part

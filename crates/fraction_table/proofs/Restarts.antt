@@ -11,9 +11,9 @@ use Rattle.wide_fraction.specs.Widths.{IsTop}
 use Rattle.path_rows.specs.declared.tree.Member.{Member}
 use Rattle.path_rows.specs.declared.tree.Member.TheVariants.{Low, High}
 use Rattle.path_rows.specs.declared.form.Term.{Term}
-use Rattle.path_rows.specs.Forms.{terms_from, value}
+use Rattle.path_rows.specs.Forms.{terms_from, value, no_term}
 use Rattle.path_rows.proofs.TermLaws.{rising_from}
-use Rattle.fraction_rows.proofs.TermSums.{no_term, term_in}
+use Rattle.fraction_rows.proofs.TermSums.{term_in}
 use Rattle.path_rows.specs.Basis.{IsFormOf, entry, low_member, member_form, unit}
 use Rattle.fraction_rows.specs.TableRows.{AreNumbers, blank_row, nothing}
 use Rattle.fraction_rows.proofs.BlankRows.{blank_entry, blank_size, cleared_set}

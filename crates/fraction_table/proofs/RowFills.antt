@@ -1,9 +1,10 @@
 -- A line of zeros is filled from the left.
-use Rattle.std.proofs.Common.{◌≡◌, ℕ, zero, suc, ◌+◌, ◌-◌, ◌<◌, ◌≤◌, sym, ◌∙◌, ap, subst, List, ◌∷◌, map, length, arith, inl, inr}
+use Rattle.std.proofs.Common.{◌≡◌, ℕ, zero, suc, ◌+◌, ◌<◌, ◌≤◌, sym, ◌∙◌, ap, subst, List, ◌∷◌, map, length, arith, inl, inr}
 use Rattle.std.specs.Prelude.{ℤ, Result, Ok, Err, IfErr, OnOk, slice_set}
 use Rattle.std.proofs.lemmas.Bool.{cases_lt}
 use Rattle.std.proofs.lemmas.List.{get_or-set_other, get_or-set_same, length-set}
 use Rattle.cost_base.specs.Lists.{numbers_from}
+use Rattle.cost_base.proofs.ListLemmas.{each_mapped}
 use Rattle.whole_numbers.specs.Fractions.{Fraction}
 use Rattle.path_rows.specs.declared.form.Form.{Form}
 use Rattle.path_rows.specs.declared.form.CostBox.{CostBox}
@@ -15,7 +16,6 @@ use Rattle.fraction_table.specs.RowLines.{IsRowLine, IsRowStep, sum_at_place}
 use Rattle.fraction_rows.specs.Sums.{IsSumStep, sum_from}
 use Rattle.fraction_rows.specs.TableRows.{AreNumbers, IsNumber, blank_row, nothing}
 use Rattle.fraction_rows.proofs.BlankRows.{blank_entry, blank_size}
-use Rattle.fraction_rows.proofs.FilledRows.{numbers_mapped}
 use Rattle.fraction_rows.proofs.ZeroFractions.{nothing_number}
 use Rattle.fraction_rows.proofs.RowLaws.{written_numbers}
 
@@ -59,7 +59,7 @@ filled_first top costs form lines line new q blank q_is number new_is =
       long = blank_size (length costs.low);
       before = λ place place_in. absurd (omega (arith, place_in));
       after = λ place from. blank_entry (length costs.low) place;
-      numbers = (none, numbers_mapped top (λ column. nothing) (numbers_from 0 (length costs.low)) (λ k. none));
+      numbers = (none, each_mapped (IsNumber top) (λ (column : ℕ). nothing) (numbers_from 0 (length costs.low)) (λ k. none));
     }))
 
 -- a step of the sum at a place is a step of the line
@@ -108,7 +108,7 @@ started_line top costs form line new q blank q_is number new_is =
     (record {
       long = blank_size (length costs.low);
       starts = starts (length costs.low);
-      numbers = (number, numbers_mapped top (λ column. nothing) (numbers_from 0 (length costs.low)) (λ k. none));
+      numbers = (number, each_mapped (IsNumber top) (λ (column : ℕ). nothing) (numbers_from 0 (length costs.low)) (λ k. none));
     })
   where
     starts : (n place : ℕ) → entry (q ∷ map (λ column. nothing) (numbers_from 0 n)) place ≡ start_of_sum costs form place

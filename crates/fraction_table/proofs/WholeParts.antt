@@ -1,29 +1,30 @@
 -- Multipliers of different rows, made whole.
 use Rattle.std.proofs.Common.{◌≡◌, ℕ, ◌<◌, refl, sym, ap, subst, List, [], ◌∷◌, length, arith}
 use Rattle.std.specs.Prelude.{sum_by, All}
-use Rattle.std.specs.List.{AllPairs}
+use Rattle.std.specs.List.{AllPairs, AllByRecursion}
 use Rattle.std.specs.List.Sorted.{IsNonDecreasingBy, IsPermutation}
 use Rattle.std.proofs.lemmas.List.Sorted.{All-permutation}
 use Rattle.std.proofs.lemmas.List.Sums.{sum_by-cons}
+use Rattle.cost_base.proofs.ListLemmas.{each_weaker, all_from_each}
 use Rattle.whole_numbers.specs.Fractions.{Fraction}
 use Rattle.wide_fraction.specs.declared.steps.Wide.{Wide}
 use Rattle.fraction_rows.specs.Entries.{AllNumbers}
-use Rattle.fraction_table.specs.Multipliers.{AreParts, Each, IsMultiplierStep, IsPart, IsTallyStep, common_of, fractions, whole_parts, wholes}
+use Rattle.fraction_table.specs.Multipliers.{AreParts, IsMultiplierStep, IsPart, IsTallyStep, common_of, fractions, whole_parts, wholes}
 use Rattle.fraction_table.specs.Multipliers.IsMultiplierStep.{tally}
-use Rattle.fraction_table.proofs.MultiplierColumns.{all_from_each, common_divides, common_positive, each_weaker, numbers_of_parts, parts_whole, wholes_are}
+use Rattle.fraction_table.proofs.MultiplierColumns.{common_divides, common_positive, numbers_of_parts, parts_whole, wholes_are}
 use Rattle.fraction_table.proofs.MultiplierRows.{rises_strictly, whole_different}
 
 pub parts_numbers : (top : ℕ) (parts : List (ℕ × Fraction)) → AreParts top parts → AllNumbers top parts
 parts_numbers top parts p = numbers_of_parts top p.count parts p.each
 
-pub each_whole : (top count : ℕ) (parts : List (ℕ × Fraction)) → Each (IsPart top count) parts →
-    Each (λ part. (part.0 < count) × (0 < part.1)) (whole_parts parts)
+pub each_whole : (top count : ℕ) (parts : List (ℕ × Fraction)) → AllByRecursion (IsPart top count) parts →
+    AllByRecursion (λ part. (part.0 < count) × (0 < part.1)) (whole_parts parts)
 each_whole top count parts each =
     parts_whole top count (common_of parts) parts (common_positive top count parts each) each (common_divides parts)
 
 -- their sum is positive
 some_sum : (top count : ℕ) (parts : List (ℕ × Fraction)) (made : List (ℕ × ℕ)) → (parts ≡ [] → ⊥) →
-    made ≡ whole_parts parts → Each (λ part. (part.0 < count) × (0 < part.1)) made → 0 < sum_by (λ part. part.1) made
+    made ≡ whole_parts parts → AllByRecursion (λ part. (part.0 < count) × (0 < part.1)) made → 0 < sum_by (λ part. part.1) made
 some_sum top count [] made some made_are are = absurd (some refl)
 some_sum top count (part ∷ parts) [] some made_are are = absurd (omega (arith, ap length made_are))
 some_sum top count (part ∷ parts) (first ∷ made) some made_are are = omega (arith, sum_by-cons (λ (p : ℕ × ℕ). p.1) first made, are.0.1)

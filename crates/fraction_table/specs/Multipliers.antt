@@ -1,5 +1,6 @@
 -- The multipliers of rows, each with the number of its row.
 use Rattle.std.specs.Prelude.{◌≡◌, ◌≢◌, ℕ, ◌<◌, List, [], ◌∷◌, ◌++◌, pos, ◌<ℤ◌, nat_abs, map, take, drop, slice_get, Some}
+use Rattle.std.specs.List.{AllByRecursion}
 use Rattle.cost_base.specs.declared.StepName.TheVariants.{Add, Mul, Lcm, Scale}
 use Rattle.whole_numbers.specs.Fractions.{Fraction, sum_of, times, whole}
 use Rattle.wide_fraction.specs.declared.steps.Wide.{Wide}
@@ -72,15 +73,10 @@ abbrev pub IsToldOf : Table → SimplexStop → Type 0
 IsToldOf t (TooWide wide) = IsTooWide t.top t.costs t.rows.items (wide_at wide t.basis.items)
 IsToldOf t OutOfMemory = Unit {0}
 
--- each element is so
-abbrev pub Each : {X : Type 0} → (X → Type 0) → List X → Type 0
-Each P [] = Unit {0}
-Each P (x ∷ xs) = P x × Each P xs
-
 -- no two pairs have the same number
 abbrev pub Different : {X : Type 0} → List (ℕ × X) → Type 0
 Different [] = Unit {0}
-Different (p ∷ ps) = Each (λ q. q.0 ≢ p.0) ps × Different ps
+Different (p ∷ ps) = AllByRecursion (λ q. q.0 ≢ p.0) ps × Different ps
 
 -- What each multiplier is: that of one of the rows, a number of the table, and positive.
 pub record IsPart (top count : ℕ) (part : ℕ × Fraction) : Type 0 where
@@ -91,6 +87,6 @@ pub record IsPart (top count : ℕ) (part : ℕ × Fraction) : Type 0 where
 -- multipliers of different rows, at least one
 pub record AreParts (top : ℕ) (parts : List (ℕ × Fraction)) : Type 0 where
   pub count : ℕ
-  pub each : Each (IsPart top count) parts
+  pub each : AllByRecursion (IsPart top count) parts
   pub different : Different parts
   pub some : parts ≢ []

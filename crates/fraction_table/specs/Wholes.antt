@@ -1,6 +1,6 @@
 -- What a table holds, in numbers over one common denominator.
 use Rattle.std.specs.Prelude.{◌≡◌, ◌≢◌, ℕ, zero, suc, ◌+◌, ◌^◌, ◌<◌, ◌≤◌, List, [], ◌∷◌, ◌++◌, ℤ, pos, ◌+ℤ◌, ◌*ℤ◌, ◌≤ℤ◌, map, length, slice_index, slice_index_or, All}
-use Rattle.std.specs.List.{AllZip}
+use Rattle.std.specs.List.{AllZip, AllByRecursion}
 use Rattle.cost_base.specs.Lists.{numbers_from}
 use Rattle.whole_numbers.specs.Fractions.{Fraction, StandsFor, whole}
 use Rattle.whole_numbers.specs.Lists.{number_at}
@@ -35,8 +35,7 @@ abbrev pub numbers_of : ℕ → ℕ → List ℕ → List (List ℤ) → Form �
 numbers_of n D low rows f = map (number_of D low rows f) (numbers_from 0 (suc n))
 
 abbrev pub AllLong : ℕ → List (List ℤ) → Type 0
-AllLong n [] = Unit {0}
-AllLong n (ts ∷ rows) = (length ts ≡ n) × AllLong n rows
+AllLong n rows = AllByRecursion (λ ts. length ts ≡ n) rows
 
 -- each form is the mixture of the basis by its numbers
 abbrev pub AreMixtures : ℕ → List Form → List Form → List (List ℤ) → Type 0

@@ -10,9 +10,10 @@ use Rattle.whole_numbers.proofs.FractionLaws.{cancel}
 use Rattle.whole_numbers.proofs.Orders.{scaled_cmp, opposite_product, negative_product, negative_factor}
 use lib.IntN.{zero-*ℤ}
 use Rattle.std.specs.Ordering.{int_cmp}
+use Rattle.cost_base.specs.Lists.{Has}
 use Rattle.whole_numbers.specs.Lists.{number_at}
 use Rattle.integer_pivots.specs.Numbers.{AllWithin}
-use Rattle.integer_pivots.specs.Choices.{AreLatest, AreLeast, Has, IsPositiveAt, crosswise}
+use Rattle.integer_pivots.specs.Choices.{AreLatest, AreLeast, IsPositiveAt, crosswise}
 
 -- products of small numbers fit
 small_product : (xs ys : List ℤ) (i j : ℕ) → AllWithin (2 ^ 22) xs → AllWithin (2 ^ 22) ys → i < length xs →

@@ -3,7 +3,7 @@ use Rattle.std.proofs.Common.{◌≡◌, ℕ, zero, suc, ◌+◌, ◌^◌, ◌<�
 use Rattle.std.specs.Prelude.{ℤ, pos, negsuc, nat_abs, sum_by}
 use Rattle.std.proofs.lemmas.List.Sums.{sum_by-cons}
 use Rattle.path_rows.specs.declared.form.Term.{Term}
-use Rattle.path_rows.specs.Forms.{terms_from}
+use Rattle.path_rows.specs.Forms.{terms_from, no_term}
 
 abbrev pub term_size : Term → ℕ
 term_size t = nat_abs t.coefficient
@@ -32,9 +32,6 @@ pub rest_weight : (ts : List Term) (index : ℕ) (d : Term) → index < length t
 rest_weight ts index d index_in =
     let e : drop index ts ≡ get_or ts index d ∷ drop (index + 1) ts = rw (add-one, drop-cons ts index d) refl in
     ap (sum_by term_size) e ∙ sum_by-cons term_size (get_or ts index d) (drop (index + 1) ts)
-
-abbrev pub no_term : Term
-no_term = record { var = 0; coefficient = pos 0 }
 
 -- each term is within the weight of all
 pub weighs : (ts : List Term) (index : ℕ) (d : Term) → index < length ts → nat_abs (get_or ts index d).coefficient ≤ sum_by term_size ts

@@ -8,11 +8,10 @@ use Rattle.std.proofs.lemmas.List.Elements.{All-cons, All-nil}
 use Rattle.whole_numbers.specs.Lists.{number_at}
 use Rattle.path_rows.specs.declared.form.Form.{Form}
 use Rattle.path_rows.specs.declared.form.Term.{Term}
-use Rattle.path_rows.specs.Forms.{terms_from, terms_of}
+use Rattle.path_rows.specs.Forms.{terms_from, terms_of, no_term}
 use Rattle.path_rows.proofs.TermLaws.{rising_from, term_coefficient, term_or_zero, terms_known}
 use Rattle.integer_pivots.specs.declared.uses.Use.{Use}
 use Rattle.integer_pivots.specs.Uses.{held_in, use_of}
-use Rattle.integer_pivots.proofs.Terms.{no_term}
 
 -- no term has coefficient 0
 pub some_from : (first : ℕ) (cs : List ℤ) → All (λ t. t.coefficient ≢ pos 0) (terms_from first cs)

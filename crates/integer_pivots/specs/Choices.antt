@@ -1,11 +1,7 @@
 -- How columns are narrowed down: to those that lead latest, and to those in which numbers are least.
-use Rattle.std.specs.Prelude.{◌≡◌, ℕ, ◌<◌, ◌⊎◌, List, [], ◌∷◌, ℤ, pos, ◌*ℤ◌, ◌<ℤ◌, length, slice_index}
+use Rattle.std.specs.Prelude.{◌≡◌, ℕ, ◌<◌, ◌⊎◌, List, ℤ, pos, ◌*ℤ◌, ◌<ℤ◌, length, slice_index}
+use Rattle.cost_base.specs.Lists.{Has}
 use Rattle.whole_numbers.specs.Lists.{number_at}
-
--- the column is one of these
-abbrev pub Has : List ℕ → ℕ → Type 0
-Has [] c = ⊥
-Has (x ∷ xs) c = (c ≡ x) ⊎ Has xs c
 
 -- the line is positive in the column
 abbrev pub IsPositiveAt : List ℤ → ℕ → Type 0

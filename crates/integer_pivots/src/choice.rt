@@ -2,7 +2,8 @@
 ghost use Rattle.std.specs.Prelude.{◌≡◌, ℕ, ◌+◌, ◌^◌, ◌<◌, ◌≤◌, pos, ◌<ℤ◌, length, take, vec_capacity, vec_len};
 ghost use Rattle.std.specs.Ordering.{int_cmp};
 ghost use Rattle.whole_numbers.specs.Lists.{number_at};
-ghost use Rattle.integer_pivots.specs.Choices.{AreLatest, AreLeast, Has, IsPositiveAt, crosswise};
+ghost use Rattle.cost_base.specs.Lists.{Has};
+ghost use Rattle.integer_pivots.specs.Choices.{AreLatest, AreLeast, IsPositiveAt, crosswise};
 ghost use Rattle.integer_pivots.specs.Numbers.{AllWithin};
 
 use std::cmp::Ordering;

@@ -1,15 +1,13 @@
 -- Laws of a list of forms as a source.
-use Rattle.std.proofs.Common.{◌≡◌, ℕ, zero, suc, ◌+◌, ◌*◌, ◌^◌, ◌<◌, ◌≤◌, refl, sym, ◌∙◌, subst, ap, List, [], ◌∷◌, map, length, arith}
-use Rattle.std.specs.Prelude.{ℤ, pos, negsuc, ◌+ℤ◌, ◌*ℤ◌, ◌≤ℤ◌, nat_abs, slice_index_or, All, Contains, sum_by}
-use Rattle.std.proofs.lemmas.Int.{ints}
+use Rattle.std.proofs.Common.{◌≡◌, ℕ, zero, suc, ◌*◌, ◌^◌, ◌<◌, ◌≤◌, refl, subst, List, [], ◌∷◌, map, length, arith}
+use Rattle.std.specs.Prelude.{ℤ, pos, negsuc, ◌*ℤ◌, ◌≤ℤ◌, nat_abs, slice_index_or, All, Contains, sum_by}
 use Rattle.std.proofs.lemmas.List.Sums.{sum_by-cons}
 use Rattle.std.proofs.lemmas.List.Elements.{All-nil, All-cons, All-tail}
-use Rattle.whole_numbers.proofs.Ring.{var, num, ◌⊕◌, ◌⊗◌, ring, ring_by, nothing, using}
+use Rattle.whole_numbers.proofs.Ring.{var, num, ◌⊕◌, ◌⊗◌, ring_by, nothing, using}
 use Rattle.fraction_table.proofs.Solutions.{high_number}
-use Rattle.area_graph.specs.declared.Point.{Point}
 use Rattle.area_graph.specs.Costs.{at_costs}
 use Rattle.path_rows.specs.declared.form.Term.{Term}
-use Rattle.path_rows.specs.Forms.{Form, dot, size_of, terms_from, terms_of, value, value_at, AreMet}
+use Rattle.path_rows.specs.Forms.{Form, dot, size_of, terms_from, terms_of, value_at, AreMet, no_term}
 use Rattle.path_rows.proofs.FormSizes.{value_size}
 use Rattle.path_rows.proofs.TermLaws.{sizes_from}
 use Rattle.path_rows.proofs.AtCosts.{dot_scaled}
@@ -20,12 +18,12 @@ each_coefficient : (P : ℤ → Type 0) (first : ℕ) (cs : List ℤ) → P (pos
 each_coefficient P first [] none each = All-nil P
 each_coefficient P first (pos zero ∷ cs) none each = All-cons P (pos zero) cs none (each_coefficient P (suc first) cs none each)
 each_coefficient P first (pos (suc n) ∷ cs) none each =
-    All-cons P (pos (suc n)) cs (each 0 (record { var = 0; coefficient = pos 0 }) (omega arith))
+    All-cons P (pos (suc n)) cs (each 0 no_term (omega arith))
     (each_coefficient P (suc first) cs none
     (All-tail (λ (t : Term). P t.coefficient) (record { var = first; coefficient = pos (suc n) })
     (terms_from (suc first) cs) each))
 each_coefficient P first (negsuc n ∷ cs) none each =
-    All-cons P (negsuc n) cs (each 0 (record { var = 0; coefficient = pos 0 }) (omega arith))
+    All-cons P (negsuc n) cs (each 0 no_term (omega arith))
     (each_coefficient P (suc first) cs none
     (All-tail (λ (t : Term). P t.coefficient) (record { var = first; coefficient = negsuc n })
     (terms_from (suc first) cs) each))

@@ -112,10 +112,8 @@ impl FormList {
         if !is_tiny(&form, self.variables) {
             return Ok(false);
         }
-        match self.forms.push(form) {
-            Ok(()) => Ok(true),
-            Err(_) => Err(OutOfMemory),
-        }
+        self.forms.push(form)?;
+        Ok(true)
     }
 
     /// Adds the form at a place to the pool, where it is negative at the point.

@@ -1,5 +1,5 @@
 -- The moves of a lower bound and of an upper one.
-use Rattle.std.proofs.Common.{◌≡◌, ℕ, ◌+◌, ◌*◌, ◌^◌, ◌<◌, sym, ◌∙◌, ap, subst, List, map, length, arith}
+use Rattle.std.proofs.Common.{◌≡◌, ℕ, ◌+◌, ◌*◌, ◌^◌, ◌<◌, sym, ◌∙◌, ap, subst, List, map, length, arith, drop}
 use Rattle.std.specs.Prelude.{ℤ, pos, ◌-ℤ◌, ◌*ℤ◌, Option, None, Some, nat_abs, slice_index, slice_set}
 use Rattle.path_rows.specs.declared.form.CostBox.{CostBox}
 use Rattle.path_rows.specs.declared.tree.Member.{Member}
@@ -21,15 +21,16 @@ use Rattle.table_kernel.specs.Moves.{IsShifted, KeepsOthers}
 use Rattle.table_kernel.specs.Turns.{MayMove, step_of}
 use Rattle.table_kernel.proofs.Columns.{lows_few}
 use Rattle.table_kernel.proofs.MovedConstants.{room_left}
-use Rattle.table_kernel.proofs.MovedKernels.{IsKernelMove, moved_moving, rest, rest_lowered, rest_lows, rest_raised}
+use Rattle.table_kernel.proofs.MovedKernels.{IsKernelMove, moved_moving, rest_lowered, rest_lows, rest_raised}
 
 -- how many forms a kernel has
 pub forms_many : (k : Kernel) → IsMoving k → length k.constants.items ≡ width_of k + width_of k + length k.table.rows.items
 forms_many k m = m.shaped.constants ∙ members_long k.table.costs (length k.table.rows.items)
 
-rest_moved : (k : Kernel) (m : IsMoving k) (column : Option ℕ) (fall : ℤ) → map rest (raised_rows column fall m.unboxed.lows) ≡ k.lows.items
-rest_moved k m None fall = ap (map rest) m.numbers.lows ∙ rest_lows k.constants.items k.lows.items (lows_few k m.shaped)
-rest_moved k m (Some j) fall = rest_raised j fall m.unboxed.lows ∙ ap (map rest) m.numbers.lows ∙ rest_lows k.constants.items k.lows.items (lows_few k m.shaped)
+rest_moved : (k : Kernel) (m : IsMoving k) (column : Option ℕ) (fall : ℤ) → map (drop 1) (raised_rows column fall m.unboxed.lows) ≡ k.lows.items
+rest_moved k m None fall = ap (map (drop 1)) m.numbers.lows ∙ rest_lows k.constants.items k.lows.items (lows_few k m.shaped)
+rest_moved k m (Some j) fall =
+    rest_raised j fall m.unboxed.lows ∙ ap (map (drop 1)) m.numbers.lows ∙ rest_lows k.constants.items k.lows.items (lows_few k m.shaped)
 
 low_move_of : (k : Kernel) (m : IsMoving k) (v bound : ℕ) (column : Option ℕ) → v < width_of k →
     IsColumnOf k.table.basis.items (Low v (slice_index k.table.costs.low v)) column →

@@ -4,13 +4,14 @@ use Rattle.std.specs.Prelude.{ℤ, None, Some, pos, negsuc, ◌*ℤ◌, ◌<ℤ�
 use Rattle.std.proofs.lemmas.Int.{ints}
 use Rattle.std.proofs.lemmas.List.{get_or_default}
 use Rattle.std.proofs.lemmas.Bool.{cases_eq}
+use Rattle.cost_base.specs.Lists.{Has}
 use lib.IntN.{zero-*ℤ}
 use Rattle.whole_numbers.proofs.FractionLaws.{product_positive}
 use Rattle.whole_numbers.specs.Lists.{number_at}
 use Rattle.path_rows.specs.Basis.{LeadsPositive}
 use Rattle.fraction_table.specs.Pivots.{LeadsNoNegative, numbers_in, turned_column}
 use Rattle.fraction_table.proofs.ColumnOrders.{prefix_leads, zeros_lead, column_at, column_long, level_zero, greater_rise}
-use Rattle.integer_pivots.specs.Choices.{AreLatest, AreLeast, Has, IsPositiveAt, crosswise}
+use Rattle.integer_pivots.specs.Choices.{AreLatest, AreLeast, IsPositiveAt, crosswise}
 use Rattle.integer_pivots.specs.Leads.{AreLeads, IsLead}
 use Rattle.integer_pivots.specs.Numbers.{AllWithin}
 use Rattle.integer_pivots.proofs.Narrowing.{has_at}

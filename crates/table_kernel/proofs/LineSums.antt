@@ -6,11 +6,12 @@ use Rattle.std.proofs.lemmas.List.{at_drop_all, get_or-map}
 use Rattle.whole_numbers.specs.Lists.{number_at}
 use Rattle.whole_numbers.proofs.Sizes.{sum_size}
 use Rattle.path_rows.specs.declared.form.Term.{Term}
-use Rattle.path_rows.specs.Forms.{terms_from}
+use Rattle.path_rows.specs.Forms.{terms_from, no_term}
 use Rattle.path_rows.proofs.TermLaws.{total, total_from, total_is, total_more}
 use Rattle.integer_pivots.specs.Numbers.{AllWithin, more_sums, product_sum}
+use Rattle.integer_pivots.proofs.Crossings.{product_small}
 use Rattle.integer_pivots.proofs.Sizes.{product_size, read, read_number}
-use Rattle.integer_pivots.proofs.Terms.{no_term, rest_weight, term_size, terms_weight}
+use Rattle.integer_pivots.proofs.Terms.{rest_weight, term_size, terms_weight}
 use Rattle.integer_pivots.proofs.PartSums.{more_at}
 
 -- a variable's part of the sum
@@ -29,33 +30,47 @@ none_adds z = omega (arith, ints)
 pub sum_by_terms : (cs zs : List ℤ) → length cs ≤ length zs → total (product_at zs) (terms_from 0 cs) ≡ product_sum cs zs
 sum_by_terms cs zs counted = total_is (product_at zs) (λ v. none_adds (number_at zs v)) 0 cs ∙ sums_from 0 cs zs (omega arith)
 
--- with the rest of the terms the sum is the whole one, and there is room for the rest
-pub record IsSummed (zs : List ℤ) (ts : List Term) (index : ℕ) (sum : ℤ) : Type 0 where
+-- with the rest of the terms the sum is the whole one, and below the most there is room for the rest, each number of which
+-- is within a factor
+pub record IsPartSum (factor most : ℕ) (zs : List ℤ) (ts : List Term) (index : ℕ) (sum : ℤ) : Type 0 where
   pub so_far : (sum +ℤ total (product_at zs) (drop index ts)) ≡ total (product_at zs) ts
-  pub size : nat_abs sum + sum_by term_size (drop index ts) * 2 ^ 22 ≤ 2 ^ 44
+  pub size : nat_abs sum + sum_by term_size (drop index ts) * factor ≤ most
 
-pub summed_first : (zs : List ℤ) (ts : List Term) (cs : List ℤ) → ts ≡ terms_from 0 cs → sum_by nat_abs cs ≤ 2 ^ 22 → IsSummed zs ts 0 (pos 0)
-summed_first zs ts cs terms light =
+-- the sum of a line's numbers has 44 bits where each is within 22
+abbrev pub IsSummed : List ℤ → List Term → ℕ → ℤ → Type 0
+IsSummed zs ts index sum = IsPartSum (2 ^ 22) (2 ^ 44) zs ts index sum
+
+pub summed_first : (factor most : ℕ) (zs : List ℤ) (ts : List Term) (cs : List ℤ) → ts ≡ terms_from 0 cs →
+    sum_by nat_abs cs * factor ≤ most → IsPartSum factor most zs ts 0 (pos 0)
+summed_first factor most zs ts cs terms light =
     let weight : sum_by term_size ts ≡ sum_by nat_abs cs = ap (sum_by term_size) terms ∙ terms_weight 0 cs in
-    record { so_far = omega (arith, ints); size = omega (arith, weight, light) }
+    let room : sum_by term_size ts * factor ≤ most = subst (λ (n : ℕ). n * factor ≤ most) (sym weight) light in
+    record { so_far = omega (arith, ints); size = omega (arith, room) }
 
--- a term's coefficient is small, and so is its product
-pub term_small : (zs : List ℤ) (ts : List Term) (index : ℕ) (d : Term) (sum : ℤ) → index < length ts →
-    IsSummed zs ts index sum → nat_abs (get_or ts index d).coefficient ≤ 2 ^ 22
-term_small zs ts index d sum index_in s = omega (arith, rest_weight ts index d index_in, s.size)
+-- a term's part is within what is left of the room
+pub term_part : (factor most : ℕ) (zs : List ℤ) (ts : List Term) (index : ℕ) (d : Term) (sum : ℤ) → index < length ts →
+    IsPartSum factor most zs ts index sum → nat_abs sum + nat_abs (get_or ts index d).coefficient * factor ≤ most
+term_part factor most zs ts index d sum index_in s =
+    let left : sum_by term_size (drop index ts) * factor ≡ (nat_abs (get_or ts index d).coefficient + sum_by term_size (drop (index + 1) ts)) * factor =
+    ap (λ (n : ℕ). n * factor) (rest_weight ts index d index_in) in
+    omega (arith, left, s.size)
 
-pub summed_more : (zs : List ℤ) (ts : List Term) (index : ℕ) (d : Term) (sum : ℤ) → index < length ts →
-    nat_abs (number_at zs (get_or ts index d).var) ≤ 2 ^ 22 → IsSummed zs ts index sum →
-    IsSummed zs ts (index + 1) (sum +ℤ ((get_or ts index d).coefficient *ℤ number_at zs (get_or ts index d).var))
-summed_more zs ts index d sum index_in small s =
+pub summed_more : (factor most : ℕ) (zs : List ℤ) (ts : List Term) (index : ℕ) (d : Term) (sum : ℤ) → index < length ts →
+    nat_abs (number_at zs (get_or ts index d).var) ≤ factor → IsPartSum factor most zs ts index sum →
+    IsPartSum factor most zs ts (index + 1) (sum +ℤ ((get_or ts index d).coefficient *ℤ number_at zs (get_or ts index d).var))
+summed_more factor most zs ts index d sum index_in small s =
     let t = get_or ts index d in
     let more = total_more (product_at zs) ts index d index_in in
-    let here = product_size t.coefficient (number_at zs t.var) small in
+    let here = product_small (nat_abs t.coefficient) factor t.coefficient (number_at zs t.var) (omega arith) small in
     let both = sum_size sum (t.coefficient *ℤ number_at zs t.var) in
-    record {
-      so_far = omega (arith, ints, more, s.so_far);
-      size = omega (arith, rest_weight ts index d index_in, s.size, here, both);
-    }
+    let left : sum_by term_size (drop index ts) * factor ≡ (nat_abs t.coefficient + sum_by term_size (drop (index + 1) ts)) * factor =
+    ap (λ (n : ℕ). n * factor) (rest_weight ts index d index_in) in
+    record { so_far = omega (arith, ints, more, s.so_far); size = omega (arith, left, s.size, here, both) }
+
+-- a term's coefficient is small, and so is its product
+term_small : (zs : List ℤ) (ts : List Term) (index : ℕ) (d : Term) (sum : ℤ) → index < length ts →
+    IsSummed zs ts index sum → nat_abs (get_or ts index d).coefficient ≤ 2 ^ 22
+term_small zs ts index d sum index_in s = omega (arith, term_part (2 ^ 22) (2 ^ 44) zs ts index d sum index_in s)
 
 -- no step is wide
 pub step_small : (zs : List ℤ) (ts : List Term) (index : ℕ) (d : Term) (sum : ℤ) → index < length ts →
@@ -64,12 +79,14 @@ pub step_small : (zs : List ℤ) (ts : List Term) (index : ℕ) (d : Term) (sum 
     × (nat_abs (sum +ℤ ((get_or ts index d).coefficient *ℤ number_at zs (get_or ts index d).var)) ≤ 2 ^ 44)
 step_small zs ts index d sum index_in small s =
     let t = get_or ts index d in
-    let here = product_size t.coefficient (number_at zs t.var) small in
-    (omega (arith, here, rest_weight ts index d index_in, s.size), omega (arith, (summed_more zs ts index d sum index_in small s).size))
+    let here = product_size t.coefficient (number_at zs t.var) small in (
+      omega (arith, here, term_part (2 ^ 22) (2 ^ 44) zs ts index d sum index_in s),
+      omega (arith, (summed_more (2 ^ 22) (2 ^ 44) zs ts index d sum index_in small s).size),
+    )
 
-pub summed_all : (zs : List ℤ) (ts : List Term) (index : ℕ) (sum : ℤ) (cs : List ℤ) → length ts ≤ index →
-    ts ≡ terms_from 0 cs → length cs ≤ length zs → IsSummed zs ts index sum → sum ≡ product_sum cs zs
-summed_all zs ts index sum cs past terms counted s =
+pub summed_all : (factor most : ℕ) (zs : List ℤ) (ts : List Term) (index : ℕ) (sum : ℤ) (cs : List ℤ) → length ts ≤ index →
+    ts ≡ terms_from 0 cs → length cs ≤ length zs → IsPartSum factor most zs ts index sum → sum ≡ product_sum cs zs
+summed_all factor most zs ts index sum cs past terms counted s =
     let none : total (product_at zs) (drop index ts) ≡ pos 0 = at_drop_all (total (product_at zs)) ts index past in
     let whole : total (product_at zs) ts ≡ product_sum cs zs = ap (total (product_at zs)) terms ∙ sum_by_terms cs zs counted in
     omega (arith, ints, s.so_far, none, whole)
@@ -96,7 +113,7 @@ term_step zs ts index sum z index_in is small s =
       subst (IsSummed zs ts (index + 1))
           (sym (read_number (sum +ℤ read (read c *ℤ read z))
           (let e : nat_abs (sum +ℤ read (read c *ℤ read z)) < 2 ^ 63 = omega (arith, next) in e) ∙ whole))
-          (summed_more zs ts index no_term sum index_in small_there s),
+          (summed_more (2 ^ 22) (2 ^ 44) zs ts index no_term sum index_in small_there s),
     )
 
 -- a variable's number at a column, as code reads it
@@ -140,4 +157,4 @@ sums_step lows ts index line new row d column index_in var_in is long small ligh
     ∙ ap (λ (y : ℤ). number_at line column +ℤ (y *ℤ number_at row column))
     (read_number t.coefficient (let e : nat_abs t.coefficient < 2 ^ 63 = omega (arith, light) in e))
     ∙ ap (λ (y : ℤ). number_at line column +ℤ (t.coefficient *ℤ y)) (sym number.0) in
-    subst (IsSummed zs ts (index + 1)) (sym now) (summed_more zs ts index no_term (number_at line column) index_in small_there s)
+    subst (IsSummed zs ts (index + 1)) (sym now) (summed_more (2 ^ 22) (2 ^ 44) zs ts index no_term (number_at line column) index_in small_there s)

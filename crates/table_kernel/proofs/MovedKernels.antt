@@ -1,5 +1,5 @@
 -- A kernel after one bound moved.
-use Rattle.std.proofs.Common.{◌≡◌, ◌≢◌, ℕ, zero, suc, ◌+◌, ◌*◌, ◌^◌, ◌<◌, ◌≤◌, refl, sym, ◌∙◌, ap, subst, List, [], ◌∷◌, map, length, arith, inl, inr}
+use Rattle.std.proofs.Common.{◌≡◌, ◌≢◌, ℕ, zero, suc, ◌+◌, ◌*◌, ◌^◌, ◌<◌, ◌≤◌, refl, sym, ◌∙◌, ap, subst, List, [], ◌∷◌, map, length, arith, inl, inr, drop}
 use Rattle.std.specs.Prelude.{ℤ, pos, ◌+ℤ◌, ◌-ℤ◌, ◌*ℤ◌, ◌<ℤ◌, ◌≤ℤ◌, Option, None, Some, nat_abs, slice_index_or, All}
 use Rattle.std.proofs.lemmas.Bool.{cases_eq}
 use Rattle.std.proofs.lemmas.List.{get_or-map, length-map}
@@ -36,29 +36,24 @@ use Rattle.table_kernel.proofs.AtBasis.{AreAtBasis, ConstantsAre, basis_moving}
 use Rattle.table_kernel.proofs.Columns.{column_number, lows_few, place_is}
 use Rattle.table_kernel.proofs.MovedConstants.{length-shifted, shifted_other, shifted_own, shifted_within, shifted_zero, slope_in}
 
--- the numbers at the columns, without the constant
-abbrev pub rest : List ℤ → List ℤ
-rest [] = []
-rest (t ∷ ts) = ts
-
-pub rest_lows : (cs : List ℤ) (rows : List (List ℤ)) → length rows ≤ length cs → map rest (lows_by cs rows) ≡ rows
+pub rest_lows : (cs : List ℤ) (rows : List (List ℤ)) → length rows ≤ length cs → map (drop 1) (lows_by cs rows) ≡ rows
 rest_lows cs [] few = refl
 rest_lows [] (row ∷ rows) few = absurd (omega arith)
 rest_lows (z ∷ cs) (row ∷ rows) few = ap (λ (rs : List (List ℤ)). row ∷ rs) (rest_lows cs rows (omega arith))
 
-pub rest_raised : (j : ℕ) (fall : ℤ) (lows : List (List ℤ)) → map rest (map (raised j fall) lows) ≡ map rest lows
+pub rest_raised : (j : ℕ) (fall : ℤ) (lows : List (List ℤ)) → map (drop 1) (map (raised j fall) lows) ≡ map (drop 1) lows
 rest_raised j fall [] = refl
 rest_raised j fall ([] ∷ lows) = ap (λ (rs : List (List ℤ)). [] ∷ rs) (rest_raised j fall lows)
 rest_raised j fall ((t ∷ ts) ∷ lows) = ap (λ (rs : List (List ℤ)). ts ∷ rs) (rest_raised j fall lows)
 
-pub rest_lowered : (v : ℕ) (z : ℤ) (lows : List (List ℤ)) → map rest (lowered_rows v z lows) ≡ map rest lows
+pub rest_lowered : (v : ℕ) (z : ℤ) (lows : List (List ℤ)) → map (drop 1) (lowered_rows v z lows) ≡ map (drop 1) lows
 rest_lowered v z [] = refl
 rest_lowered zero z ([] ∷ lows) = refl
 rest_lowered zero z ((t ∷ ts) ∷ lows) = refl
-rest_lowered (suc v) z (ts ∷ lows) = ap (λ (rs : List (List ℤ)). rest ts ∷ rs) (rest_lowered v z lows)
+rest_lowered (suc v) z (ts ∷ lows) = ap (λ (rs : List (List ℤ)). drop 1 ts ∷ rs) (rest_lowered v z lows)
 
 -- rows by their constants and what is behind them
-lows_by_is : (n : ℕ) (cs : List ℤ) (rows news : List (List ℤ)) → AllLong (suc n) news → map rest news ≡ rows →
+lows_by_is : (n : ℕ) (cs : List ℤ) (rows news : List (List ℤ)) → AllLong (suc n) news → map (drop 1) news ≡ rows →
     length rows ≤ length cs → ((v : ℕ) → v < length rows → number_at cs v ≡ number_at (slice_index_or news v []) 0) →
     lows_by cs rows ≡ news
 lows_by_is n cs rows news long rests few heads =
@@ -66,14 +61,14 @@ lows_by_is n cs rows news long rests few heads =
     (by_rest cs news long (omega (arith, few, ap length rests))
     (λ v v_in. heads v (omega (arith, v_in, ap length rests))))
   where
-    by_rest : (cs : List ℤ) (news : List (List ℤ)) → AllLong (suc n) news → length (map rest news) ≤ length cs →
-        ((v : ℕ) → v < length (map rest news) → number_at cs v ≡ number_at (slice_index_or news v []) 0) →
-        lows_by cs (map rest news) ≡ news
+    by_rest : (cs : List ℤ) (news : List (List ℤ)) → AllLong (suc n) news → length (map (drop 1) news) ≤ length cs →
+        ((v : ℕ) → v < length (map (drop 1) news) → number_at cs v ≡ number_at (slice_index_or news v []) 0) →
+        lows_by cs (map (drop 1) news) ≡ news
     by_rest cs [] long few heads = refl
     by_rest [] (ts ∷ news) long few heads = absurd (omega arith)
     by_rest (z ∷ cs) ([] ∷ news) long few heads = absurd (omega (arith, long.0))
     by_rest (z ∷ cs) ((t ∷ ts) ∷ news) long few heads =
-        ap (λ (y : ℤ). (y ∷ ts) ∷ lows_by cs (map rest news)) (heads 0 (omega arith))
+        ap (λ (y : ℤ). (y ∷ ts) ∷ lows_by cs (map (drop 1) news)) (heads 0 (omega arith))
         ∙ ap (λ (rs : List (List ℤ)). (t ∷ ts) ∷ rs) (by_rest cs news long.1 (omega arith) (λ v v_in. heads (suc v) (omega (arith, v_in))))
 
 -- A bound of a kernel moves: what is known of its numbers, and the place of its form.
@@ -85,7 +80,7 @@ pub record IsKernelMove (k : Kernel) (m : IsMoving k) (next : CostBox) (news : L
       (forms_of k.table.costs k.table.rows.items k.table.basis.items) column fall
   pub own_in : own < length k.constants.items
   pub own_is : member_at k.table own ≡ before
-  pub rests : map rest news ≡ k.lows.items
+  pub rests : map (drop 1) news ≡ k.lows.items
 
 slope_is : (k : Kernel) (m : IsMoving k) (column : Option ℕ) (f : Form) → slope m.unboxed.common k.table.costs.low m.unboxed.lows column f ≡ slope_in k column f
 slope_is k m None f = refl
@@ -180,7 +175,7 @@ lows_moved k m next news before after fall column own mv =
     let rows = k.table.rows.items in
     let width = mv.falls.width in
     let long : AllLong (suc n) news = mv.numbers.numbered.long in
-    let as_many : length news ≡ n = sym (length-map news rest) ∙ ap length mv.rests ∙ s.lows in
+    let as_many : length news ≡ n = sym (length-map news (drop 1)) ∙ ap length mv.rests ∙ s.lows in
     lows_by_is n (shifted_constants k column own fall) k.lows.items news long mv.rests (omega (arith, lows_few k s, length-shifted k column own fall))
     (λ v v_in. (
     constant_moved k m next news before after fall column own mv v (omega (arith, lows_few k s, v_in))

@@ -10,12 +10,10 @@ use Rattle.whole_numbers.specs.Lists.{number_at}
 use Rattle.whole_numbers.proofs.Sizes.{sum_size}
 use Rattle.path_rows.specs.declared.form.Term.{Term}
 use Rattle.path_rows.specs.Forms.{terms_from}
-use Rattle.path_rows.proofs.TermLaws.{total, total_more}
-use Rattle.integer_pivots.proofs.Terms.{rest_weight, term_size, terms_weight}
+use Rattle.integer_pivots.proofs.Terms.{term_size, terms_weight}
 use Rattle.integer_pivots.proofs.Sizes.{read_number}
 use Rattle.integer_pivots.proofs.Crossings.{product_small}
-use Rattle.integer_pivots.specs.Numbers.{product_sum}
-use Rattle.table_kernel.proofs.LineSums.{product_at, sum_by_terms}
+use Rattle.table_kernel.proofs.LineSums.{IsPartSum, summed_more, term_part}
 
 -- a product that 64 bits hold is read as it is
 pub read_product : (a b : ℤ) (m n : ℕ) → nat_abs a ≤ m → nat_abs b ≤ n → m < 2 ^ 63 → n < 2 ^ 63 → m * n < 2 ^ 63 →
@@ -53,42 +51,9 @@ weighed_all ts index sum cs past terms w =
     let weight : sum_by term_size ts ≡ sum_by nat_abs cs = ap (sum_by term_size) terms ∙ terms_weight 0 cs in
     omega (arith, ints, w.so_far, none, weight)
 
--- the constant with what is left of the terms is the whole one, and there is room for the rest
-pub record IsGathered (zs : List ℤ) (ts : List Term) (index : ℕ) (sum : ℤ) : Type 0 where
-  pub so_far : (sum +ℤ total (product_at zs) (drop index ts)) ≡ total (product_at zs) ts
-  pub size : nat_abs sum + sum_by term_size (drop index ts) * 2 ^ 39 ≤ 2 ^ 61
-
-pub gathered_first : (zs : List ℤ) (ts : List Term) (cs : List ℤ) → ts ≡ terms_from 0 cs → sum_by nat_abs cs ≤ 2 ^ 22 → IsGathered zs ts 0 (pos 0)
-gathered_first zs ts cs terms light =
-    let weight : sum_by term_size ts ≡ sum_by nat_abs cs = ap (sum_by term_size) terms ∙ terms_weight 0 cs in
-    record { so_far = omega (arith, ints); size = omega (arith, weight, light) }
-
-pub gathered_small : (zs : List ℤ) (ts : List Term) (index : ℕ) (d : Term) (sum : ℤ) → index < length ts →
-    IsGathered zs ts index sum → nat_abs (get_or ts index d).coefficient ≤ 2 ^ 22
-gathered_small zs ts index d sum index_in g = omega (arith, rest_weight ts index d index_in, g.size)
-
-pub gathered_more : (zs : List ℤ) (ts : List Term) (index : ℕ) (d : Term) (sum : ℤ) → index < length ts →
-    nat_abs (number_at zs (get_or ts index d).var) ≤ 2 ^ 39 → IsGathered zs ts index sum →
-    IsGathered zs ts (index + 1) (sum +ℤ ((get_or ts index d).coefficient *ℤ number_at zs (get_or ts index d).var))
-gathered_more zs ts index d sum index_in small g =
-    let t = get_or ts index d in
-    let more = total_more (product_at zs) ts index d index_in in
-    let here = product_small (nat_abs t.coefficient) (2 ^ 39) t.coefficient (number_at zs t.var) (omega arith) small in
-    let both = sum_size sum (t.coefficient *ℤ number_at zs t.var) in
-    record {
-      so_far = omega (arith, ints, more, g.so_far);
-      size = omega (arith, rest_weight ts index d index_in, g.size, here, both);
-    }
-
-pub gathered_sum : (zs : List ℤ) (ts : List Term) (index : ℕ) (sum : ℤ) → IsGathered zs ts index sum → nat_abs sum ≤ 2 ^ 61
-gathered_sum zs ts index sum g = omega (arith, g.size)
-
-pub gathered_all : (zs : List ℤ) (ts : List Term) (index : ℕ) (sum : ℤ) (cs : List ℤ) → length ts ≤ index →
-    ts ≡ terms_from 0 cs → length cs ≤ length zs → IsGathered zs ts index sum → sum ≡ product_sum cs zs
-gathered_all zs ts index sum cs past terms counted g =
-    let none : total (product_at zs) (drop index ts) ≡ pos 0 = at_drop_all (total (product_at zs)) ts index past in
-    let whole : total (product_at zs) ts ≡ product_sum cs zs = ap (total (product_at zs)) terms ∙ sum_by_terms cs zs counted in
-    omega (arith, ints, g.so_far, none, whole)
+-- the sum of a row's constants has 61 bits where each is within 39
+abbrev pub IsGathered : List ℤ → List Term → ℕ → ℤ → Type 0
+IsGathered zs ts index sum = IsPartSum (2 ^ 39) (2 ^ 61) zs ts index sum
 
 -- one more term, as code reads it
 pub gathered_read : (zs : List ℤ) (ts : List Term) (index : ℕ) (d : Term) (sum added : ℤ) → index < length ts →
@@ -99,16 +64,16 @@ pub gathered_read : (zs : List ℤ) (ts : List Term) (index : ℕ) (d : Term) (s
 gathered_read zs ts index d sum added index_in small g added_is =
     let c = (get_or ts index d).coefficient in
     let z = number_at zs (get_or ts index d).var in
-    let c_small : nat_abs c ≤ 2 ^ 22 = gathered_small zs ts index d sum index_in g in
+    let c_small : nat_abs c ≤ 2 ^ 22 = let part = term_part (2 ^ 39) (2 ^ 61) zs ts index d sum index_in g in omega (arith, part) in
     let read : added ≡ (c *ℤ z) =
     added_is
     ∙ ap (λ (x : ℤ). x *ℤ to_z w64 (of_z w64 z)) (read_number c (omega (arith, c_small)))
     ∙ ap (λ (x : ℤ). c *ℤ x) (read_number z (omega (arith, small))) in
     let size = product_small (2 ^ 22) (2 ^ 39) c z c_small small in
     let term : to_z w64 (of_z w64 added) ≡ (c *ℤ z) = ap (λ (x : ℤ). to_z w64 (of_z w64 x)) read ∙ read_number (c *ℤ z) (omega (arith, size)) in
-    let more = gathered_more zs ts index d sum index_in small g in
+    let more = summed_more (2 ^ 39) (2 ^ 61) zs ts index d sum index_in small g in
     let whole : (sum +ℤ to_z w64 (of_z w64 added)) ≡ (sum +ℤ (c *ℤ z)) = ap (λ (x : ℤ). sum +ℤ x) term in
-    let within : nat_abs (sum +ℤ (c *ℤ z)) ≤ 2 ^ 61 = gathered_sum zs ts (index + 1) (sum +ℤ (c *ℤ z)) more in (
+    let within : nat_abs (sum +ℤ (c *ℤ z)) ≤ 2 ^ 61 = omega (arith, more.size) in (
       subst (λ (x : ℤ). nat_abs x < 2 ^ 63) (sym whole) (omega (arith, within)),
       subst (IsGathered zs ts (index + 1)) (sym (ap (λ (x : ℤ). to_z w64 (of_z w64 x)) whole ∙ read_number (sum +ℤ (c *ℤ z)) (omega (arith, within)))) more,
     )

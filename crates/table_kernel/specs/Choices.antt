@@ -1,8 +1,9 @@
 -- How the columns are narrowed down of which one is chosen. No public clause cites it.
 use Rattle.std.specs.Prelude.{◌≡◌, ℕ, ◌<◌, ◌⊎◌, List, [], ℤ, nat_abs, slice_index_or}
+use Rattle.cost_base.specs.Lists.{Has}
 use Rattle.whole_numbers.specs.Lists.{number_at}
 use Rattle.fraction_table.specs.Pivots.{LeadsNoNegative, numbers_in, turned_column}
-use Rattle.integer_pivots.specs.Choices.{Has, IsPositiveAt, crosswise}
+use Rattle.integer_pivots.specs.Choices.{IsPositiveAt, crosswise}
 
 -- the first column, over the line's number there, doesn't come after the second one over its own
 abbrev pub ComesFirst : List (List ℤ) → List ℤ → ℕ → ℕ → Type 0

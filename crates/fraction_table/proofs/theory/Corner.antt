@@ -1,6 +1,7 @@
 -- What a table shows: a form that no point of the box meets, and the least corner.
-use Rattle.std.proofs.Common.{◌≡◌, ℕ, suc, ◌<◌, refl, sym, ap, List, [], ◌∷◌, map, length, inl, inr, arith}
+use Rattle.std.proofs.Common.{◌≡◌, ℕ, suc, ◌<◌, refl, sym, ap, List, [], ◌∷◌, map, length, inl, inr, arith, drop}
 use Rattle.std.specs.Prelude.{ℤ, pos, negsuc, ◌+ℤ◌, ◌-ℤ◌, ◌*ℤ◌, ◌<ℤ◌, ◌≤ℤ◌}
+use Rattle.std.specs.List.{AllByRecursion}
 use Rattle.std.proofs.lemmas.Int.{ints}
 use Rattle.std.proofs.lemmas.List.Elements.{All-tail}
 use Rattle.whole_numbers.proofs.Orders.{negative_factor, negative_product, opposite_product}
@@ -16,8 +17,7 @@ use Rattle.fraction_table.proofs.theory.Points.{mixed_at, equation_at}
 use Rattle.fraction_table.proofs.theory.Lex.{summed, scaled, weaker, scaled_follows, sum_follows}
 
 abbrev pub NotAbove : List ℤ → Type 0
-NotAbove [] = Unit {0}
-NotAbove (z ∷ zs) = (z ≤ℤ pos 0) × NotAbove zs
+NotAbove zs = AllByRecursion (λ z. z ≤ℤ pos 0) zs
 
 pub sum_low : (a b : ℤ) → a ≤ℤ pos 0 → b ≤ℤ pos 0 → (a +ℤ b) ≤ℤ pos 0
 sum_low a b first second = omega (arith, ints)
@@ -50,11 +50,7 @@ row_sum [] us = pos 0
 row_sum (t ∷ ts) [] = pos 0
 row_sum (t ∷ ts) (u ∷ us) = (pos u *ℤ t) +ℤ row_sum ts us
 
-abbrev pub rest_of : List ℤ → List ℤ
-rest_of [] = []
-rest_of (t ∷ ts) = ts
-
-rest_at : (ts : List ℤ) (k : ℕ) → number_at (rest_of ts) k ≡ number_at ts (suc k)
+rest_at : (ts : List ℤ) (k : ℕ) → number_at (drop 1 ts) k ≡ number_at ts (suc k)
 rest_at [] k = refl
 rest_at (t ∷ ts) k = refl
 
@@ -62,7 +58,7 @@ zero-row_sum : (ts : List ℤ) → row_sum ts [] ≡ pos 0
 zero-row_sum [] = refl
 zero-row_sum (t ∷ ts) = refl
 
-row_sum_step : (ts : List ℤ) (u : ℕ) (us : List ℕ) → row_sum ts (u ∷ us) ≡ ((pos u *ℤ number_at ts 0) +ℤ row_sum (rest_of ts) us)
+row_sum_step : (ts : List ℤ) (u : ℕ) (us : List ℕ) → row_sum ts (u ∷ us) ≡ ((pos u *ℤ number_at ts 0) +ℤ row_sum (drop 1 ts) us)
 row_sum_step [] u us = sym (ap (λ z. z +ℤ pos 0) (lib.IntN.*ℤ-zero (pos u)))
 row_sum_step (t ∷ ts) u us = refl
 
@@ -72,16 +68,16 @@ zeros_follow (ts ∷ rows) = rw (zero-row_sum ts) (zeros_follow rows)
 
 column_step : (rows : List (List ℤ)) (u : ℕ) (us : List ℕ) →
     map (λ ts. row_sum ts (u ∷ us)) rows ≡ summed (scaled u (map (λ ts. number_at ts 0) rows))
-    (map (λ ts. row_sum ts us) (map rest_of rows))
+    (map (λ ts. row_sum ts us) (map (drop 1) rows))
 column_step [] u us = refl
 column_step (ts ∷ rows) u us = cc (row_sum_step ts u us, column_step rows u us)
 
-pub rest_columns : (rows : List (List ℤ)) (k : ℕ) → map (λ ts. number_at ts k) (map rest_of rows) ≡ map (λ ts. number_at ts (suc k)) rows
+pub rest_columns : (rows : List (List ℤ)) (k : ℕ) → map (λ ts. number_at ts k) (map (drop 1) rows) ≡ map (λ ts. number_at ts (suc k)) rows
 rest_columns [] k = refl
 rest_columns (ts ∷ rows) k = cc (rest_at ts k, rest_columns rows k)
 
 same_lengths : (u : ℕ) (rows : List (List ℤ)) (us : List ℕ) →
-    length (scaled u (map (λ ts. number_at ts 0) rows)) ≡ length (map (λ ts. row_sum ts us) (map rest_of rows))
+    length (scaled u (map (λ ts. number_at ts 0) rows)) ≡ length (map (λ ts. row_sum ts us) (map (drop 1) rows))
 same_lengths u [] us = refl
 same_lengths u (ts ∷ rows) us = ap suc (same_lengths u rows us)
 
@@ -92,9 +88,9 @@ pub columns_follow : (rows : List (List ℤ)) (us : List ℕ) →
 columns_follow rows [] lead = zeros_follow rows
 columns_follow rows (u ∷ us) lead =
     rw (column_step rows u us)
-    (sum_follows (scaled u (map (λ ts. number_at ts 0) rows)) (map (λ ts. row_sum ts us) (map rest_of rows)) (same_lengths u rows us)
+    (sum_follows (scaled u (map (λ ts. number_at ts 0) rows)) (map (λ ts. row_sum ts us) (map (drop 1) rows)) (same_lengths u rows us)
     (scaled_follows u (map (λ ts. number_at ts 0) rows) (weaker (map (λ ts. number_at ts 0) rows) (lead 0 (omega arith))))
-    (columns_follow (map rest_of rows) us (λ k k_in. rw (rest_columns rows k) (lead (suc k) (omega arith)))))
+    (columns_follow (map (drop 1) rows) us (λ k k_in. rw (rest_columns rows k) (lead (suc k) (omega arith)))))
 
 -- the differences of two lists of numbers
 abbrev pub differences : List ℕ → List ℕ → List ℤ

@@ -1,5 +1,6 @@
 -- Fractions within a bound have natural heights in their order, so a list of them that rises has a measure.
 use Rattle.std.proofs.Common.{◌≡◌, ℕ, suc, ◌*◌, ◌^◌, ◌<◌, ◌≤◌, ap, List, [], ◌∷◌, length, inl, inr, arith}
+use Rattle.std.specs.List.{AllByRecursion}
 use native.Mathlib.Nat.{div-mul-le_self, le-div_iff_mul-le, mul-le-mul_right, le_of_mul-le-mul_right, pow-suc, pow-zero}
 use Rattle.path_rows.specs.Earnest.{LexLess}
 use Rattle.fraction_table.specs.Ranks.{height, digits_number}
@@ -18,11 +19,7 @@ height_rises top a b c d b_positive d_positive b_small d_small less =
     let iff = le-div_iff_mul-le {k = d} {x = suc h} {y = c * (top * top)} d_positive in
     iff.1 (le_of_mul-le-mul_right scaled b_positive)
 
-abbrev pub AllBelow : ℕ → List ℕ → Type 0
-AllBelow base [] = Unit {0}
-AllBelow base (x ∷ xs) = (x < base) × AllBelow base xs
-
-pub digits_number-lt : (base : ℕ) (xs : List ℕ) → AllBelow base xs → digits_number base xs < base ^ length xs
+pub digits_number-lt : (base : ℕ) (xs : List ℕ) → AllByRecursion (λ x. x < base) xs → digits_number base xs < base ^ length xs
 digits_number-lt base [] below = rw (pow-zero base) (omega arith)
 digits_number-lt base (x ∷ xs) below =
     let rest = digits_number-lt base xs below.1 in
@@ -30,7 +27,7 @@ digits_number-lt base (x ∷ xs) below =
     rw (pow-suc base (length xs)) (omega arith)
 
 -- a list that comes before another has the lesser number
-pub digits_rise : (base : ℕ) (xs ys : List ℕ) → AllBelow base xs → AllBelow base ys → length xs ≡ length ys →
+pub digits_rise : (base : ℕ) (xs ys : List ℕ) → AllByRecursion (λ x. x < base) xs → AllByRecursion (λ x. x < base) ys → length xs ≡ length ys →
     LexLess xs ys → digits_number base xs < digits_number base ys
 digits_rise base [] ys x_below y_below same less = absurd less
 digits_rise base (x ∷ xs) [] x_below y_below same less = absurd less

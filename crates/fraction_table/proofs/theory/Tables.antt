@@ -1,6 +1,6 @@
 -- A whole table: one common denominator D, and for each x - low its numbers. A form's numbers are the sums of those,
 -- each times the form's coefficient. Column 0 is then the form's value at the corner.
-use Rattle.std.proofs.Common.{◌≡◌, ℕ, suc, ◌*◌, ◌<◌, refl, ◌∙◌, ap, List, [], ◌∷◌, map, length}
+use Rattle.std.proofs.Common.{◌≡◌, ℕ, suc, ◌*◌, ◌<◌, refl, ◌∙◌, ap, List, [], ◌∷◌, map, length, drop}
 use Rattle.std.specs.Prelude.{ℤ, pos, ◌+ℤ◌, ◌-ℤ◌, ◌*ℤ◌}
 use Rattle.whole_numbers.proofs.Ring.{var, num, ◌⊕◌, ◌⊖◌, ◌⊗◌, neg, ring, ring_by, nothing, using}
 use Rattle.whole_numbers.specs.Lists.{number_at}
@@ -9,7 +9,7 @@ use Rattle.path_rows.specs.Forms.{dot, value_at}
 use Rattle.path_rows.specs.Basis.{LeadsPositive}
 use Rattle.path_rows.specs.Earnest.{LexLess}
 use Rattle.fraction_table.specs.Wholes.{from_lows, number_of}
-use Rattle.fraction_table.proofs.theory.Corner.{rest_of, row_sum, differences, less_leads, columns_follow, rest_columns}
+use Rattle.fraction_table.proofs.theory.Corner.{row_sum, differences, less_leads, columns_follow, rest_columns}
 
 -- the values of the corner, times D
 abbrev pub IsCorner : ℕ → List ℕ → List (List ℤ) → List ℕ → Type 0
@@ -43,19 +43,19 @@ corner_value D low rows xs f corner =
 abbrev pub Resolves : ℕ → ℕ → List ℕ → List ℕ → List (List ℤ) → List ℕ → Type 0
 Resolves D e us [] [] [] = Unit {0}
 Resolves D e us (l ∷ low) (ts ∷ rows) (y ∷ ys) =
-    ((pos D *ℤ (pos y -ℤ (pos l *ℤ pos e))) ≡ ((number_at ts 0 *ℤ pos e) +ℤ row_sum (rest_of ts) us)) × Resolves D e us low rows ys
+    ((pos D *ℤ (pos y -ℤ (pos l *ℤ pos e))) ≡ ((number_at ts 0 *ℤ pos e) +ℤ row_sum (drop 1 ts) us)) × Resolves D e us low rows ys
 Resolves D e us _ _ _ = ⊥
 
 from_corner : (D e : ℕ) (us low : List ℕ) (rows : List (List ℤ)) (xs ys : List ℕ) → IsCorner D low rows xs →
     Resolves D e us low rows ys → differences (map (λ y. y * D) ys) (map (λ x. x * e) xs)
-    ≡ map (λ ts. row_sum ts us) (map rest_of rows)
+    ≡ map (λ ts. row_sum ts us) (map (drop 1) rows)
 from_corner D e us [] [] [] [] corner resolves = refl
 from_corner D e us (l ∷ low) (ts ∷ rows) (x ∷ xs) (y ∷ ys) corner resolves =
     cc (from_corner D e us low rows xs ys corner.1 resolves.1, first)
   where
-    first : (pos (y * D) -ℤ pos (x * e)) ≡ row_sum (rest_of ts) us
+    first : (pos (y * D) -ℤ pos (x * e)) ≡ row_sum (drop 1 ts) us
     first =
-        ring_by (pos D ∷ pos e ∷ pos l ∷ pos x ∷ pos y ∷ number_at ts 0 ∷ row_sum (rest_of ts) us ∷ [])
+        ring_by (pos D ∷ pos e ∷ pos l ∷ pos x ∷ pos y ∷ number_at ts 0 ∷ row_sum (drop 1 ts) us ∷ [])
         ((var 4 ⊗ var 0) ⊖ (var 3 ⊗ var 1)) (var 6)
         (using (num (pos 1)) (var 0 ⊗ (var 4 ⊖ (var 2 ⊗ var 1))) ((var 5 ⊗ var 1) ⊕ var 6) resolves.0
         (using (neg (var 1)) (var 3) ((var 2 ⊗ var 0) ⊕ var 5) corner.0 nothing)) refl
@@ -73,4 +73,4 @@ pub corner_least : (D e : ℕ) (us low : List ℕ) (rows : List (List ℤ)) (xs 
 corner_least D e us low rows xs ys corner resolves lead before =
     less_leads (map (λ y. y * D) ys) (map (λ x. x * e) xs) before
     (rw (from_corner D e us low rows xs ys corner resolves)
-    (columns_follow (map rest_of rows) us (λ k k_in. rw (rest_columns rows k) (lead k k_in))))
+    (columns_follow (map (drop 1) rows) us (λ k k_in. rw (rest_columns rows k) (lead k k_in))))

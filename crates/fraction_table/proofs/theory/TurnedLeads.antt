@@ -1,6 +1,7 @@
 -- The columns of x - low lead positive after a pivot whose column was chosen as the least.
 use Rattle.std.proofs.Common.{◌≡◌, ◌≢◌, ℕ, zero, suc, ◌*◌, ◌<◌, ◌⊎◌, refl, sym, ◌∙◌, ap, subst, List, [], ◌∷◌, length, arith, inl, inr}
 use Rattle.std.specs.Prelude.{ℤ, pos, negsuc, ◌+ℤ◌, ◌-ℤ◌, ◌*ℤ◌, ◌<ℤ◌}
+use Rattle.std.specs.List.{AllByRecursion}
 use Rattle.std.proofs.Math.Nat.{suc_inj}
 use Rattle.std.proofs.lemmas.Bool.{cases_eq}
 use Rattle.std.proofs.lemmas.Int.{ints}
@@ -41,8 +42,7 @@ column_same D (ts ∷ lows) rs j long j_in =
         ∙ ring (number_at ts j ∷ pos D ∷ []) (var 0 ⊗ var 1) (var 1 ⊗ var 0) refl
 
 abbrev AllZero : List ℤ → Type 0
-AllZero [] = Unit {0}
-AllZero (z ∷ zs) = (z ≡ pos 0) × AllZero zs
+AllZero zs = AllByRecursion (λ z. z ≡ pos 0) zs
 
 leads_or_zero : (zs : List ℤ) → LeadsNoNegative zs → LeadsPositive zs ⊎ AllZero zs
 leads_or_zero [] leads = inr tt

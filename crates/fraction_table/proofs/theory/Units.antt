@@ -3,7 +3,7 @@ use Rattle.std.proofs.Common.{◌≡◌, ◌≢◌, ℕ, zero, suc, ◌+◌, ◌
 use Rattle.std.specs.Prelude.{ℤ, pos, negsuc, ◌+ℤ◌, ◌-ℤ◌, ◌*ℤ◌, ◌==◌, neg_ℤ, slice_index, slice_index_or}
 use Rattle.std.proofs.lemmas.List.{get_or-map}
 use Rattle.cost_base.specs.Lists.{numbers_from}
-use Rattle.cost_base.proofs.ListLemmas.{map-numbers_from-agree}
+use Rattle.cost_base.proofs.ListLemmas.{map-numbers_from-agree, all_from_each}
 use Rattle.whole_numbers.proofs.Ring.{var, num, ◌⊕◌, ◌⊖◌, ◌⊗◌, neg, ring}
 use Rattle.whole_numbers.specs.Lists.{number_at}
 use Rattle.path_rows.specs.declared.form.Form.{Form}
@@ -78,9 +78,7 @@ high_value low rows v bound v_in =
     ∙ ring (pos bound ∷ pos (slice_index low v) ∷ []) (var 0 ⊕ num (negsuc 0) ⊗ var 1) (var 0 ⊖ var 1) refl
 
 pub long_at : (n : ℕ) (lows : List (List ℤ)) (v : ℕ) → AllLong n lows → v < length lows → length (slice_index_or lows v []) ≡ n
-long_at n [] v long v_in = absurd (omega arith)
-long_at n (ts ∷ lows) zero long v_in = long.0
-long_at n (ts ∷ lows) (suc v) long v_in = long_at n lows v long.1 (omega arith)
+long_at n lows v long v_in = all_from_each (λ (ts : List ℤ). length ts ≡ n) lows long v [] v_in
 
 -- the numbers of x - low are those of its row
 pub low_numbers : (D : ℕ) (low : List ℕ) (lows : List (List ℤ)) (rows : List Form) (v : ℕ) → length low ≡ length lows →

@@ -6,11 +6,9 @@ use Rattle.std.proofs.lemmas.Int.{ints, to_z-of_z}
 use Rattle.path_rows.specs.declared.form.Term.{Term}
 use Rattle.path_rows.specs.declared.tree.Side.{Side}
 use Rattle.path_rows.proofs.TermLaws.{rising_from}
+use Rattle.path_rows.specs.Forms.{no_term}
 use Rattle.bound_propagation.proofs.Tightenings.{place_of, exact_of_range, none_of_range, none_before}
 use Rattle.bound_propagation.proofs.tightening.tighten_within.Goals as goal
-
-abbrev none : Term
-none = record { var = 0; coefficient = pos 0 }
 
 positive : (z : ℤ) → pos 0 ≤ℤ z → pos (nat_abs z) ≡ z
 positive (pos n) least = refl
@@ -24,36 +22,37 @@ pub returns-in-Some-clause-exact : goal.returns-in-Some-clause-exact
 returns-in-Some-clause-exact c =
     let ts = c.terms-terms.result.now in
     let k = c.loop-term.term-index in
-    let fits : SFits w64 (get_or ts k none).coefficient = search rules in
-    let place = place_of c.args.form.now c.args.costs.now ts c.as_slice-low.result.now c.as_slice-high.result.now k none
+    let fits : SFits w64 (get_or ts k no_term).coefficient = search rules in
+    let place = place_of c.args.form.now c.args.costs.now ts c.as_slice-low.result.now c.as_slice-high.result.now k no_term
     _ c.terms-terms.ensures.terms c.loop-term-test.true c.requires.low c.requires.high c.as_slice-low.ensures
-    c.as_slice-high.ensures (to_z-of_z w64 (get_or ts k none).coefficient fits) in
-    exact_of_range c.args.form.now c.args.costs.now (get_or ts k none).var c.unsigned_abs-slack.result _ _ _
+    c.as_slice-high.ensures (to_z-of_z w64 (get_or ts k no_term).coefficient fits) in
+    exact_of_range c.args.form.now c.args.costs.now (get_or ts k no_term).var c.unsigned_abs-slack.result _ _ _
     c.in-Some.bound.side c.in-Some.bound.value place
     (slack_is c.args.most c.unsigned_abs-slack.result _ c.ranges.most c.unsigned_abs-slack.ensures.value
     c.requires.unrefuted c.requires.known) c.in-Some.ensures.exact
 
 -- the terms behind are of no smaller variables
-no_smaller : (ts : List Term) (k j : ℕ) → AllPairs (λ (t u : Term). t.var < u.var) ts → k ≤ j → j < length ts → (get_or ts k none).var ≤ (get_or ts j none).var
+no_smaller : (ts : List Term) (k j : ℕ) → AllPairs (λ (t u : Term). t.var < u.var) ts → k ≤ j → j < length ts →
+    (get_or ts k no_term).var ≤ (get_or ts j no_term).var
 no_smaller ts k j rising past j_in =
     elim (cases_lt k j) [
-      | inl before ↦ let e : (get_or ts k none).var < (get_or ts j none).var = rising k j none before j_in in omega arith
-      | inr same ↦ let e : k ≡ j = omega arith in subst (λ (i : ℕ). (get_or ts k none).var ≤ (get_or ts i none).var) e (omega arith)
+      | inl before ↦ let e : (get_or ts k no_term).var < (get_or ts j no_term).var = rising k j no_term before j_in in omega arith
+      | inr same ↦ let e : k ≡ j = omega arith in subst (λ (i : ℕ). (get_or ts k no_term).var ≤ (get_or ts i no_term).var) e (omega arith)
     ]
 
 pub returns-in-Some-clause-first : goal.returns-in-Some-clause-first
 returns-in-Some-clause-first c =
     let ts = c.terms-terms.result.now in
     let k = c.loop-term.term-index in
-    let inside = c.terms-terms.ensures.known k none c.loop-term-test.true in
+    let inside = c.terms-terms.ensures.known k no_term c.loop-term-test.true in
     let rising : AllPairs (λ (t u : Term). t.var < u.var) ts =
     subst (λ (us : List Term). AllPairs (λ (t u : Term). t.var < u.var) us) (sym c.terms-terms.ensures.terms)
     (rising_from 0 c.args.form.now.coefficients) in
-    none_before c.args.form.now c.args.costs.now ts c.unsigned_abs-slack.result k (get_or ts k none).var none
+    none_before c.args.form.now c.args.costs.now ts c.unsigned_abs-slack.result k (get_or ts k no_term).var no_term
     c.terms-terms.ensures.terms c.requires.low c.requires.high
     (slack_is c.args.most c.unsigned_abs-slack.result _ c.ranges.most c.unsigned_abs-slack.ensures.value
     c.requires.unrefuted c.requires.known)
-    (let e : (get_or ts k none).var ≤ length c.args.form.now.coefficients = omega (arith, inside) in e)
+    (let e : (get_or ts k no_term).var ≤ length c.args.form.now.coefficients = omega (arith, inside) in e)
     (λ j past j_in. no_smaller ts k j rising past j_in)
     c.loop-term.invariant
 
@@ -61,12 +60,12 @@ pub loop-term-preserved : goal.loop-term-preserved
 loop-term-preserved c =
     let ts = c.terms-terms.result.now in
     let k = c.loop-term.term-index in
-    let fits : SFits w64 (get_or ts k none).coefficient = search rules in
-    let place = place_of c.args.form.now c.args.costs.now ts c.as_slice-low.result.now c.as_slice-high.result.now k none
+    let fits : SFits w64 (get_or ts k no_term).coefficient = search rules in
+    let place = place_of c.args.form.now c.args.costs.now ts c.as_slice-low.result.now c.as_slice-high.result.now k no_term
     _ c.terms-terms.ensures.terms c.loop-term-test.true c.requires.low c.requires.high c.as_slice-low.ensures
-    c.as_slice-high.ensures (to_z-of_z w64 (get_or ts k none).coefficient fits) in
+    c.as_slice-high.ensures (to_z-of_z w64 (get_or ts k no_term).coefficient fits) in
     below_more _ _ c.loop-term.invariant
-    (λ (side : Side) (value : ℕ). none_of_range c.args.form.now c.args.costs.now (get_or ts k none).var
+    (λ (side : Side) (value : ℕ). none_of_range c.args.form.now c.args.costs.now (get_or ts k no_term).var
     c.unsigned_abs-slack.result _ _ _ side value place
     (slack_is c.args.most c.unsigned_abs-slack.result _ c.ranges.most c.unsigned_abs-slack.ensures.value
     c.requires.unrefuted c.requires.known) (c.in_default.ensures.none refl))
@@ -75,7 +74,7 @@ pub returns-clause-none : goal.returns-clause-none
 returns-clause-none c is_none =
     let ts = c.terms-terms.result.now in
     let k = c.loop-term.term-index in
-    none_before c.args.form.now c.args.costs.now ts c.unsigned_abs-slack.result k (length c.args.costs.now.low) none
+    none_before c.args.form.now c.args.costs.now ts c.unsigned_abs-slack.result k (length c.args.costs.now.low) no_term
     c.terms-terms.ensures.terms c.requires.low c.requires.high
     (slack_is c.args.most c.unsigned_abs-slack.result _ c.ranges.most c.unsigned_abs-slack.ensures.value
     c.requires.unrefuted c.requires.known)

@@ -6,11 +6,9 @@ use Rattle.std.proofs.lemmas.List.{at_drop_all}
 use Rattle.std.proofs.Math.ListN.{length-set}
 use Rattle.path_rows.specs.declared.form.Term.{Term}
 use Rattle.path_rows.proofs.TermLaws.{sizes_from}
+use Rattle.path_rows.specs.Forms.{no_term}
 use Rattle.evidence_checker.proofs.SumLaws.{each_more, size_more, sum_at, sum_is_coefficient}
 use Rattle.evidence_checker.proofs.sums.add_form.Goals as goal
-
-abbrev none : Term
-none = record { var = 0; coefficient = pos 0 }
 
 pub loop-term-init : goal.loop-term-init
 loop-term-init c =
@@ -25,7 +23,7 @@ pub loop-term-preserved : goal.loop-term-preserved
 loop-term-preserved c =
     let k = c.loop-term.term-index in
     let ts = c.terms-terms.result.now in
-    let t : Term = get_or ts k none in
+    let t : Term = get_or ts k no_term in
     let x : ℤ = to_z w128 (of_z w128 c.plus_product.result) in
     let result_fits : SFits w128 c.plus_product.result = search rules in
     let sum_fits : SFits w128 (get_or c.loop-term.sums t.var (pos 0)) = search rules in
@@ -37,11 +35,11 @@ loop-term-preserved c =
     record {
       each = λ i i_in.
           let within = length-set c.loop-term.sums t.var x in
-          each_more c.loop-term.sums c.args.multiplier ts k i none x c.loop-term-test.true (omega arith) e
+          each_more c.loop-term.sums c.args.multiplier ts k i no_term x c.loop-term-test.true (omega arith) e
           ∙ c.loop-term.invariant.each i (omega arith);
       size = λ i i_in.
           let within = length-set c.loop-term.sums t.var x in
-          size_more c.loop-term.sums c.args.multiplier ts k i none x c.loop-term-test.true (omega arith) e c.loop-term.invariant.size;
+          size_more c.loop-term.sums c.args.multiplier ts k i no_term x c.loop-term-test.true (omega arith) e c.loop-term.invariant.size;
     }
 
 nothing_left : (x y m z : ℤ) → z ≡ pos 0 → (x +ℤ (m *ℤ z)) ≡ y → x ≡ y

@@ -6,9 +6,9 @@ use Rattle.std.proofs.lemmas.List.{get_or_default}
 use Rattle.std.proofs.lemmas.List.Elements.{All-nil, All-cons, All-same, All-tail}
 use borrow.Author.Count.{below_more}
 use Rattle.path_rows.specs.declared.form.Term.{Term}
-use Rattle.path_rows.specs.Forms.{terms_from, terms_of}
+use Rattle.path_rows.specs.Forms.{terms_from, terms_of, no_term}
 use Rattle.path_rows.proofs.TermLaws.{each_term}
-use Rattle.fraction_rows.proofs.TermSums.{no_term, term_in}
+use Rattle.fraction_rows.proofs.TermSums.{term_in}
 use Rattle.fraction_table.proofs.fit.are_small.Goals as goal
 
 each_coefficient : (P : ℤ → Type 0) (first : ℕ) (cs : List ℤ) → P (pos 0) → All (λ (t : Term). P t.coefficient) (terms_from first cs) → All P cs

@@ -4,9 +4,9 @@ use Rattle.std.specs.Prelude.{nat_abs}
 use Rattle.std.proofs.lemmas.List.Elements.{All-same}
 use Rattle.whole_numbers.specs.Fractions.{whole}
 use Rattle.path_rows.specs.declared.form.Term.{Term}
-use Rattle.path_rows.specs.Forms.{terms_of, value}
+use Rattle.path_rows.specs.Forms.{terms_of, value, no_term}
 use Rattle.path_rows.proofs.TermLaws.{each_term, small_read}
-use Rattle.fraction_rows.proofs.TermSums.{no_term, term_in}
+use Rattle.fraction_rows.proofs.TermSums.{term_in}
 use Rattle.fraction_table.proofs.Restarts.{form_numbers, put_all, put_first, put_next}
 use Rattle.fraction_table.proofs.Shifts.{kept_number}
 use Rattle.fraction_table.proofs.restart.put_form_line.Goals as goal

@@ -2,8 +2,9 @@
 use Rattle.std.specs.declared.alloc.Global.{Global}
 use Rattle.std.proofs.Common.{Vec, ◌^◌, ◌<◌, get_or, length, subst, sym, arith}
 use Rattle.std.specs.Prelude.{nat_abs, vec_capacity, vec_len}
+use Rattle.path_rows.specs.Forms.{no_term}
 use Rattle.integer_pivots.specs.declared.uses.Use.{Use}
-use Rattle.integer_pivots.proofs.Terms.{no_term, term_light}
+use Rattle.integer_pivots.proofs.Terms.{term_light}
 use Rattle.integer_pivots.proofs.Sizes.{read_number}
 use Rattle.integer_pivots.proofs.UsePushes.{all_pushed, next_list, none_pushed, push_next}
 use Rattle.integer_pivots.proofs.uses.push_uses.Goals as goal

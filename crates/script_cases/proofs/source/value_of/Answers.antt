@@ -1,16 +1,13 @@
-use Rattle.std.proofs.Common.{◌≡◌, ℕ, ◌+◌, ◌*◌, ◌^◌, ◌<◌, ◌≤◌, arith, get_or, length, rules, ap, sym, subst, ◌∙◌, w64, SFits, to_z, of_z, List}
+use Rattle.std.proofs.Common.{ℕ, ◌+◌, ◌*◌, ◌^◌, ◌<◌, ◌≤◌, arith, get_or, length, rules, ap, sym, subst, ◌∙◌, SFits, to_z, of_z, List}
 use Rattle.std.specs.Int.{w128}
 use Rattle.std.specs.Prelude.{ℤ, pos, nat_abs, ◌+ℤ◌, ◌*ℤ◌, ◌≤ℤ◌, negsuc}
 use Rattle.std.proofs.lemmas.Int.{ints, to_z-of_z}
 use Rattle.std.proofs.lemmas.List.{at_drop_all}
 use Rattle.std.proofs.lemmas.List.Elements.{All-same}
 use Rattle.path_rows.specs.declared.form.Term.{Term}
-use Rattle.path_rows.specs.Forms.{dot, terms_of}
-use Rattle.path_rows.proofs.TermLaws.{product_in, small_read, total, total_more, dot_by_terms}
+use Rattle.path_rows.specs.Forms.{dot, terms_of, no_term}
+use Rattle.path_rows.proofs.TermLaws.{product_in, small_read, total, total_more, whole_at_end, dot_by_terms}
 use Rattle.script_cases.proofs.source.value_of.Goals as goal
-
-abbrev none : Term
-none = record { var = 0; coefficient = pos 0 }
 
 below_four : (n : ℕ) → n ≤ 4 → n ≤ 2 ^ 26
 below_four n small = omega arith
@@ -30,13 +27,13 @@ pub loop-term-preserved : goal.loop-term-preserved
 loop-term-preserved c =
     let ts = c.terms-terms.result.now in
     let values = c.as_slice-values.result.now in
-    let t = get_or ts c.loop-term.term-index none in
+    let t = get_or ts c.loop-term.term-index no_term in
     let size : nat_abs t.coefficient ≤ 4 =
     All-same (λ (u : Term). nat_abs u.coefficient ≤ 4) ts (terms_of c.args.form.now) c.terms-terms.ensures.terms
-    c.requires.tiny.sizes c.loop-term.term-index none c.loop-term-test.true in
+    c.requires.tiny.sizes c.loop-term.term-index no_term c.loop-term-test.true in
     let read = small_read t.coefficient (below_four (nat_abs t.coefficient) size) in
     let term = c.product-sum.ensures.value ∙ ap (λ (z : ℤ). z *ℤ pos (get_or values t.var 0)) read in
-    let more = total_more (product_in values) ts c.loop-term.term-index none c.loop-term-test.true in
+    let more = total_more (product_in values) ts c.loop-term.term-index no_term c.loop-term-test.true in
     let small = c.product-sum.ensures.size in
     let fits : SFits w128 c.product-sum.result = search rules in
     let added = to_z-of_z w128 c.product-sum.result fits in
@@ -54,15 +51,12 @@ loop-term-preserved c =
       least = omega (arith, ints, whole_sum, added, small, c.loop-term.invariant.least);
     }
 
-left : (sum rest constant all : ℤ) → rest ≡ pos 0 → (sum +ℤ rest) ≡ (constant +ℤ all) → sum ≡ (constant +ℤ all)
-left sum rest constant all none whole = omega (arith, ints)
-
 pub returns : goal.returns
 returns c =
     let values = c.as_slice-values.result.now in
     let past = at_drop_all (total (product_in values)) c.terms-terms.result.now c.loop-term.term-index c.loop-term-test.false in
     let constant = c.args.form.now.constant *ℤ pos c.args.point.now.scale in
-    let sum = left _ _ constant (total (product_in values) c.terms-terms.result.now) past c.loop-term.invariant.whole in
+    let sum = whole_at_end _ _ constant (total (product_in values) c.terms-terms.result.now) past c.loop-term.invariant.whole in
     let terms = ap (total (product_in values)) c.terms-terms.ensures.terms in
     let told = dot_by_terms c.args.form.now.coefficients values (c.requires.tiny.count ∙ sym (ap length c.as_slice-values.ensures)) in
     sum ∙ ap (λ (z : ℤ). constant +ℤ z) (terms ∙ told) ∙ ap (λ (xs : List ℕ). constant +ℤ dot c.args.form.now.coefficients xs) c.as_slice-values.ensures

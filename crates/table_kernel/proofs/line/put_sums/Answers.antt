@@ -2,8 +2,9 @@
 use Rattle.std.proofs.Common.{◌≡◌, ◌^◌, ◌<◌, ◌≤◌, List, arith, get_or, length, map, sym, subst, ◌∙◌}
 use Rattle.std.specs.Prelude.{ℤ, nat_abs, All}
 use Rattle.std.proofs.lemmas.List.{length-map}
+use Rattle.path_rows.specs.Forms.{no_term}
 use Rattle.whole_numbers.specs.Lists.{number_at}
-use Rattle.integer_pivots.proofs.Terms.{no_term, term_light}
+use Rattle.integer_pivots.proofs.Terms.{term_light}
 use Rattle.integer_pivots.proofs.Sizes.{read_number}
 use Rattle.table_kernel.proofs.LineSums.{IsSummed, summed_all, summed_first, sums_step}
 use Rattle.table_kernel.proofs.line.put_sums.Goals as goal
@@ -12,7 +13,8 @@ pub loop-term-init : goal.loop-term-init
 loop-term-init c = λ column column_in.
     let zs = map (λ (row : List ℤ). number_at row column) c.args.lows.now in
     subst (IsSummed zs c.terms-term-items.result.now 0) (sym (c.clear.ensures column (omega (arith, column_in, c.clear.auto.line))))
-    (summed_first zs c.terms-term-items.result.now c.args.form.now.coefficients c.terms-term-items.ensures.terms c.requires.light)
+    (summed_first (2 ^ 22) (2 ^ 44) zs c.terms-term-items.result.now c.args.form.now.coefficients
+    c.terms-term-items.ensures.terms (omega (arith, c.requires.light)))
 
 pub put_multiple-requires-clause-factor : goal.put_multiple-requires-clause-factor
 put_multiple-requires-clause-factor c =
@@ -39,5 +41,6 @@ pub returns : goal.returns
 returns c = λ column column_in.
     let zs = map (λ (row : List ℤ). number_at row column) c.args.lows.now in
     let here : column < length c.loop-term.line = omega (arith, column_in, c.loop-term.auto.line, c.clear.auto.line) in
-    summed_all zs c.terms-term-items.result.now c.loop-term.term-index _ c.args.form.now.coefficients c.loop-term-test.false c.terms-term-items.ensures.terms
+    summed_all (2 ^ 22) (2 ^ 44) zs c.terms-term-items.result.now c.loop-term.term-index _ c.args.form.now.coefficients
+    c.loop-term-test.false c.terms-term-items.ensures.terms
     (omega (arith, c.requires.count, length-map c.args.lows.now (λ (row : List ℤ). number_at row column))) (c.loop-term.invariant column here)

@@ -2,14 +2,15 @@
 use Rattle.std.proofs.Common.{◌≡◌, ◌^◌, ◌<◌, ◌≤◌, List, arith, get_or, length, map, ◌∙◌}
 use Rattle.std.specs.Prelude.{ℤ, nat_abs}
 use Rattle.std.proofs.lemmas.List.{length-map}
+use Rattle.path_rows.specs.Forms.{no_term}
 use Rattle.whole_numbers.specs.Lists.{number_at}
-use Rattle.integer_pivots.proofs.Terms.{no_term}
 use Rattle.table_kernel.proofs.LineSums.{number_read, summed_all, summed_first, term_step}
 use Rattle.table_kernel.proofs.line.row_entry.Goals.{After-as_slice}
 use Rattle.table_kernel.proofs.line.row_entry.Goals as goal
 
 pub loop-term-init : goal.loop-term-init
-loop-term-init c = summed_first _ c.terms-term-items.result.now c.args.form.now.coefficients c.terms-term-items.ensures.terms c.requires.light
+loop-term-init c = summed_first (2 ^ 22) (2 ^ 44) _ c.terms-term-items.result.now c.args.form.now.coefficients
+    c.terms-term-items.ensures.terms (omega (arith, c.requires.light))
 
 -- the variable's number at the column
 number_here : (c : After-as_slice) →
@@ -44,5 +45,6 @@ loop-term-preserved c =
 pub returns : goal.returns
 returns c =
     let zs = map (λ (row : List ℤ). number_at row c.args.column) c.args.lows.now in
-    summed_all zs c.terms-term-items.result.now c.loop-term.term-index _ c.args.form.now.coefficients c.loop-term-test.false c.terms-term-items.ensures.terms
+    summed_all (2 ^ 22) (2 ^ 44) zs c.terms-term-items.result.now c.loop-term.term-index _ c.args.form.now.coefficients
+    c.loop-term-test.false c.terms-term-items.ensures.terms
     (omega (arith, c.requires.count, length-map c.args.lows.now (λ (row : List ℤ). number_at row c.args.column))) c.loop-term.invariant

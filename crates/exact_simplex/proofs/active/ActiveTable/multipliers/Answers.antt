@@ -1,5 +1,4 @@
 -- The kernel has as many constants as the table that it stands for has lines.
-use Rattle.exact_simplex.proofs.Actives.{kernel_many}
 use Rattle.exact_simplex.proofs.active.ActiveTable.multipliers.Goals as goal
 
 pub multipliers-requires-clause-kernel : goal.multipliers-requires-clause-kernel
