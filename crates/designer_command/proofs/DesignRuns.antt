@@ -10,7 +10,7 @@ use Rattle.command_words.specs.Jobs.{Bounds}
 use Rattle.input_files.specs.declared.problem.View.{View}
 use Rattle.input_files.specs.declared.problem.View.TheVariants.{AsRequested}
 use Rattle.input_files.specs.Inputs.{InputFiles}
-use Rattle.input_files.specs.Readings.{Says, EndsAs, Gave}
+use Rattle.input_files.specs.Readings.{Gave}
 use Rattle.input_files.specs.Outcomes.{Input, outcome}
 use Rattle.input_files.specs.Stops.{IsReady}
 use Rattle.input_files.proofs.Problems.{IsProblemOf}

@@ -1,10 +1,8 @@
 -- A pair of routers: what its files say, its printed answer read back, and a request with a bound of 0.
-use Rattle.std.proofs.Common.{◌≡◌, ℕ, refl, List, [], ◌∷◌, ◌++◌, Some, None}
+use Rattle.std.proofs.Common.{◌≡◌, ℕ, refl, List, [], ◌∷◌, ◌++◌, None}
 use Rattle.std.specs.Prelude.{codes, Ok, Err}
 use Rattle.area_graph.specs.declared.Vertex.TheVariants.{Router as RouterVertex}
 use Rattle.area_graph.specs.declared.Price.TheVariants.{Fixed, Var}
-use Rattle.lsdb_build.specs.declared.Far.TheVariants.{Router}
-use Rattle.lsdb_build.specs.Graphs.{Database}
 use Rattle.request_reader.specs.declared.Wish.TheVariants.{FreeAll, Path}
 use Rattle.request_reader.specs.Asked.{Asked}
 use Rattle.text_lines.specs.Lines.{lines}
@@ -16,6 +14,7 @@ use Rattle.cost_base.specs.Histories.{Taken}
 use Rattle.input_files.specs.Readings.{Says, Faulty, Failed, EndsAs}
 use Rattle.input_files.specs.Outcomes.{Input, outcome}
 use Rattle.designer_command.specs.ReadBack.{section, graph_back}
+use Rattle.path_requests.proofs.Examples.{pair}
 
 abbrev config : List ℕ → List ℕ
 config address = codes "interface eth0\n ip address " ++ address ++ codes "\n ip ospf area 0\n ip ospf network point-to-point\n"
@@ -48,19 +47,11 @@ request_asks = refl
 request_faultless : request_fault (request (codes "1 65535")) ≡ None
 request_faultless = refl
 
-abbrev database : Database
-database = record {
-  routers = codes "A" ∷ codes "B" ∷ [];
-  links = record { router = 0; interface = codes "eth0"; line = 1; cost = None; to = Router 1; mate = Some 1 }
-      ∷ record { router = 1; interface = codes "eth0"; line = 1; cost = None; to = Router 0; mate = Some 0 } ∷ [];
-  subnets = [];
-}
-
 abbrev input : Input
 input = record {
   asked = asked;
   files = record { name = codes "A.conf"; bytes = config (codes "10.0.0.1/30") } ∷ record { name = codes "B.conf"; bytes = config (codes "10.0.0.2/30") } ∷ [];
-  database = database;
+  database = pair;
   problem = record {
     graph = record {
       vertices = RouterVertex 0 ∷ RouterVertex 1 ∷ [];

@@ -1,6 +1,7 @@
 -- The section of a router in a printed answer holds exactly the router's lines of costs.
 use Rattle.std.proofs.Common.{◌≡◌, ℕ, ◌⊎◌, inl, inr, refl, sym, ◌∙◌, ap, List, [], ◌∷◌, ◌++◌, length, map, Bool, true, false, cond, ◌&&◌, not, Option, Some, None}
 use Rattle.std.specs.Prelude.{codes, All, ◌==◌, if◌then◌else◌}
+use Rattle.std.specs.List.{AllByRecursion}
 use Rattle.std.proofs.lemmas.List.{append_assoc}
 use Rattle.std.proofs.lemmas.List.Elements.{All-head, All-tail}
 use Rattle.std.proofs.Math.Bool.{and-true}
@@ -37,8 +38,7 @@ pairs_of router (line ∷ lines) =
 -- A router's lines stand together: none of them; only others behind them; one run.
 
 abbrev pub NoneOf : List ℕ → List CostLine → Type 0
-NoneOf router [] = Unit {0}
-NoneOf router (line ∷ lines) = (same_bytes router line.router ≡ false) × NoneOf router lines
+NoneOf router lines = AllByRecursion (λ line. same_bytes router line.router ≡ false) lines
 
 abbrev pub AfterRun : List ℕ → List CostLine → Type 0
 AfterRun router [] = Unit {0}

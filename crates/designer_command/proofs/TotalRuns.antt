@@ -1,7 +1,6 @@
 -- What `total` reports.
-use Rattle.std.proofs.Common.{◌≡◌, ℕ, ◌+◌, ◌<◌, refl, sym, ◌∙◌, ap, subst, List, inl, inr}
-use Rattle.std.specs.Prelude.{◌⊎◌, All, Option, Some}
-use Rattle.cost_base.specs.declared.Status.{Status}
+use Rattle.std.proofs.Common.{◌≡◌, ℕ, ◌<◌, refl, sym, ◌∙◌, ap, subst, List, inl, inr}
+use Rattle.std.specs.Prelude.{◌⊎◌, Option}
 use Rattle.cost_base.specs.declared.Status.TheVariants as status
 use Rattle.cost_base.specs.Histories.{Taken}
 use Rattle.lsdb_build.specs.Graphs.{IsDatabase}
@@ -11,11 +10,11 @@ use Rattle.path_rows.specs.declared.answer.Verdict.TheVariants.{Optimal, Impossi
 use Rattle.path_rows.specs.declared.form.Row.{Row}
 use Rattle.path_rows.specs.Problems.{DesignProblem}
 use Rattle.path_rows.specs.Rows.{greatest_cost}
-use Rattle.path_rows.specs.Answers.{AnswerParts, IsValid}
+use Rattle.path_rows.specs.Answers.{AnswerParts}
 use Rattle.path_rows.specs.ProblemLaws.{GivesBest}
 use Rattle.path_rows.specs.Text.{text}
 use Rattle.answer_laws.specs.Laws.{IsAnswerValue}
-use Rattle.least_bound.specs.Answered.{IsAnswered as IsLeastAnswered, ProofIsPrinted, VerdictHolds}
+use Rattle.least_bound.specs.Answered.{ProofIsPrinted, VerdictHolds}
 use Rattle.least_total.specs.declared.finding.Total.{Total}
 use Rattle.least_total.specs.declared.finding.Total.TheVariants.{Least, Unknown}
 use Rattle.least_total.specs.declared.finding.TotalProof.{TotalProof}
@@ -31,9 +30,9 @@ use Rattle.input_files.specs.Stops.{IsReady}
 use Rattle.input_files.proofs.Problems.{IsProblemOf}
 use Rattle.input_files.proofs.ReadyInputs.{IsReadyInput, ready_is}
 use Rattle.report_writer.specs.declared.report.Report.{Report}
-use Rattle.report_writer.specs.Reports.{Reports, bytes_in}
+use Rattle.report_writer.specs.Reports.{bytes_in}
 use Rattle.designer_command.specs.Designs.{IsAnswerTo, IsDesigned}
-use Rattle.designer_command.specs.TotalRuns.{IsFloorTotal, IsProvedTotal, IsTotalUndecided, IsTotalled, MayTotal, ReportsFound, ReportsFoundAs, ReportsTotal, at_cap, bound_lines, found_text, proof_lines, shown_lines, total_text}
+use Rattle.designer_command.specs.TotalRuns.{IsFloorTotal, IsProvedTotal, IsTotalUndecided, IsTotalled, MayTotal, ReportsFoundAs, ReportsTotal, at_cap, bound_lines, found_text, proof_lines, shown_lines, total_text}
 use Rattle.designer_command.proofs.DesignedLaws.{designed_costs, designed_is, impossible_is, undecided_is}
 use Rattle.report_writer.proofs.ReportLaws.{may_report}
 

@@ -25,14 +25,14 @@ use Rattle.input_files.specs.declared.problem.View.TheVariants.{AsRequested}
 use Rattle.input_files.specs.declared.stop.Stop.{Stop}
 use Rattle.input_files.specs.declared.stop.Stop.TheVariants as stops
 use Rattle.input_files.specs.Inputs.{InputFiles}
-use Rattle.input_files.specs.Readings.{Reading, End, Says, Faulty, Failed, EndsAs, Gave}
+use Rattle.input_files.specs.Readings.{End, Says, Faulty, Failed, Gave}
 use Rattle.input_files.specs.Outcomes.{Input, outcome}
 use Rattle.input_files.specs.Stops.{IsReady, IsReadAs, refusal_in}
 use Rattle.input_files.specs.Ends.{text_named, end_on}
 use Rattle.input_files.proofs.Problems.{IsProblemOf}
 use Rattle.input_files.proofs.Ends.{ends_on, no_failure}
 use Rattle.report_writer.specs.declared.report.Report.{Report}
-use Rattle.report_writer.specs.Reports.{Reports, ReportsAny, ReportsStop, bytes_in}
+use Rattle.report_writer.specs.Reports.{Reports, ReportsAny, bytes_in}
 use Rattle.report_writer.specs.Texts.{refused_line}
 use Rattle.designer_command.specs.Designs.{IsAnswerTo, IsShownImpossible, IsShownUndecided}
 use Rattle.designer_command.specs.Reported.{status_of}

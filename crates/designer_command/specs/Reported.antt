@@ -1,5 +1,4 @@
 -- What the commands report. No public clause cites it.
-use Rattle.std.specs.Prelude.{List}
 use Rattle.cost_base.specs.declared.Status.{Status}
 use Rattle.cost_base.specs.declared.Status.TheVariants as status
 use Rattle.path_rows.specs.declared.answer.Verdict.{Verdict}

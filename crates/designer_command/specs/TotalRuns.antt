@@ -12,12 +12,13 @@ use Rattle.path_rows.specs.Trees.{IsClosed}
 use Rattle.path_rows.specs.declared.answer.Verdict.{Verdict}
 use Rattle.path_rows.specs.declared.answer.Verdict.TheVariants.{Optimal, Impossible as ByNone, Budget}
 use Rattle.path_rows.specs.Answers.{AnswerParts}
-use Rattle.path_rows.specs.Text.{spaced, text, tree_lines}
+use Rattle.path_rows.specs.Text.{row_line, spaced, text, tree_lines}
 use Rattle.answer_laws.specs.Laws.{IsAnswerValue}
 use Rattle.text_lines.specs.Lines.{with_ends}
 use Rattle.evidence_text.specs.Parts.{rows_lines}
 use Rattle.least_total.specs.Totals.{HasLeastTotal, total}
-use Rattle.least_total.specs.Results.{FitText, IsAnswered, IsPrintedWithin, IsSpentOverTotal}
+use Rattle.printed_rows.specs.FittingTexts.{FitText}
+use Rattle.least_total.specs.Results.{IsAnswered, IsPrintedWithin, IsSpentOverTotal}
 use Rattle.least_total.specs.declared.finding.Total.{Total}
 use Rattle.least_total.specs.declared.finding.Total.TheVariants.{Least, Unknown}
 use Rattle.least_total.specs.declared.finding.TotalProof.{TotalProof}
@@ -121,11 +122,11 @@ found_text cap (Unknown answer sum bound rows tree) = total_text (text answer) s
 -- its rows and tree fit a text
 abbrev pub CanPrint : ℕ → TotalProof → Type 0
 CanPrint cap Floor = Unit {0}
-CanPrint cap (Tree rows tree) = FitText cap rows.items tree
+CanPrint cap (Tree rows tree) = FitText row_line cap rows.items tree
 
 abbrev pub CanReport : ℕ → Total → Type 0
 CanReport cap (Least answer sum proof) = CanPrint cap proof
-CanReport cap (Unknown answer sum bound rows tree) = FitText cap rows.items tree
+CanReport cap (Unknown answer sum bound rows tree) = FitText row_line cap rows.items tree
 
 -- the report of what was found, whose answer is a value of its type
 pub record ReportsFoundAs (cap : ℕ) (found : Total) (report : Report) : Type 0 where

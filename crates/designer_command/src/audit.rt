@@ -101,10 +101,7 @@ pub(crate) fn audit(alloc: Global, problem: &Problem) -> Result<Vec<AuditedPath>
     let mut found = Vec::new(alloc);
     for request in problem.paths.as_slice() {
         let path = audited(&problem.graph, request, &point, &mut room);
-        match found.push(path) {
-            Ok(()) => {}
-            Err(_) => return Err(OutOfMemory),
-        }
+        found.push(path)?;
     }
     Ok(found)
 }

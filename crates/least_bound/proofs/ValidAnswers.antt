@@ -24,7 +24,8 @@ use Rattle.printed_rows.proofs.AnswerLines.{CanPrintCosts, CanPrintTree, FitsFlo
 use Rattle.printed_rows.proofs.CapBoxes.{cost_bounds, floor_below_ceiling, no_low_above}
 use Rattle.printed_rows.proofs.RowLines.{rows_short}
 use Rattle.printed_rows.proofs.TreeCopies.{IsCopy, all_printed, copy_closed, copy_printable, copy_printed, copy_spent, proof_copy, search_names, unfinished_copy}
-use Rattle.printed_rows.proofs.TreeLines.{IsLine, IsPrintable}
+use Rattle.printed_rows.specs.FittingTexts.{IsLine}
+use Rattle.printed_rows.proofs.TreeLines.{IsPrintable}
 use Rattle.cost_branching.specs.Pools.{Pooled, IsPool}
 use Rattle.cost_branching.specs.Decisions.{IsTreeAt}
 use Rattle.least_bound.specs.Answered.{IsAnswered, ProofIsBelow, ProofIsPrinted, CostsAreAbove, UnfinishedAt}

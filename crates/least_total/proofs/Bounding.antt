@@ -1,20 +1,19 @@
 -- What asking the source with a bound of the total does to the pool.
-use Rattle.std.proofs.Common.{◌≡◌, ℕ, zero, suc, ◌+◌, ◌<◌, ◌≤◌, refl, sym, ◌∙◌, ap, subst, List, [], ◌∷◌, ◌++◌, length, length-append, map, take, drop, arith, append_assoc, append-nil, inl, inr}
-use Rattle.std.specs.Prelude.{ℤ, pos, ◌<ℤ◌, ◌≤ℤ◌, ◌⊎◌, All, Contains, Option, None, Some}
+use Rattle.std.proofs.Common.{◌≡◌, ℕ, zero, suc, ◌≤◌, refl, sym, ◌∙◌, ap, subst, List, [], ◌∷◌, ◌++◌, length, length-append, take, drop, arith, append_assoc, append-nil, inl, inr}
+use Rattle.std.specs.Prelude.{pos, ◌<ℤ◌, ◌≤ℤ◌, ◌⊎◌, All, Contains, Option, None, Some}
 use Rattle.std.specs.Int.Signed.{clash_ℤ}
-use Rattle.std.proofs.lemmas.List.{length-map, append_cancel_left, take_all}
-use Rattle.std.proofs.lemmas.List.Elements.{All-nil, All-cons, All-append, All-head, All-tail, All-contains, All-push, All-weaker, Contains-append_cases, Contains-append_right, Contains-push}
+use Rattle.std.proofs.lemmas.List.{length-map, append_cancel_left}
+use Rattle.std.proofs.lemmas.List.Elements.{All-nil, All-cons, All-head, All-tail, All-contains, All-push, All-weaker, Contains-append_cases, Contains-append_right, Contains-push}
 use Rattle.area_graph.specs.declared.Point.{Point}
-use Rattle.path_rows.specs.declared.form.Row.{Row}
 use Rattle.path_rows.specs.Forms.{Form, value_at, AreMet}
 use Rattle.path_rows.specs.Problems.{DesignProblem}
 use Rattle.path_rows.specs.Rows.{LeadsEach, form_of_row, forms_of_rows}
-use Rattle.form_search.specs.Sources.{Grows, HasNewRival, IsAnswered}
+use Rattle.form_search.specs.Sources.{Grows, IsAnswered}
 use Rattle.form_search.specs.declared.source.Asked.{Asked}
 use Rattle.form_search.specs.declared.source.Asked.TheVariants.{Nothing, Added}
 use Rattle.cost_branching.specs.Asking.{AreAllAsked}
 use Rattle.cost_branching.specs.Pools.{AreRows}
-use Rattle.cost_branching.specs.Rivals.{IsKept, IsTrueOf, KnownRows}
+use Rattle.cost_branching.specs.Rivals.{IsTrueOf, KnownRows}
 use Rattle.least_total.specs.Totals.{LeadsWithin, form_of_total}
 use Rattle.least_total.specs.Bounded.{AreInStep, BoundedRows, IsPlaceIn, IsTrueTotal, IsTrueWithin, forms_with_total, with_form}
 

@@ -6,6 +6,7 @@ use Rattle.path_rows.specs.declared.answer.Verdict.TheVariants.{Optimal, Impossi
 use Rattle.path_rows.specs.Problems.{DesignProblem, IsProblem}
 use Rattle.path_rows.specs.Rows.{IsBest, greatest_cost}
 use Rattle.path_rows.specs.Answers.{AnswerParts}
+use Rattle.path_rows.specs.Text.{row_line}
 use Rattle.path_rows.proofs.ProblemTrees.{le_greatest}
 use Rattle.cost_branching.specs.Rivals.{IsKept}
 use Rattle.printed_rows.proofs.CostLaws.{greatest-le}
@@ -18,7 +19,8 @@ use Rattle.least_total.specs.declared.standing.Standing.{Standing}
 use Rattle.least_total.specs.Totals.{total}
 use Rattle.least_total.specs.Printing.{IsPrintedLast}
 use Rattle.least_total.specs.Rounds.{IsFitWithin, IsKeptBelow, IsSpentWithin, IsStanding}
-use Rattle.least_total.specs.Results.{CanPrint, FitText, IsAnswered, IsRecosted, IsSpentOverTotal, ShowsLeast}
+use Rattle.printed_rows.specs.FittingTexts.{FitText}
+use Rattle.least_total.specs.Results.{CanPrint, IsAnswered, IsRecosted, IsSpentOverTotal, ShowsLeast}
 use Rattle.least_total.proofs.LeastTotals.{best_within, kept_bounds}
 use Rattle.least_total.proofs.PrintedTotals.{shown_closed, shown_is, shown_spent}
 
@@ -110,5 +112,5 @@ unknown_answered p top nodes cap old answer s sum most t printed can is holds ab
       shown.are_rows,
       subst (λ (k : ℕ). IsSpentOverTotal p top nodes k most printed.rows.items printed.tree) same
           (record { printed = shown.printed; undone = counted.0; spent = counted.1 }),
-      subst (λ (k : ℕ). FitText k printed.rows.items printed.tree) same shown.fits,
+      subst (λ (k : ℕ). FitText row_line k printed.rows.items printed.tree) same shown.fits,
     )

@@ -1,6 +1,7 @@
 -- Trees once the form of the total has been moved behind those of the rows.
-use Rattle.std.proofs.Common.{◌≡◌, ◌≢◌, ℕ, zero, suc, ◌+◌, ◌-◌, ◌^◌, ◌<◌, ◌≤◌, refl, sym, ◌∙◌, ap, subst, List, [], ◌∷◌, ◌++◌, map, length, length-append, take, drop, get_or, arith, false, inl, inr}
-use Rattle.std.specs.Prelude.{◌⊎◌, All, Contains, slice_index_or}
+use Rattle.std.proofs.Common.{◌≡◌, ℕ, zero, suc, ◌+◌, ◌-◌, ◌^◌, ◌<◌, ◌≤◌, refl, sym, ◌∙◌, ap, subst, List, [], ◌∷◌, ◌++◌, map, length, length-append, take, drop, arith, inl, inr}
+use Rattle.std.specs.Prelude.{◌⊎◌, Contains, slice_index_or}
+use Rattle.std.proofs.Math.ListN.{get_or-append}
 use Rattle.std.proofs.Math.Seq.{get_or-append_seam}
 use Rattle.std.proofs.lemmas.Bool.{cases_lt}
 use Rattle.std.proofs.lemmas.List.{length-map, map-append, get_or-map}
@@ -8,7 +9,6 @@ use Rattle.std.proofs.lemmas.List.Elements.{All-map}
 use Rattle.cost_base.proofs.ListLemmas.{none_mapped}
 use Rattle.area_graph.specs.declared.Point.{Point}
 use Rattle.path_rows.specs.declared.form.CostBox.{CostBox}
-use Rattle.path_rows.specs.declared.tree.Member.{Member}
 use Rattle.path_rows.specs.declared.tree.Entry.{Entry}
 use Rattle.path_rows.specs.declared.tree.Entry.TheVariants.{Tighten, Split, Halve, Refute, Undone}
 use Rattle.path_rows.specs.Forms.{Form, form_at, no_form}
@@ -64,11 +64,6 @@ tree_last accepts top forms place (p ∷ places) (e ∷ entries) earnest = (
 
 -- The forms, once that at the place has been moved.
 
-get_first : (fs gs : List Form) (k : ℕ) → k < length fs → form_at (fs ++ gs) k ≡ form_at fs k
-get_first [] gs k k_in = absurd (omega arith)
-get_first (f ∷ fs) gs zero k_in = refl
-get_first (f ∷ fs) gs (suc k) k_in = get_first fs gs k (omega arith)
-
 -- a form before the place, the one at it, and one behind
 get_before : (fs : List Form) (f : Form) (place row : ℕ) → place ≤ length fs → row < place → form_at (take place fs ++ f ∷ drop place fs) row ≡ form_at fs row
 get_before fs f zero row within before = absurd (omega arith)
@@ -98,8 +93,11 @@ move_kept : (fs : List Form) (f : Form) (place row : ℕ) → place ≤ length f
     × (form_at (fs ++ f ∷ []) (moved_number place (length fs) row) ≡ form_at (take place fs ++ f ∷ drop place fs) row)
 move_kept fs f place row within known = elim (cases_lt row place) [
   | inl before ↦
-      let number = number_before place (length fs) row before in
-      (omega (arith, number), ap (form_at (fs ++ f ∷ [])) number ∙ get_first fs (f ∷ []) row (omega arith) ∙ sym (get_before fs f place row within before))
+      let number = number_before place (length fs) row before in (
+        omega (arith, number),
+        ap (form_at (fs ++ f ∷ [])) number ∙ get_or-append fs (f ∷ []) no_form row (omega arith)
+            ∙ sym (get_before fs f place row within before),
+      )
   | inr from ↦ by_from (cases_lt place row) from
 ]
   where
@@ -109,7 +107,7 @@ move_kept fs f place row within known = elim (cases_lt row place) [
     at_behind r same behind =
         let number : moved_number place (length fs) row ≡ r = number_behind place (length fs) row (omega arith) ∙ omega arith in (
           omega (arith, number),
-          ap (form_at (fs ++ f ∷ [])) number ∙ get_first fs (f ∷ []) r (omega arith)
+          ap (form_at (fs ++ f ∷ [])) number ∙ get_or-append fs (f ∷ []) no_form r (omega arith)
               ∙ sym (get_behind fs f place r within behind)
               ∙ ap (form_at (take place fs ++ f ∷ drop place fs)) (sym same),
         )

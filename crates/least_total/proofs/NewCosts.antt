@@ -1,5 +1,5 @@
 -- The answer with other costs is valid again, and its text is in the grammar.
-use Rattle.std.proofs.Common.{◌≡◌, ℕ, ◌+◌, ◌≤◌, refl, sym, ◌∙◌, ap, subst, List, [], ◌∷◌, ◌++◌, map, length, arith}
+use Rattle.std.proofs.Common.{◌≡◌, ℕ, ◌≤◌, refl, sym, ◌∙◌, ap, subst, List, [], ◌∷◌, ◌++◌, map, length, arith}
 use Rattle.std.specs.Prelude.{All, Option, None, Some, codes, replicate}
 use Rattle.std.proofs.lemmas.List.Elements.{All-append}
 use Rattle.cost_base.specs.Decimal.{decimal}
@@ -24,7 +24,8 @@ use Rattle.printed_rows.specs.PrintedCosts.{ArePrintedCosts}
 use Rattle.printed_rows.proofs.AnswerLines.{costs_fit, costs_short}
 use Rattle.least_total.specs.Given.{AreGiven}
 use Rattle.least_total.specs.Rounds.{IsFitWithin}
-use Rattle.least_total.specs.Results.{IsLine, IsRecosted}
+use Rattle.printed_rows.specs.FittingTexts.{IsLine}
+use Rattle.least_total.specs.Results.{IsRecosted}
 
 -- a valid optimal answer gives best costs
 pub gives_best : (p : DesignProblem) (a : AnswerParts) (k : ℕ) → IsProblem p → IsValid p a → a.verdict ≡ Optimal k → GivesBest p k a.costs

@@ -1,9 +1,8 @@
 -- The printed tree of a round stands over the forms of the printed rows and that of the total behind them.
 use Rattle.std.proofs.Common.{◌≡◌, ℕ, zero, suc, ◌+◌, ◌<◌, ◌≤◌, refl, sym, ◌∙◌, ap, subst, List, [], ◌∷◌, ◌++◌, map, length, arith, Bool, true, false, if◌then◌else◌, inl, inr}
-use Rattle.std.specs.Prelude.{◌^◌, ◌⊎◌, All, Contains, Option, None, Some, codes, slice_index_or}
+use Rattle.std.specs.Prelude.{◌⊎◌, All, Contains, Option, None, Some, slice_index_or}
 use Rattle.std.proofs.lemmas.List.{length-map}
 use Rattle.std.proofs.lemmas.List.Elements.{All-nil, All-cons, All-append, All-head, All-map, All-tail, All-weaker}
-use Rattle.cost_base.specs.Decimal.{decimal}
 use Rattle.area_graph.specs.declared.Point.{Point}
 use Rattle.path_rows.specs.declared.form.CostBox.{CostBox}
 use Rattle.path_rows.specs.declared.form.Row.{Row}
@@ -14,23 +13,21 @@ use Rattle.path_rows.specs.Forms.{Form, form_at}
 use Rattle.path_rows.specs.Boxes.{capped}
 use Rattle.path_rows.specs.Rows.{IsRow, box_of, form_of_row, forms_of_rows}
 use Rattle.path_rows.specs.Trees.{IsClosed, Sound, SoundAt, entry_count, subboxes}
-use Rattle.path_rows.specs.Text.{row_line, spaced}
+use Rattle.path_rows.specs.Text.{row_line}
 use Rattle.path_rows.specs.Earnest.{Earnest, Place}
 use Rattle.path_rows.specs.Renumbering.{KeepsForms, renumbered}
 use Rattle.path_rows.proofs.OpenPlaces.{opens_ends, earnest_opens}
 use Rattle.path_rows.proofs.Renumbering.{forms_kept, opens_kept, renumbered_sound, renumbered_tree, same_entry, same_entries}
 use Rattle.form_search.specs.Finds.{IsSearchTree}
-use Rattle.cost_branching.specs.Rivals.{IsKept}
 use Rattle.printed_rows.specs.NamedRows.{NamesBelow, is_named}
 use Rattle.printed_rows.specs.NewNumbers.{IsPrinted, kept_from, kept_rows, new_number}
 use Rattle.printed_rows.specs.PrintedTrees.{IsPrintedOver}
-use Rattle.printed_rows.proofs.AnswerLines.{trees_short, two_words}
+use Rattle.printed_rows.proofs.AnswerLines.{fit_text}
 use Rattle.printed_rows.proofs.CapBoxes.{cost_bounds}
 use Rattle.printed_rows.proofs.NamedLaws.{entries_agree, named_weaker}
 use Rattle.printed_rows.proofs.RenumberedTrees.{count_kept, earnest_names, undone_kept}
 use Rattle.printed_rows.proofs.RowLines.{rows_short}
 use Rattle.printed_rows.proofs.TreeCopies.{IsCopy, all_printed, copy_closed, copy_names, copy_printable, copy_printed, printed_copy, search_names}
-use Rattle.printed_rows.proofs.TreeLines.{IsPrintable, row_digits}
 use Rattle.least_total.specs.declared.printing.PoolForm.{PoolForm}
 use Rattle.least_total.specs.declared.printing.PoolForm.TheVariants.{OfRow, OfTotal}
 use Rattle.least_total.specs.declared.rounds.TotalTree.{TotalTree}
@@ -38,7 +35,8 @@ use Rattle.least_total.specs.Totals.{IsFormWithin, LeadsWithin, form_of_total, f
 use Rattle.least_total.specs.Bounded.{IsPlaceIn, forms_with_total, with_form}
 use Rattle.least_total.specs.declared.printing.PrintedTotal.{PrintedTotal}
 use Rattle.least_total.specs.Printing.{IsPrintedLast, form_in, moved_from, rows_in, with_total_last}
-use Rattle.least_total.specs.Results.{CanPrint, FitText, IsLine, IsPrintedWithin}
+use Rattle.printed_rows.specs.FittingTexts.{FitText}
+use Rattle.least_total.specs.Results.{CanPrint, IsPrintedWithin}
 use Rattle.least_total.specs.Rounds.{IsTreeWithin}
 use Rattle.least_total.proofs.MovedTrees.{moved_closed, moved_count, moved_tree, moved_undone, with_count}
 
@@ -256,7 +254,7 @@ names_placed p top cap most t holds =
 pub record IsShown (p : DesignProblem) (top nodes cap most : ℕ) (rows : List Row) (tree : List Entry) : Type 0 where
   pub are_rows : All (IsRow p) rows
   pub printed : IsPrintedWithin p top nodes cap most rows tree
-  pub fits : FitText cap rows tree
+  pub fits : FitText row_line cap rows tree
 
 -- the tree and the kept forms as a copy of the search's tree
 printed_copies : (p : DesignProblem) (top cap most : ℕ) (t : TotalTree) (kept : List PoolForm) (tree : List Entry) →
@@ -274,17 +272,6 @@ rows_fewer : (forms : List PoolForm) → length (rows_in forms) ≤ length forms
 rows_fewer [] = omega arith
 rows_fewer (OfRow row ∷ forms) = let rest = rows_fewer forms in omega arith
 rows_fewer (OfTotal ∷ forms) = let rest = rows_fewer forms in omega arith
-
-fit_text : (p : DesignProblem) (cap : ℕ) (rows : List Row) (tree : List Entry) → IsKept p → length rows < 2 ^ 64 →
-    All (IsRow p) rows → IsPrintable (record { cap = cap; tree = tree }) → FitText cap rows tree
-fit_text p cap rows tree kept few are_rows printable = record {
-  rows_fit =
-      All-cons IsLine (spaced (codes "rows" ∷ decimal (length rows) ∷ [])) (map row_line rows)
-      (two_words (codes "rows") (decimal (length rows)) (omega arith) (omega (arith, row_digits (length rows) few)))
-      (All-map IsLine row_line rows (rows_short p rows kept.problem kept.graph are_rows));
-  proof_fits = trees_short (codes "proof") (Some (record { cap = cap; tree = tree })) (omega arith) printable;
-  open_fits = trees_short (codes "open") (Some (record { cap = cap; tree = tree })) (omega arith) printable;
-}
 
 pub shown_is : (p : DesignProblem) (top nodes cap most : ℕ) (t : TotalTree) (printed : PrintedTotal) →
     CanPrint p nodes cap → IsTreeWithin p top cap most t → entry_count t.tree ≤ nodes → IsPrintedLast t printed →
@@ -313,8 +300,9 @@ shown_is p top nodes cap most t printed can holds few last =
     (record {
       are_rows = are;
       printed = printed_last p top nodes cap most last.kept printed.tree (total_kept named t.rows.items last.kept copy.kept.same) names over;
-      fits = fit_text p cap (rows_in last.kept) printed.tree can.kept (let fewer = rows_fewer last.kept in let small =
-          copy.kept.few in omega arith) are printable;
+      fits = fit_text row_line cap (rows_in last.kept) printed.tree
+          (let fewer = rows_fewer last.kept in let small = copy.kept.few in omega arith)
+          (rows_short p (rows_in last.kept) can.kept.problem can.kept.graph are) printable;
     })
 
 pub shown_closed : (p : DesignProblem) (top cap most : ℕ) (t : TotalTree) (printed : PrintedTotal) →

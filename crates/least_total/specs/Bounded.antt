@@ -1,5 +1,5 @@
 -- The source of a search for costs whose total is bounded: the rivals of the wanted paths, and the form of the total.
-use Rattle.std.specs.Prelude.{◌≡◌, ℕ, ◌^◌, ◌<◌, ◌≤◌, ◌⊎◌, List, [], ◌∷◌, ◌++◌, take, drop, length, Option, None, Some}
+use Rattle.std.specs.Prelude.{◌≡◌, ℕ, ◌^◌, ◌<◌, ◌≤◌, ◌⊎◌, List, ◌∷◌, ◌++◌, take, drop, length, Option, None, Some}
 use Rattle.path_rows.specs.Forms.{Form}
 use Rattle.path_rows.specs.declared.form.Row.{Row}
 use Rattle.path_rows.specs.Problems.{DesignProblem}

@@ -1,21 +1,20 @@
 -- Laws of the source of rivals with a bound of the total: its true forms hold at accepted points, they stand in one list, and
 -- what is accepted at multiples of costs is accepted at the costs.
 use Rattle.std.proofs.Common.{◌≡◌, ℕ, zero, suc, ◌+◌, ◌*◌, ◌^◌, ◌<◌, ◌≤◌, refl, sym, ◌∙◌, subst, ap, inl, inr, List, [], ◌∷◌, map, length, fold, arith}
-use Rattle.std.specs.Prelude.{ℤ, pos, negsuc, ◌+ℤ◌, ◌-ℤ◌, ◌*ℤ◌, ◌<ℤ◌, ◌≤ℤ◌, nat_abs, All, Contains, replicate}
+use Rattle.std.specs.Prelude.{ℤ, pos, negsuc, ◌+ℤ◌, ◌*ℤ◌, ◌≤ℤ◌, nat_abs, All, Contains, replicate}
 use Rattle.std.specs.List.{sum}
 use Rattle.std.proofs.lemmas.Int.{ints}
 use Rattle.std.proofs.lemmas.List.{length-replicate}
 use Rattle.std.proofs.lemmas.List.Elements.{All-nil, All-cons, All-head, All-tail, Contains-append_right}
-use Rattle.whole_numbers.proofs.Ring.{var, num, ◌⊕◌, ◌⊖◌, ◌⊗◌, ring}
-use Rattle.area_graph.specs.declared.Point.{Point}
+use Rattle.whole_numbers.proofs.Ring.{var, num, ◌⊕◌, ◌⊗◌, ring}
 use Rattle.area_graph.specs.Costs.{at_costs}
-use Rattle.path_rows.specs.Forms.{Form, dot, value, value_at}
+use Rattle.path_rows.specs.Forms.{Form, dot, value_at}
 use Rattle.path_rows.specs.Problems.{DesignProblem}
 use Rattle.path_rows.proofs.AtCosts.{dot_scaled}
 use Rattle.form_search.specs.Sources.{IsTrueForm, scaled}
 use Rattle.cost_branching.specs.Candidates.{candidate_forms}
 use Rattle.cost_branching.specs.SourceLaws as rivals
-use Rattle.least_total.specs.Totals.{LeadsWithin, form_of_total, total_form}
+use Rattle.least_total.specs.Totals.{LeadsWithin, form_of_total}
 use Rattle.least_total.specs.Bounded.{IsTrueTotal, IsTrueWithin, candidates_within}
 
 sum_from : (start : ℕ) (xs : List ℕ) → fold ◌+◌ start xs ≡ start + fold ◌+◌ 0 xs

@@ -1,6 +1,5 @@
 -- What is answered: costs of the least total, or that the budget was used up.
-use Rattle.std.specs.Prelude.{◌≡◌, ℕ, ◌+◌, ◌<◌, ◌≤◌, List, [], ◌∷◌, map, length, codes, All, Some}
-use Rattle.cost_base.specs.Decimal.{decimal}
+use Rattle.std.specs.Prelude.{◌≡◌, ℕ, ◌+◌, ◌<◌, ◌≤◌, List, All, Some}
 use Rattle.path_rows.specs.declared.answer.Costs.{Costs}
 use Rattle.path_rows.specs.declared.answer.Verdict.TheVariants.{Optimal}
 use Rattle.path_rows.specs.declared.form.Row.{Row}
@@ -10,8 +9,9 @@ use Rattle.path_rows.specs.Boxes.{capped}
 use Rattle.path_rows.specs.Rows.{IsBest, IsRow, box_of, greatest_cost}
 use Rattle.path_rows.specs.Trees.{IsClosed}
 use Rattle.path_rows.specs.Answers.{AnswerParts, IsValid, Names}
-use Rattle.path_rows.specs.Text.{row_line, spaced, tree_lines}
+use Rattle.path_rows.specs.Text.{row_line}
 use Rattle.cost_branching.specs.Rivals.{IsKept}
+use Rattle.printed_rows.specs.FittingTexts.{FitText}
 use Rattle.printed_rows.specs.PrintedTrees.{IsPrintedOver, IsSpentOver}
 use Rattle.least_total.specs.declared.finding.TotalProof.{TotalProof}
 use Rattle.least_total.specs.declared.finding.TotalProof.TheVariants.{Floor, Tree}
@@ -43,22 +43,13 @@ abbrev pub IsSpentOverTotal : DesignProblem → ℕ → ℕ → ℕ → ℕ → 
 IsSpentOverTotal p top nodes cap most rows tree =
     IsSpentOver (LeadsWithin p most) (IsFormWithin p most) top nodes (forms_within p most rows) (capped (box_of p) cap) tree
 
--- rows and a tree that fit a text: no line of them passes 65,536 bytes
-abbrev pub IsLine : List ℕ → Type 0
-IsLine line = length line ≤ 65536
-
-pub record FitText (cap : ℕ) (rows : List Row) (tree : List Entry) : Type 0 where
-  pub rows_fit : All IsLine (spaced (codes "rows" ∷ decimal (length rows) ∷ []) ∷ map row_line rows)
-  pub proof_fits : All IsLine (tree_lines (codes "proof") (Some (record { cap = cap; tree = tree })))
-  pub open_fits : All IsLine (tree_lines (codes "open") (Some (record { cap = cap; tree = tree })))
-
 -- why no fit costs within the cap have a total below the least: that is the total of the lower bounds, or a closed tree over
 -- the box at the cap refutes the bound below it
 abbrev pub ShowsLeast : DesignProblem → ℕ → ℕ → ℕ → ℕ → TotalProof → Type 0
 ShowsLeast p top nodes cap least Floor = least ≡ total p.low
 ShowsLeast p top nodes cap least (Tree rows tree) =
     (most : ℕ) × (most + 1 ≡ least) × All (IsRow p) rows.items × IsPrintedWithin p top nodes cap most rows.items tree
-    × IsClosed tree × FitText cap rows.items tree
+    × IsClosed tree × FitText row_line cap rows.items tree
 
 -- a problem, a budget and a cap whose trees fit a text
 pub record CanPrint (p : DesignProblem) (nodes cap : ℕ) : Type 0 where
@@ -74,4 +65,4 @@ IsAnswered p top nodes old (Least answer sum proof) =
     (w : List ℕ) × IsRecosted p old answer w × (sum ≡ total w) × HasLeastTotal p w × ShowsLeast p top nodes (greatest_cost w) (total w) proof
 IsAnswered p top nodes old (Unknown answer sum bound rows tree) =
     (w : List ℕ) × IsRecosted p old answer w × (sum ≡ total w) × (total p.low ≤ bound) × (bound < total w) × All (IsRow p) rows.items
-    × IsSpentOverTotal p top nodes (greatest_cost w) bound rows.items tree × FitText (greatest_cost w) rows.items tree
+    × IsSpentOverTotal p top nodes (greatest_cost w) bound rows.items tree × FitText row_line (greatest_cost w) rows.items tree

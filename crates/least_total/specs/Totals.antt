@@ -1,5 +1,5 @@
 -- Totals of costs, the least total among the best costs, and the form that bounds a total.
-use Rattle.std.specs.Prelude.{◌≡◌, ℕ, ◌^◌, ◌<◌, ◌≤◌, ◌⊎◌, List, [], ◌∷◌, ◌++◌, pos, negsuc, ◌≤ℤ◌, length, replicate}
+use Rattle.std.specs.Prelude.{◌≡◌, ℕ, ◌≤◌, ◌⊎◌, List, [], ◌∷◌, ◌++◌, pos, negsuc, ◌≤ℤ◌, length, replicate}
 use Rattle.std.specs.List.{sum}
 use Rattle.area_graph.specs.declared.Point.{Point}
 use Rattle.path_rows.specs.Forms.{Form, value_at}

@@ -12,10 +12,12 @@ use Rattle.path_rows.specs.declared.answer.Floor.{Floor}
 use Rattle.path_rows.specs.declared.answer.Floor.TheVariants.{Absent, Empty, Var}
 use Rattle.path_rows.specs.declared.answer.CapTree.{CapTree}
 use Rattle.path_rows.specs.declared.form.Row.{Row}
+use Rattle.path_rows.specs.declared.tree.Entry.{Entry}
 use Rattle.path_rows.specs.Answers.{AnswerParts}
 use Rattle.path_rows.specs.Text.{spaced, verdict_words, router_lines, cost_lines, costs_lines, floor_word, row_line, entry_line, tree_lines, answer_lines, FitsCosts, FitsTree, IsAnswer}
+use Rattle.printed_rows.specs.FittingTexts.{FitText, IsLine}
 use Rattle.printed_rows.specs.PrintedCosts.{IsNamedCost}
-use Rattle.printed_rows.proofs.TreeLines.{IsLine, IsPrintable, spaced-le, thing_digits, cost_digits, row_digits}
+use Rattle.printed_rows.proofs.TreeLines.{IsPrintable, spaced-le, thing_digits, cost_digits, row_digits}
 
 -- the number of a verdict is a cost
 abbrev pub FitsVerdict : Verdict → Type 0
@@ -105,19 +107,28 @@ tree_fits None can = tt
 tree_fits (Some t) can = record { count = can.count; entries = can.entries }
 
 -- the lines of the rows
-pub rows_lines_short : (rows : List Row) → length rows < 2 ^ 64 → All (λ row. IsLine (row_line row)) rows →
-    All IsLine (spaced (codes "rows" ∷ decimal (length rows) ∷ []) ∷ map row_line rows)
-rows_lines_short rows few short =
-    All-cons IsLine (spaced (codes "rows" ∷ decimal (length rows) ∷ [])) (map row_line rows)
+pub rows_lines_short : {R : Type 0} (line_of : R → List ℕ) (rows : List R) → length rows < 2 ^ 64 →
+    All (λ row. IsLine (line_of row)) rows → All IsLine (spaced (codes "rows" ∷ decimal (length rows) ∷ []) ∷ map line_of rows)
+rows_lines_short line_of rows few short =
+    All-cons IsLine (spaced (codes "rows" ∷ decimal (length rows) ∷ [])) (map line_of rows)
     (two_words (codes "rows") (decimal (length rows)) (omega arith) (omega (arith, row_digits (length rows) few)))
-    (All-map IsLine row_line rows short)
+    (All-map IsLine line_of rows short)
+
+-- rows of short lines fit a text, with a tree that can be printed
+pub fit_text : {R : Type 0} (line_of : R → List ℕ) (cap : ℕ) (rows : List R) (tree : List Entry) → length rows < 2 ^ 64 →
+    All (λ row. IsLine (line_of row)) rows → IsPrintable (record { cap = cap; tree = tree }) → FitText line_of cap rows tree
+fit_text line_of cap rows tree few short printable = record {
+  rows_fit = rows_lines_short line_of rows few short;
+  proof_fits = trees_short (codes "proof") (Some (record { cap = cap; tree = tree })) (omega arith) printable;
+  open_fits = trees_short (codes "open") (Some (record { cap = cap; tree = tree })) (omega arith) printable;
+}
 
 pub rows_part : (floor : Floor) (rows : List Row) → FitsFloor floor → length rows < 2 ^ 64 → All (λ row. IsLine (row_line row)) rows →
     All IsLine (spaced (codes "floor" ∷ floor_word floor ∷ []) ∷ spaced (codes "rows" ∷ decimal (length rows) ∷ []) ∷ map row_line rows)
 rows_part floor rows fits few short =
     All-cons IsLine (spaced (codes "floor" ∷ floor_word floor ∷ []))
     (spaced (codes "rows" ∷ decimal (length rows) ∷ []) ∷ map row_line rows) (floor_short floor fits)
-    (rows_lines_short rows few short)
+    (rows_lines_short row_line rows few short)
 
 lines_short : (a : AnswerParts) → FitsVerdict a.verdict → CanPrintCosts a.costs → FitsFloor a.floor →
     length a.rows < 2 ^ 64 → All (λ row. IsLine (row_line row)) a.rows → CanPrintTree a.proof →

@@ -3,13 +3,12 @@ use Rattle.std.proofs.Common.{◌≡◌, ℕ, ◌+◌, ◌*◌, ◌^◌, ◌<◌
 use Rattle.std.specs.Prelude.{codes, All, count_by, slice_get, slice_index_or, Option, None, Some}
 use Rattle.std.proofs.lemmas.List.Elements.{All-head, All-tail}
 use Rattle.cost_base.specs.Decimal.{decimal}
-use Rattle.cost_base.specs.Lists.{NoneTwice}
+use Rattle.cost_base.specs.Lists.{Has, NoneTwice}
 use Rattle.area_graph.specs.declared.Vertex.{Vertex}
 use Rattle.area_graph.specs.declared.Vertex.TheVariants.{Router, Subnet}
 use Rattle.area_graph.specs.Area.{Area, edge_at, no_edge, vertex_at, is_router, FitsGraph, FitsEdge, FitsTarget}
 use Rattle.area_graph.specs.Paths.{Ends, IsPathOf, Joins, visited}
 use Rattle.area_graph.proofs.Bounds.{count_less}
-use Rattle.area_graph.proofs.Walks.{Member}
 use Rattle.area_graph.proofs.Deviations.{lacks_not}
 use Rattle.path_rows.specs.declared.form.Row.{Row}
 use Rattle.path_rows.specs.declared.problem.Request.{Request}
@@ -17,7 +16,9 @@ use Rattle.path_rows.specs.Problems.{DesignProblem, IsProblem, ends_of, no_reque
 use Rattle.path_rows.specs.Rows.{IsRow, IsRivalOf, IsRouteOf}
 use Rattle.path_rows.specs.Text.{row_line, spaced}
 use Rattle.path_rows.proofs.PathBounds.{path-known, request_of_route}
-use Rattle.printed_rows.proofs.TreeLines.{IsLine, room, spaced-le, thing_digits}
+use Rattle.text_lines.proofs.WordLists.{room}
+use Rattle.printed_rows.specs.FittingTexts.{IsLine}
+use Rattle.printed_rows.proofs.TreeLines.{spaced-le, thing_digits}
 
 -- one more edge may leave a subnet that the path starts at
 abbrev extra : Vertex → ℕ
@@ -62,7 +63,7 @@ step_edges g vs s e es graph same mark known from after_subnet after_router = by
 -- a path with no vertex twice has at most two edges for each router, and one more
 edges_le : (g : Area) (vs : List Vertex) (s : ℕ) (es : List ℕ) (t : ℕ) → FitsGraph g → length vs ≡ length g.vertices →
     Joins g s es t → NoneTwice (visited g s es) →
-    ((v : ℕ) → Member (visited g s es) v → get_or vs v (Router 0) ≡ vertex_at g v) →
+    ((v : ℕ) → Has (visited g s es) v → get_or vs v (Router 0) ≡ vertex_at g v) →
     length es ≤ 2 * count_by is_router vs + extra (vertex_at g s)
 edges_le g vs s [] t graph same joins once marks = omega arith
 edges_le g vs s (e ∷ es) t graph same joins once marks =
@@ -71,7 +72,7 @@ edges_le g vs s (e ∷ es) t graph same joins once marks =
     (edges_le g (set vs s (Subnet 0)) (edge_at g e).to es t graph (length-set vs s (Subnet 0) ∙ same) joins.2 once.1
     (λ v has. get_or-set_other vs s v (Subnet 0) (Router 0)
     (λ back. lacks_not (visited g (edge_at g e).to es) s once.0
-    (subst (λ (x : ℕ). Member (visited g (edge_at g e).to es) x) back has)) ∙ marks v (inr has))) in
+    (subst (λ (x : ℕ). Has (visited g (edge_at g e).to es) x) back has)) ∙ marks v (inr has))) in
     omega arith
 
 path_edges-le : (g : Area) (ends : Ends) (es : List ℕ) → FitsGraph g → IsPathOf g ends es → length es ≤ 2001

@@ -1,12 +1,15 @@
 -- The lines of a tree are short enough: each is some words, and each word some digits.
 use Rattle.std.proofs.Common.{◌≡◌, ℕ, ◌+◌, ◌*◌, ◌^◌, ◌<◌, ◌≤◌, sym, subst, List, [], ◌∷◌, ◌++◌, length, length-append, arith}
 use Rattle.std.specs.Prelude.{ℤ, pos, negsuc, nat_abs, codes, All, slice_index, slice_index_or}
+use Rattle.std.specs.List.{AllByRecursion}
 use Rattle.std.proofs.lemmas.List.Elements.{All-nil, All-cons, All-head, All-tail}
 use Rattle.cost_base.specs.Decimal.{decimal}
 use Rattle.cost_base.specs.declared.StepName.{StepName}
 use Rattle.cost_base.specs.declared.StepName.TheVariants.{Add, Sub, Mul, Div, Lcm, Scale}
 use Rattle.cost_base.specs.declared.Ratio.{Ratio}
+use Rattle.cost_base.proofs.ListLemmas.{each_append}
 use Rattle.text_lines.proofs.Digits.{length-decimal-le}
+use Rattle.text_lines.proofs.WordLists.{room}
 use Rattle.area_graph.specs.declared.Point.{Point}
 use Rattle.path_rows.specs.declared.form.Form.{Form}
 use Rattle.path_rows.specs.declared.form.CostBox.{CostBox}
@@ -24,13 +27,10 @@ use Rattle.path_rows.specs.Trees.{SoundAt, subboxes}
 use Rattle.path_rows.specs.Earnest.{Place, Earnest, EarnestAt, IsEarnestTree, subplaces}
 use Rattle.path_rows.specs.Text.{FitsEntry, IsPrinted, entry_line, integer, member_words, members_words, part_words, ratio_word, side_word, spaced, step_word}
 use Rattle.path_rows.proofs.BoxParts.{IsBoxIn, part_whole, subboxes_in}
-use Rattle.path_rows.proofs.OpenPlaces.{AllOf, all_of_more, boxes_of, same_boxes}
+use Rattle.path_rows.proofs.OpenPlaces.{boxes_of, same_boxes}
 use Rattle.form_search.specs.Finds.{IsShort}
+use Rattle.printed_rows.specs.FittingTexts.{IsLine}
 use Rattle.printed_rows.specs.NamedRows.{MemberBelow, NamesBelow}
-
--- a line that an answer may have
-abbrev pub IsLine : List ℕ → Type 0
-IsLine line = length line ≤ 65536
 
 -- a tree that can be printed
 pub record IsPrintable (t : CapTree) : Type 0 where
@@ -38,11 +38,6 @@ pub record IsPrintable (t : CapTree) : Type 0 where
   pub count : length t.tree < 2 ^ 32
   pub entries : All FitsEntry t.tree
   pub lines : All (λ entry. IsLine (entry_line entry)) t.tree
-
--- what words take, each with a space
-abbrev pub room : List (List ℕ) → ℕ
-room [] = 0
-room (word ∷ words) = length word + 1 + room words
 
 pub spaced-le : (words : List (List ℕ)) → length (spaced words) ≤ room words
 spaced-le [] = omega arith
@@ -197,7 +192,7 @@ entry_short accepts top n rows forms outer place Undone bounds some kept sound e
 
 -- the lines of the entries
 entries_short : (accepts : Point → Type 0) (top n rows : ℕ) (forms : List Form) (outer : CostBox) (places : List Place)
-    (entries : List Entry) → IsCostBounds n outer → rows < 2 ^ 64 → AllOf (IsBoxIn n outer) (boxes_of places) →
+    (entries : List Entry) → IsCostBounds n outer → rows < 2 ^ 64 → AllByRecursion (IsBoxIn n outer) (boxes_of places) →
     Earnest accepts top forms places entries → All (IsShort n) entries → All (NamesBelow rows) entries →
     All (λ entry. IsLine (entry_line entry)) entries
 entries_short accepts top n rows forms outer [] [] bounds some kept earnest short names = All-nil (λ (entry : Entry). IsLine (entry_line entry))
@@ -208,8 +203,8 @@ entries_short accepts top n rows forms outer (p ∷ places) (e ∷ entries) boun
     (entry_short accepts top n rows forms outer p e bounds some kept.0 earnest.0 earnest.1
     (All-head (IsShort n) e entries short) (All-head (NamesBelow rows) e entries names))
     (entries_short accepts top n rows forms outer (subplaces p e ++ places) entries bounds some
-    (subst (AllOf (IsBoxIn n outer)) (sym (same_boxes p e places))
-    (all_of_more (IsBoxIn n outer) (subboxes p.box e) (boxes_of places)
+    (subst (AllByRecursion (IsBoxIn n outer)) (sym (same_boxes p e places))
+    (each_append (IsBoxIn n outer) (subboxes p.box e) (boxes_of places)
     (subboxes_in n outer forms p.box e kept.0 earnest.0) kept.1))
     earnest.2 (All-tail (IsShort n) e entries short) (All-tail (NamesBelow rows) e entries names))
 

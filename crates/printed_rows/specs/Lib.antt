@@ -1,3 +1,4 @@
+pub mod FittingTexts
 pub mod NamedRows
 pub mod NewNumbers
 pub mod PrintedCosts

@@ -1,6 +1,6 @@
 -- The rows and the tree that are printed of a search over sets, and what they show.
-use Rattle.std.proofs.Common.{◌≡◌, ◌≢◌, ℕ, zero, suc, ◌^◌, ◌<◌, ◌≤◌, refl, ◌∙◌, subst, get_or, List, [], ◌∷◌, map, length, min, arith}
-use Rattle.std.specs.Prelude.{All, Contains, codes, slice_get, slice_index, Some}
+use Rattle.std.proofs.Common.{◌≡◌, ◌≢◌, ℕ, zero, suc, ◌^◌, ◌<◌, ◌≤◌, refl, ◌∙◌, subst, get_or, List, [], ◌∷◌, length, min, arith}
+use Rattle.std.specs.Prelude.{All, Contains, codes, slice_get, slice_index}
 use Rattle.std.proofs.lemmas.List.{get_or-map, length-map}
 use Rattle.std.proofs.lemmas.List.Elements.{All-contains, All-cons, All-map, All-nil}
 use Rattle.cost_base.specs.Decimal.{decimal}
@@ -15,7 +15,6 @@ use Rattle.path_rows.specs.Boxes.{IsInBox}
 use Rattle.path_rows.specs.Rows.{IsRivalOf, IsRouteOf, IsRow, box_of}
 use Rattle.path_rows.specs.Trees.{IsClosed, IsSoundTree, entry_count}
 use Rattle.path_rows.specs.Answers.{greatest_bound, whole_box}
-use Rattle.path_rows.specs.Text.{spaced}
 use Rattle.path_rows.proofs.ProblemTrees.{le_greatest}
 use Rattle.path_rows.proofs.TreeLaws.{closed_tree_none}
 use Rattle.path_rows.proofs.TreeShapes.{few_entries}
@@ -23,18 +22,19 @@ use Rattle.form_search.specs.Finds.{IsSearchTree}
 use Rattle.cost_branching.specs.Rivals.{IsKept}
 use Rattle.printed_rows.specs.NamedRows.{NamesBelow, is_named}
 use Rattle.printed_rows.specs.NewNumbers.{IsPrinted}
-use Rattle.printed_rows.proofs.AnswerLines.{trees_short, two_words}
+use Rattle.printed_rows.proofs.AnswerLines.{fit_text}
 use Rattle.printed_rows.proofs.CapBoxes.{bounds_box, cost_bounds, floor_below_ceiling}
 use Rattle.printed_rows.proofs.MetForms.{Met, meets_all}
 use Rattle.printed_rows.proofs.RowLines.{rows_short}
 use Rattle.printed_rows.proofs.TreeCopies.{IsCopy, all_printed, copy_closed, copy_printable, copy_printed, copy_spent, printed_copy, search_names}
-use Rattle.printed_rows.proofs.TreeLines.{IsPrintable, row_digits, spaced-le, thing_digits}
+use Rattle.printed_rows.proofs.TreeLines.{spaced-le, thing_digits}
 use Rattle.set_separation.specs.Outsiders.{IsOutsider}
 use Rattle.spread_sets.specs.declared.spread.SetRow.{SetRow}
 use Rattle.spread_sets.specs.declared.spread.SetRow.TheVariants.{Rival, Same}
 use Rattle.spread_sets.specs.declared.spread.Spread.TheVariants.{Fit, Impossible, Unknown}
 use Rattle.spread_sets.specs.Spreads.{IsFormOfSetRow, IsSetRow, SharesEach, edges_of, ends_in, first_of, form_of_set_row, forms_of_set_rows, paths_of}
-use Rattle.spread_sets.specs.Answers.{FitText, HasNoSpread, IsLine, IsSpentOfSets, IsTreeOfSets, set_row_line}
+use Rattle.printed_rows.specs.FittingTexts.{FitText, IsLine}
+use Rattle.spread_sets.specs.Answers.{HasNoSpread, IsSpentOfSets, IsTreeOfSets, set_row_line}
 use Rattle.spread_sets.specs.Laws.{LargeBudgetsSettle}
 use Rattle.spread_sets.specs.MemberSets.{AreMemberSets, IsMemberSet}
 use Rattle.spread_sets.specs.SourceLaws.{first_listed, member_known}
@@ -90,18 +90,6 @@ set_row_short p sets (Same name i j) kept are is =
     let third = member_known p set j set_is is.3 in
     same_short name i j (omega arith) (omega arith) (omega arith)
 
-fit_text : (p : DesignProblem) (sets : List (List ℕ)) (cap : ℕ) (rows : List SetRow) (tree : List Entry) → IsKept p →
-    AreMemberSets p sets → length rows < 2 ^ 64 → All (IsSetRow p sets) rows →
-    IsPrintable (record { cap = cap; tree = tree }) → FitText cap rows tree
-fit_text p sets cap rows tree kept are few true_rows printable = record {
-  rows_fit =
-      All-cons IsLine (spaced (codes "rows" ∷ decimal (length rows) ∷ [])) (map set_row_line rows)
-      (two_words (codes "rows") (decimal (length rows)) (omega arith) (omega (arith, row_digits (length rows) few)))
-      (All-map IsLine set_row_line rows (λ k d k_in. set_row_short p sets (get_or rows k d) kept are (true_rows k d k_in)));
-  proof_fits = trees_short (codes "proof") (Some (record { cap = cap; tree = tree })) (omega arith) printable;
-  open_fits = trees_short (codes "open") (Some (record { cap = cap; tree = tree })) (omega arith) printable;
-}
-
 -- What is printed of a search's tree.
 
 -- what a problem, its sets and a budget keep
@@ -128,11 +116,13 @@ forms_true p sets rows true_rows k d k_in = record { row = get_or rows k d; is_r
 text_fits : (p : DesignProblem) (sets : List (List ℕ)) (top nodes : ℕ) (old rows : List SetRow)
     (tree new_tree : List Entry) → CanPrintSets p sets nodes → All (IsSetRow p sets) old →
     IsSearchTree (SharesEach p sets) top (forms_of_set_rows p old) (whole_box p) tree → entry_count tree ≤ nodes →
-    IsPrinted old tree rows new_tree → FitText (greatest_bound p) rows new_tree
+    IsPrinted old tree rows new_tree → FitText set_row_line (greatest_bound p) rows new_tree
 text_fits p sets top nodes old rows tree new_tree can true_rows search few printed =
     let copy = copied p sets top old rows tree new_tree search printed in
     let bounds = cost_bounds p (greatest_bound p) can.kept.problem (floor_below_ceiling p can.kept.problem) can.small in
-    fit_text p sets (greatest_bound p) rows new_tree can.kept can.are copy.kept.few (all_printed (IsSetRow p sets) (is_named tree) old rows copy.kept true_rows)
+    let are = all_printed (IsSetRow p sets) (is_named tree) old rows copy.kept true_rows in
+    fit_text set_row_line (greatest_bound p) rows new_tree copy.kept.few
+    (λ k d k_in. set_row_short p sets (get_or rows k d) can.kept can.are (are k d k_in))
     (copy_printable (SharesEach p sets) top nodes (greatest_bound p) (form_of_set_row p) (whole_box p)
     (is_named tree) old rows tree new_tree copy bounds can.small can.budget search few)
 

@@ -1,5 +1,5 @@
 -- What the separation needs of a set, and what it tells.
-use Rattle.std.proofs.Common.{◌≡◌, ℕ, ◌+◌, ◌<◌, ◌≤◌, refl, sym, ◌∙◌, ap, subst, get_or, List, [], map, length, arith, Bool, true, false}
+use Rattle.std.proofs.Common.{◌≡◌, ℕ, ◌+◌, ◌<◌, ◌≤◌, refl, sym, ◌∙◌, ap, subst, get_or, List, [], length, arith, Bool, true, false}
 use Rattle.std.specs.Prelude.{All, Contains, MatchBool, None, replicate, slice_get}
 use Rattle.std.proofs.lemmas.List.{get_or-map, get_or_default, length-map, length-replicate}
 use Rattle.std.proofs.lemmas.List.Elements.{All-contains, All-map}
@@ -139,6 +139,12 @@ pub beaten_there : (p q : DesignProblem) (point : Point) (set members es : List 
     IsTooCheap q point members es → Shares p point set → ⊥
 beaten_there p q point set members es same_problem same_set cheap shares =
     too_cheap_not p point set es (cheap_as p q set members es es point same_problem same_set refl cheap) shares
+
+pub untied_there : (p q : DesignProblem) (point : Point) (set members : List ℕ) → q ≡ p → members ≡ set →
+    (AreTied q point members → ⊥) → Shares p point set → ⊥
+untied_there p q point set members same_problem same_set untied shares =
+    untied (subst (λ (r : DesignProblem). AreTied r point members) (sym same_problem)
+    (subst (AreTied p point) (sym same_set) shares.tied))
 
 -- the set that code has read at a place
 pub indexed : (sets : List MemberSet) (place : ℕ) (m : MemberSet) → place < length (sets_in sets) →

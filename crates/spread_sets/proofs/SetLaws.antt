@@ -1,5 +1,5 @@
 -- The sets of a problem are sets of members.
-use Rattle.std.proofs.Common.{◌≡◌, ℕ, ◌<◌, refl, get_or, List, [], ◌∷◌, map, length, arith, Bool, true, false, if◌then◌else◌}
+use Rattle.std.proofs.Common.{◌≡◌, ℕ, ◌<◌, refl, get_or, List, [], ◌∷◌, length, arith, Bool, true, false, if◌then◌else◌}
 use Rattle.std.specs.Prelude.{All, Contains}
 use Rattle.std.proofs.lemmas.List.{get_or_default}
 use Rattle.std.proofs.lemmas.List.Elements.{All-cons, All-head, All-map, All-nil, All-tail}

@@ -1,5 +1,5 @@
 -- Spread-fit costs meet the forms of all rows, and under them the cheapest paths are the members.
-use Rattle.std.proofs.Common.{◌≡◌, ◌≢◌, ℕ, suc, ◌+◌, ◌≤◌, refl, sym, subst, inl, inr, get_or, List, [], ◌∷◌, map, length, arith, Bool, true, false}
+use Rattle.std.proofs.Common.{◌≡◌, ◌≢◌, ℕ, suc, ◌+◌, ◌≤◌, refl, sym, subst, inl, inr, get_or, List, [], ◌∷◌, length, arith, Bool, true, false}
 use Rattle.std.specs.Prelude.{ℤ, pos, ◌-ℤ◌, ◌≤ℤ◌, ◌⊎◌, All, Contains}
 use Rattle.std.proofs.lemmas.Int.{ints}
 use Rattle.std.proofs.lemmas.List.Elements.{All-contains, All-cons, All-map, All-nil}

@@ -1,11 +1,12 @@
 -- What is answered of the sets of a problem.
-use Rattle.std.specs.Prelude.{◌≡◌, ℕ, ◌≤◌, List, [], ◌∷◌, map, length, codes, All, Some}
+use Rattle.std.specs.Prelude.{ℕ, List, [], ◌∷◌, codes, All}
 use Rattle.cost_base.specs.Decimal.{decimal}
 use Rattle.path_rows.specs.declared.tree.Entry.{Entry}
 use Rattle.path_rows.specs.Problems.{DesignProblem}
 use Rattle.path_rows.specs.Trees.{IsClosed}
 use Rattle.path_rows.specs.Answers.{greatest_bound, whole_box}
-use Rattle.path_rows.specs.Text.{row_line, spaced, tree_lines}
+use Rattle.path_rows.specs.Text.{row_line, spaced}
+use Rattle.printed_rows.specs.FittingTexts.{FitText}
 use Rattle.printed_rows.specs.PrintedTrees.{IsPrintedOver, IsSpentOver}
 use Rattle.spread_sets.specs.declared.spread.SetRow.{SetRow}
 use Rattle.spread_sets.specs.declared.spread.SetRow.TheVariants.{Rival, Same}
@@ -18,15 +19,6 @@ abbrev pub set_row_line : SetRow → List ℕ
 set_row_line (Rival name rival) = row_line (record { request = name; rival = rival })
 set_row_line (Same name i j) = spaced (codes "same" ∷ decimal name ∷ decimal i ∷ decimal j ∷ [])
 
--- rows and a tree that fit a text: no line of them passes 65,536 bytes
-abbrev pub IsLine : List ℕ → Type 0
-IsLine line = length line ≤ 65536
-
-pub record FitText (cap : ℕ) (rows : List SetRow) (tree : List Entry) : Type 0 where
-  pub rows_fit : All IsLine (spaced (codes "rows" ∷ decimal (length rows) ∷ []) ∷ map set_row_line rows)
-  pub proof_fits : All IsLine (tree_lines (codes "proof") (Some (record { cap = cap; tree = tree })))
-  pub open_fits : All IsLine (tree_lines (codes "open") (Some (record { cap = cap; tree = tree })))
-
 -- no costs are spread-fit
 abbrev pub HasNoSpread : DesignProblem → List (List ℕ) → Type 0
 HasNoSpread p sets = (w : List ℕ) → IsSpreadFit p sets w → ⊥
@@ -36,13 +28,13 @@ HasNoSpread p sets = (w : List ℕ) → IsSpreadFit p sets w → ⊥
 pub record IsTreeOfSets (p : DesignProblem) (sets : List (List ℕ)) (top nodes : ℕ) (rows : List SetRow) (tree : List Entry) : Type 0 where
   pub true_rows : All (IsSetRow p sets) rows
   pub printed : IsPrintedOver (SharesEach p sets) (IsFormOfSetRow p sets) top nodes (forms_of_set_rows p rows) (whole_box p) tree
-  pub fits : FitText (greatest_bound p) rows tree
+  pub fits : FitText set_row_line (greatest_bound p) rows tree
 
 -- one of spent budget: it has an Undone and exactly N entries
 pub record IsSpentOfSets (p : DesignProblem) (sets : List (List ℕ)) (top nodes : ℕ) (rows : List SetRow) (tree : List Entry) : Type 0 where
   pub true_rows : All (IsSetRow p sets) rows
   pub spent : IsSpentOver (SharesEach p sets) (IsFormOfSetRow p sets) top nodes (forms_of_set_rows p rows) (whole_box p) tree
-  pub fits : FitText (greatest_bound p) rows tree
+  pub fits : FitText set_row_line (greatest_bound p) rows tree
 
 -- what is found of sets: spread-fit costs; a closed tree, and there are none; or a tree of spent budget
 abbrev pub IsFoundOf : DesignProblem → List (List ℕ) → ℕ → ℕ → Spread → Type 0

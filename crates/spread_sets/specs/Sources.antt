@@ -1,5 +1,5 @@
 -- The source of a search for spread-fit costs: the sets of a problem, the rows that are known, and the forms that are true.
-use Rattle.std.specs.Prelude.{◌≡◌, ℕ, ◌+◌, ◌<◌, ◌≤◌, List, [], ◌∷◌, ◌++◌, map, length, drop, slice_index_or, All, Contains}
+use Rattle.std.specs.Prelude.{◌≡◌, ℕ, ◌+◌, ◌<◌, List, [], ◌∷◌, ◌++◌, map, length, drop, slice_index_or, All}
 use Rattle.area_graph.specs.declared.Point.{Point}
 use Rattle.area_graph.specs.Costs.{cost}
 use Rattle.path_rows.specs.declared.form.CostBox.{CostBox}

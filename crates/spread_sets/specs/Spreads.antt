@@ -1,5 +1,5 @@
 -- Sets of wanted paths that share traffic, costs that spread it over them, and the rows of sets.
-use Rattle.std.specs.Prelude.{◌≡◌, ℕ, ◌+◌, ◌≤ℤ◌, ◌==◌, List, [], ◌∷◌, pos, ◌-ℤ◌, map, length, slice_index_or, Bool, if◌then◌else◌, filter, All, Contains}
+use Rattle.std.specs.Prelude.{◌≡◌, ℕ, ◌+◌, ◌==◌, List, [], ◌∷◌, pos, ◌-ℤ◌, map, length, slice_index_or, Bool, if◌then◌else◌, filter, All, Contains}
 use Rattle.cost_base.specs.Lists.{numbers_from}
 use Rattle.area_graph.specs.declared.Point.{Point}
 use Rattle.area_graph.specs.Area.{Area}

@@ -13,10 +13,7 @@ use std::alloc::Global;
 fn copied(alloc: Global, terms: &[Term]) -> Result<Vec<Term>, OutOfMemory>
     ensures { IfOk result (λ copy. copy.items ≡ terms.now) }
 {
-    match terms.to_vec(alloc) {
-        Ok(copy) => Ok(copy),
-        Err(_) => Err(OutOfMemory),
-    }
+    Ok(terms.to_vec(alloc)?)
 }
 
 /// The form with 1 more.

@@ -8,7 +8,7 @@ use Rattle.path_rows.specs.declared.tree.Entry.{Entry}
 use Rattle.path_rows.specs.Problems.{DesignProblem, IsProblem, restricted}
 use Rattle.path_rows.specs.Rows.{LeadsEach, forms_of_rows}
 use Rattle.path_rows.specs.Answers.{greatest_bound, whole_box}
-use Rattle.path_rows.specs.Text.{tree_lines}
+use Rattle.path_rows.specs.Text.{tree_lines, row_line}
 use Rattle.path_rows.proofs.TreeShapes.{sound_whole}
 use Rattle.evidence_text.specs.Lines.{AreShort}
 use Rattle.evidence_text.specs.Parts.{rows_lines}
@@ -22,7 +22,7 @@ use Rattle.wish_commands.specs.SharedParts.{at_ceiling}
 
 pub rows_part_short : (p : DesignProblem) (top nodes : ℕ) (members : List ℕ) (rows : List Row) (tree : List Entry) →
     IsProblem p → FitsGraph p.graph → IsTreeOfSet p top nodes members rows tree → AreShort (rows_lines rows)
-rows_part_short p top nodes members rows tree kept graph told = rows_lines_short rows told.few (rows_short p rows kept graph told.true_rows)
+rows_part_short p top nodes members rows tree kept graph told = rows_lines_short row_line rows told.few (rows_short p rows kept graph told.true_rows)
 
 -- the tree can be printed
 printable : (p : DesignProblem) (top nodes : ℕ) (members : List ℕ) (rows : List Row) (tree : List Entry) → IsProblem p →

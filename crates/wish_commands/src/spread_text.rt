@@ -10,7 +10,8 @@ ghost use Rattle.text_lines.specs.Lines.{with_ends};
 ghost use Rattle.evidence_text.specs.Lines.{AreShort};
 ghost use Rattle.evidence_text.specs.Parts.{rows_line};
 ghost use Rattle.spread_sets.specs.declared.spread.SetRow.TheVariants.{Same};
-ghost use Rattle.spread_sets.specs.Answers.{FitText, IsSpreadFound, set_row_line};
+ghost use Rattle.printed_rows.specs.FittingTexts.{FitText};
+ghost use Rattle.spread_sets.specs.Answers.{IsSpreadFound, set_row_line};
 ghost use Rattle.wish_commands.specs.SharedParts.{at_ceiling, named_costs};
 ghost use Rattle.wish_commands.specs.Spreads.{set_rows_lines, spread_lines, spread_text};
 
@@ -148,7 +149,7 @@ fn impossible_text(
     rows: &[SetRow],
     tree: Tree,
 ) -> Result<Vec<u8>, OutOfMemory>
-    requires { FitText (greatest_bound problem.now) rows.now tree }
+    requires { FitText set_row_line (greatest_bound problem.now) rows.now tree }
     ensures { IfOk result (λ text.
         text.items ≡ with_ends (spread_lines (codes "verdict impossible") None rows.now (Some (at_ceiling problem.now tree)) None)) }
 {
@@ -163,7 +164,7 @@ fn unknown_text(
     rows: &[SetRow],
     tree: Tree,
 ) -> Result<Vec<u8>, OutOfMemory>
-    requires { FitText (greatest_bound problem.now) rows.now tree }
+    requires { FitText set_row_line (greatest_bound problem.now) rows.now tree }
     ensures { IfOk result (λ text. text.items ≡ with_ends (spread_lines (codes "verdict undecided") None rows.now None (Some (at_ceiling problem.now tree)))) }
 {
     let tree = at_ceiling(problem, tree);

@@ -2,7 +2,7 @@
 use Rattle.std.proofs.Common.{refl, subst}
 use Rattle.form_search.proofs.AdvisorLaws.{left_alike, left_then}
 use Rattle.conflict_core.specs.declared.deciding.Decided.{Decided}
-use Rattle.conflict_core.specs.declared.deciding.Decided.TheVariants.{Costs, Spent}
+use Rattle.conflict_core.specs.declared.deciding.Decided.TheVariants.{Spent}
 use Rattle.conflict_core.specs.Deciding.{IsSetDecided}
 use Rattle.conflict_core.proofs.Sets.{all_set, fit_all}
 use Rattle.conflict_core.proofs.finding.find_conflict.Goals as goal

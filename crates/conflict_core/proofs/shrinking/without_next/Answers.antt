@@ -1,5 +1,5 @@
 -- The next member's place is the number of those that were tried.
-use Rattle.std.proofs.Common.{◌≡◌, List, ℕ, length, arith}
+use Rattle.std.proofs.Common.{◌≡◌, ℕ, length, arith}
 use Rattle.std.proofs.lemmas.Result.{IfOk-weaker}
 use Rattle.std.specs.List.{remove}
 use Rattle.std.specs.Prelude.{Vec}

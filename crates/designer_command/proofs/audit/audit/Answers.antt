@@ -15,5 +15,5 @@ loop-request-preserved c =
           c.request-item.result c.loop-request.found.items c.push.new.self.items c.audited-path.result below
           c.request-item.is c.loop-request.invariant.found
           (subst (λ (p : DesignProblem). IsAudited p.graph c.request-item.result c.audited-path.result)
-          c.problem.view_is c.audited-path.ensures.found) c.in-Ok.ensures.items;
+          c.problem.view_is c.audited-path.ensures.found) c.in_ok-push.ensures.items;
     }

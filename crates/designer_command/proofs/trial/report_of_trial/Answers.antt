@@ -1,7 +1,5 @@
 -- What is reported of an answer may be written of every input with its problem.
-use Rattle.std.proofs.Common.{◌≡◌, sym, ◌∙◌, ap}
-use Rattle.path_rows.specs.declared.answer.Verdict.{Verdict}
-use Rattle.path_rows.specs.declared.answer.Verdict.TheVariants.{Optimal, Impossible, Budget}
+use Rattle.std.proofs.Common.{sym, ◌∙◌, ap}
 use Rattle.path_rows.specs.Answers.{AnswerParts, lines_in}
 use Rattle.designer_command.proofs.Trials.{best_lines, best_tried, impossible_tried, undecided_tried}
 use Rattle.designer_command.proofs.trial.report_of_trial.Goals as goal

@@ -1,7 +1,5 @@
 -- The source's rows are the problem's, and its forms are those of the tree.
-use Rattle.std.proofs.Common.{◌≡◌, refl, sym, ◌∙◌, ap, subst, List}
-use Rattle.std.specs.Prelude.{All}
-use Rattle.path_rows.specs.Forms.{Form}
+use Rattle.std.proofs.Common.{sym, ◌∙◌, ap, subst}
 use Rattle.form_search.specs.Finds.{IsFound}
 use Rattle.least_total.specs.Totals.{LeadsWithin}
 use Rattle.least_total.specs.Bounded.{BoundedRows, candidates_within}

@@ -1,5 +1,4 @@
 -- The form of the total at a point is `most` times the scale less the sum of the values.
-use Rattle.std.proofs.Common.{Bool, nat_lt}
 use Rattle.least_total.proofs.OverLaws.{over_tells}
 use Rattle.least_total.proofs.totals.is_over.Goals as goal
 

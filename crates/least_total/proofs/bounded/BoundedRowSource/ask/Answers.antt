@@ -1,14 +1,13 @@
 -- First the rows come, then the form of the total where it is negative at the point.
-use Rattle.std.proofs.Common.{◌≡◌, ℕ, List, [], ◌∷◌, ◌++◌, refl, sym, ◌∙◌, ap, subst}
-use Rattle.std.specs.Prelude.{ℤ, pos, ◌<ℤ◌, ◌≤ℤ◌, None}
+use Rattle.std.proofs.Common.{[], ◌∷◌, ◌++◌, refl, sym, ◌∙◌, ap, subst}
+use Rattle.std.specs.Prelude.{pos, ◌<ℤ◌, ◌≤ℤ◌}
 use Rattle.path_rows.specs.Problems.{DesignProblem}
-use Rattle.path_rows.specs.Forms.{Form, value_at, AreMet}
+use Rattle.path_rows.specs.Forms.{value_at}
 use Rattle.form_search.specs.Sources.{Grows, IsAnswered}
 use Rattle.form_search.specs.declared.source.Asked.TheVariants.{Added}
-use Rattle.cost_branching.specs.Asking.{AreAllAsked}
 use Rattle.cost_branching.specs.Rivals.{IsKept}
 use Rattle.least_total.specs.Totals.{LeadsWithin, form_of_total}
-use Rattle.least_total.specs.Bounded.{AreInStep, BoundedRows, IsTrueTotal, IsTrueWithin}
+use Rattle.least_total.specs.Bounded.{AreInStep, BoundedRows, IsTrueWithin}
 use Rattle.least_total.proofs.Bounding.{after_rows, answered_over, answered_within, grows_over, in_step_after, in_step_over, not_come, rows_met}
 use Rattle.least_total.proofs.bounded.BoundedRowSource.ask.Goals as goal
 

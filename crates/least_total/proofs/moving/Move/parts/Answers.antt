@@ -1,8 +1,7 @@
 -- The other parts and then the own one rise by their new numbers.
-use Rattle.std.proofs.Common.{◌≡◌, ◌∙◌, ap, subst, sym, ℕ, ◌+◌, ◌<◌, ◌≤◌, List, [], ◌++◌, map, arith, true, false, Bool}
+use Rattle.std.proofs.Common.{◌∙◌, subst, sym, ℕ, ◌<◌, List, arith}
 use Rattle.std.specs.Prelude.{All, AllPairs}
-use Rattle.least_total.specs.Moving.{moved_number, picked, put_last}
-use Rattle.least_total.proofs.MovedParts.{new_parts, pairs_are, positive_last, rising_last}
+use Rattle.least_total.proofs.MovedParts.{pairs_are, positive_last, rising_last}
 use Rattle.least_total.proofs.moving.Move.parts.Goals as goal
 
 pub from_items-requires-clause-rising : goal.from_items-requires-clause-rising

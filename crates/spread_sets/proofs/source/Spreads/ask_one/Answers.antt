@@ -1,4 +1,4 @@
-use Rattle.std.proofs.Common.{rules, ◌≡◌, ◌<◌, ◌∙◌, ℕ, [], ◌∷◌, ◌++◌, sym, subst, ap, length}
+use Rattle.std.proofs.Common.{◌≡◌, ◌<◌, ◌∙◌, ℕ, [], ◌∷◌, ◌++◌, sym, subst, ap, length}
 use Rattle.path_rows.specs.Forms.{Form}
 use Rattle.spread_sets.specs.declared.spread.SetRow.TheVariants.{Rival}
 use Rattle.spread_sets.specs.Spreads.{AreTied, first_of, form_of_set_row}
